@@ -1,0 +1,4 @@
+pub mod SortLaws
+pub mod ClauseLaws
+pub mod Bridge
+pub mod Written

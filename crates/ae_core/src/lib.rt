@@ -1,0 +1,12 @@
+//! Sorts, terms, formulas, problems and proofs of the prover, and what they mean.
+#![tactic(auto)]
+
+pub mod copies;
+pub mod formulas;
+pub mod laws;
+pub mod lists;
+pub mod problems;
+pub mod proofs;
+pub mod sorts;
+pub mod terms;
+pub mod words;
