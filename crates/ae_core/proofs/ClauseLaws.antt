@@ -1,14 +1,14 @@
 -- Literals and rows at each form of formula.
-use Rattle.std.specs.Prelude.{ℕ, zero, suc, Bool, true, false, not, cond, nat_eq, List, [], ◌∷◌, ◌≡◌, Option, Some, None}
-use mathlib.Core.Path.{refl, sym, ap, ◌∙◌}
+use Rattle.std.specs.Prelude.{ℕ, Bool, not, List, ◌≡◌, None}
+use mathlib.Core.Path.{sym, ap, ◌∙◌}
 use Rattle.ae_core.specs.declared.terms.Sort.{Sort}
 use Rattle.ae_core.specs.declared.terms.Term.{Term}
-use Rattle.ae_core.specs.declared.formulas.Formula.{Formula, Formula-F, True, False, Eq, Lt, Le, Pred, Not, And, Or, Xor, Iff, All, Ex, para-roll-Formula, roll-Formula, out-Formula}
+use Rattle.ae_core.specs.declared.formulas.Formula.{Formula, True, False, Eq, Lt, Le, Pred, Not, And, Or, Xor, Iff, All, Ex, para-roll-Formula}
 use Rattle.ae_core.specs.declared.formulas.Formula.TheOpen as layer_of
 use Rattle.ae_core.specs.declared.formulas.Formula.TheVariants.{rolls-True, rolls-False, rolls-Eq, rolls-Lt, rolls-Le, rolls-Pred, rolls-Not, rolls-And, rolls-Or, rolls-Xor, rolls-Iff, rolls-All, rolls-Ex, outs-True, outs-False, outs-Eq, outs-Lt, outs-Le, outs-Pred, outs-Not, outs-And, outs-Or, outs-Xor, outs-Iff, outs-All, outs-Ex}
 use Rattle.ae_core.specs.declared.formulas.Quant.{Quant}
 use Rattle.ae_core.specs.declared.formulas.Lit.{Lit}
-use Rattle.ae_core.specs.Clauses.{literal, literal_step, row, row_of, or_row, yes_of, no_of, is_true, is_false}
+use Rattle.ae_core.specs.Clauses.{literal, literal_step, row, row_of, or_row}
 
 pub literal_true : (sign : Bool) → literal sign True ≡ record { positive = sign; formula = True }
 unfolding literal

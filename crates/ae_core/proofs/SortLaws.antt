@@ -1,10 +1,10 @@
 -- What is put, the sort, and whether it is well sorted: at each form of sort, term and formula.
-use Rattle.std.specs.Prelude.{ℕ, zero, suc, ◌+◌, ◌<◌, take, get_or, ℤ, pos, Bool, true, false, cond, ◌&&◌, ◌||◌, List, [], ◌∷◌, ◌++◌, ◌≡◌, map, length, Option, Some, None}
+use Rattle.std.specs.Prelude.{ℕ, zero, suc, ◌+◌, ◌<◌, take, get_or, ℤ, Bool, true, cond, ◌&&◌, List, [], ◌∷◌, ◌++◌, ◌≡◌, map, length, Option, Some, None}
 use Rattle.std.specs.List.{list_all}
 use Rattle.std.proofs.lemmas.List.{length-map, take_more}
 use native.Mathlib.Omega.{arith}
 use mathlib.Core.Path.{refl, sym, ap, ◌∙◌}
-use Rattle.ae_core.specs.Sorts.{put_sort, put_sort_step, or_else, sort_ok, sort_ok_step, type_fits, is_closed_sort, sort_in, sort_step, sort_of, variable_sort, numeral_ok, when, only, all_known, head_sort, ◌>>=◌, same_known, same_numeric, predicate_ok, trigger_ok, formula_step, quant_step, formula_in, quant_in, formula_ok}
+use Rattle.ae_core.specs.Sorts.{put_sort, put_sort_step, or_else, sort_ok, sort_ok_step, type_fits, sort_in, sort_step, variable_sort, numeral_ok, when, only, all_known, head_sort, ◌>>=◌, same_known, same_numeric, predicate_ok, trigger_ok, formula_step, quant_step, formula_in, quant_in}
 use Rattle.ae_core.specs.declared.terms.Sort.{Sort, Var, Rigid, Int, Real, Bool as BoolSort, Unit as UnitSort, Named, fold-roll-Sort}
 use Rattle.ae_core.specs.declared.terms.Sort.TheOpen as sort_layer
 use Rattle.ae_core.specs.declared.terms.Sort.TheVariants.{rolls-Var, rolls-Rigid, rolls-Int as rolls-IntSort, rolls-Real as rolls-RealSort, rolls-Bool, rolls-Unit, rolls-Named}
@@ -16,7 +16,7 @@ use Rattle.ae_core.specs.declared.terms.Term.TheVariants.{rolls-Apply, rolls-Bou
 use Rattle.ae_core.specs.declared.formulas.Formula.{Formula, True, False, Eq, Lt, Le, Pred, Not, And, Or, Xor, Iff, All, Ex, fold-roll-Formula}
 use Rattle.ae_core.specs.declared.formulas.Formula.TheOpen as formula_layer
 use Rattle.ae_core.specs.declared.formulas.Formula.TheVariants.{rolls-True, rolls-False, rolls-Eq, rolls-Lt, rolls-Le, rolls-Pred, rolls-Not, rolls-And, rolls-Or, rolls-Xor, rolls-Iff, rolls-All, rolls-Ex}
-use Rattle.ae_core.specs.declared.formulas.Quant.{Quant, fold-roll-Quant, rolls-Quant'}
+use Rattle.ae_core.specs.declared.formulas.Quant.{Quant, fold-roll-Quant}
 use Rattle.ae_core.specs.declared.problems.Signature.{Signature}
 use Rattle.ae_core.specs.declared.formulas.Quant.{out-Quant, roll-out-Quant}
 

@@ -2,7 +2,7 @@
 -- Allowed so far: the ending `neq`, and the clause lines `goal`, `def` (rows 4 and 5), `block` and `rup`. No other ending or clause line is ever allowed.
 use Rattle.std.specs.Prelude.{ℕ, Bool, true, false, List, [], ◌∷◌, ◌++◌, ◌≡◌, map, reverse, slice_get, Option, Some, None}
 use Rattle.std.specs.List.{AllByRecursion, Contains, list_all}
-use Rattle.ae_core.specs.Sorts.{formula_ok, ◌>>=◌, all_known}
+use Rattle.ae_core.specs.Sorts.{formula_ok, ◌>>=◌, or_else, all_known}
 use Rattle.ae_core.specs.Lines.{equal, Stated, Given, AllAllowed, fact_ok}
 use Rattle.ae_core.specs.Clauses.{Clause, no_of, opposite, row, refutes}
 use Rattle.ae_core.specs.declared.terms.Term.{Term}
@@ -16,7 +16,7 @@ use Rattle.ae_core.specs.declared.proofs.Ending.{Ending}
 use Rattle.ae_core.specs.declared.proofs.Ending.TheVariants as ending
 use Rattle.ae_core.specs.declared.proofs.Block.{Block as BlockOf}
 use Rattle.ae_core.specs.declared.proofs.ClauseLine.{ClauseLine}
-use Rattle.ae_core.specs.declared.proofs.ClauseLine.TheVariants.{Hyp, Goal, Def, Inst, Fresh, Exh, Tri, Block, Rup}
+use Rattle.ae_core.specs.declared.proofs.ClauseLine.TheVariants.{Goal, Def, Block, Rup}
 use Rattle.ae_core.specs.declared.proofs.Proof.{Proof}
 
 -- ---- contradictory literals
@@ -58,12 +58,12 @@ conclusion p g (Rup c ks) = Some c
 conclusion p g _ = None
 
 -- each formula that the line states is closed and well sorted; the terms of a block's lines are in `fact_ok`
-abbrev pub line_ok : Signature → ClauseLine → Bool
-line_ok sig Goal = true
-line_ok sig (Def r f) = formula_ok sig f
-line_ok sig (Block b) = clause_ok sig b.deriv.hyps
-line_ok sig (Rup c ks) = clause_ok sig c
-line_ok sig _ = false
+abbrev pub line_ok : Problem → ℕ → ClauseLine → Bool
+line_ok p g Goal = or_else (goal_body p g >>= λ f. Some (formula_ok p.signature f)) false
+line_ok p g (Def r f) = formula_ok p.signature f
+line_ok p g (Block b) = clause_ok p.signature b.deriv.hyps
+line_ok p g (Rup c ks) = clause_ok p.signature c
+line_ok p g _ = false
 
 -- it states a clause
 abbrev pub HasConclusion : Problem → ℕ → ClauseLine → Type 0
@@ -87,7 +87,7 @@ Meets p g earlier (Rup c ks) = is_refuted (hinted p g earlier ks) c ≡ true
 Meets p g earlier _ = Unit {0}
 
 abbrev pub IsAllowed : Problem → ℕ → List ClauseLine → ClauseLine → Type 0
-IsAllowed p g earlier l = (line_ok p.signature l ≡ true) × HasConclusion p g l × Meets p g earlier l
+IsAllowed p g earlier l = (line_ok p g l ≡ true) × HasConclusion p g l × Meets p g earlier l
 
 -- each line is allowed after those before it
 abbrev pub AreAllowed : Problem → ℕ → List ClauseLine → List ClauseLine → Type 0

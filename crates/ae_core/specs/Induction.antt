@@ -1,11 +1,10 @@
 -- Terms as trees: a term is a variable, a numeral, a fresh constant or an application to a list of terms.
-use Rattle.std.specs.Prelude.{ℕ, ℤ, Bool, true, false, cond, ◌&&◌, List, [], ◌∷◌, ◌≡◌, map, length, refl}
+use Rattle.std.specs.Prelude.{ℕ, ℤ, Bool, List}
 use Rattle.std.specs.List.{AllByRecursion}
 use mathlib.Core.Path.{sym, ap, ◌∙◌, subst}
 use Rattle.ae_core.specs.declared.terms.Sort.{Sort}
 use Rattle.ae_core.specs.declared.terms.Head.{Head}
-use Rattle.ae_core.specs.declared.terms.Term.{Term, Bound, Num, Fresh, Apply, Apply', Row_of-Term, end_of-Term, more_of-Term, out-Term, roll-Term, roll-out-Term, items-the_row-Term, items_shown-the_row-Term-0}
-use Rattle.ae_core.specs.declared.terms.Term.TheOpen as open_term
+use Rattle.ae_core.specs.declared.terms.Term.{Term, Bound, Num, Fresh, Apply, Apply', Row_of-Term, end_of-Term, more_of-Term, roll-Term, roll-out-Term, items-the_row-Term, items_shown-the_row-Term-0}
 use Rattle.ae_core.specs.declared.terms.Term.TheVariants.{rolls-Apply, outs-Apply'}
 
 -- the induction on terms

@@ -1,6 +1,6 @@
 -- The derived lines of a block: what each states, when it is allowed after the earlier ones, and what follows from hypotheses.
 -- Allowed so far: `hyp`, `refl`, `sym` and `trans`. Each other kind of line states its fact and is never allowed.
-use Rattle.std.specs.Prelude.{ℕ, Bool, true, false, List, [], ◌∷◌, ◌++◌, ◌≡◌, ◌↔◌, slice_get, Option, Some, None}
+use Rattle.std.specs.Prelude.{ℕ, Bool, true, List, [], ◌∷◌, ◌++◌, ◌≡◌, ◌↔◌, slice_get, Some}
 use Rattle.ae_core.specs.Sorts.{sort_of, same_known, same_numeric, ◌>>=◌}
 use Rattle.ae_core.specs.declared.terms.Term.{Term}
 use Rattle.ae_core.specs.declared.formulas.Formula.{Formula, Eq}

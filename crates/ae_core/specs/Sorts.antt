@@ -1,5 +1,5 @@
 -- Well-sorted terms and formulas.
-use Rattle.std.specs.Prelude.{ℕ, zero, suc, ℤ, pos, Bool, true, false, cond, not, ◌&&◌, ◌||◌, nat_eq, nat_lt, ◌-◌, ◌+◌, ◌^◌, unsigned_abs, int_lt, List, [], ◌∷◌, ◌++◌, ◌≡◌, map, length, slice_get, reverse, drop, Option, Some, None}
+use Rattle.std.specs.Prelude.{ℕ, ℤ, pos, Bool, true, false, cond, not, ◌&&◌, ◌||◌, nat_eq, nat_lt, ◌^◌, unsigned_abs, int_lt, List, [], ◌∷◌, ◌++◌, map, length, slice_get, reverse, Option, Some, None}
 use Rattle.std.specs.List.{list_all}
 use Rattle.ae_core.specs.Decided.{decided, Sort_discrete, Sorts_discrete}
 use Rattle.ae_core.specs.declared.terms.Sort.{Sort, Sort-F, Var, Rigid, Int, Real, Bool as BoolSort, Unit as UnitSort, Named, fold-Sort}
@@ -17,7 +17,6 @@ use Rattle.ae_core.specs.declared.problems.Signature.{Signature}
 use Rattle.ae_core.specs.declared.problems.SymbolEntry.{SymbolEntry}
 use Rattle.ae_core.specs.declared.problems.TypeEntry.{TypeEntry}
 use Rattle.ae_core.specs.declared.problems.FieldEntry.{FieldEntry}
-use Rattle.ae_core.specs.declared.problems.Kind.{Kind}
 use Rattle.ae_core.specs.declared.problems.Kind.TheVariants.{Abstract, Choices, Fields}
 
 abbrev pub same_sort : Sort → Sort → Bool

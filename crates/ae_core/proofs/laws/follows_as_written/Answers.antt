@@ -1,4 +1,4 @@
-use Rattle.std.proofs.Common.{List, [], ◌≡◌, Option, None, Some}
+use Rattle.std.proofs.Common.{[], ◌≡◌, Option, None, Some}
 use Rattle.ae_core.proofs.Written.{written}
 use Rattle.ae_core.proofs.Bridge.{all_follow}
 use Rattle.ae_core.specs.Lines.{Fact}
