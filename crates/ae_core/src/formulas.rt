@@ -1,6 +1,6 @@
 //! Formulas.
-ghost use Rattle.std.specs.Prelude.{◌≡◌};
-ghost use Rattle.std.specs.Bool.{Decides};
+ghost use Rattle.std.specs.Prelude.{◌≡◌, ◌↔◌, IsTrue};
+
 
 use crate::lists::{Boxed, List};
 use crate::terms::{Sort, Term, same_sorts, same_term, same_terms};
@@ -56,7 +56,7 @@ pub type Clause = List<Lit>;
 /// Whether two formulas are the same.
 #[cycle(same_formula)]
 pub fn same_formula(left: &Formula, right: &Formula) -> bool
-    ensures { Decides result (left.now ≡ right.now) }
+    ensures { IsTrue result ↔ (left.now ≡ right.now) }
 {
     match (left, right) {
         (Formula::True, Formula::True) => true,
@@ -108,7 +108,7 @@ pub fn same_formula(left: &Formula, right: &Formula) -> bool
 /// Whether two blocks are the same.
 #[cycle(same_formula)]
 pub fn same_quant(left: &Quant, right: &Quant) -> bool
-    ensures { Decides result (left.now ≡ right.now) }
+    ensures { IsTrue result ↔ (left.now ≡ right.now) }
 {
     same_sorts(left.sorts.as_slice(), right.sorts.as_slice())
         && same_triggers(left.triggers.as_slice(), right.triggers.as_slice())
@@ -117,7 +117,7 @@ pub fn same_quant(left: &Quant, right: &Quant) -> bool
 
 /// Whether two lists of triggers are the same.
 pub fn same_triggers(left: &[List<Term>], right: &[List<Term>]) -> bool
-    ensures { Decides result (left.now ≡ right.now) }
+    ensures { IsTrue result ↔ (left.now ≡ right.now) }
 {
     if left.len() != right.len() {
         return false;
@@ -132,7 +132,7 @@ pub fn same_triggers(left: &[List<Term>], right: &[List<Term>]) -> bool
 
 /// Whether two literals are the same.
 pub fn same_lit(left: &Lit, right: &Lit) -> bool
-    ensures { Decides result (left.now ≡ right.now) }
+    ensures { IsTrue result ↔ (left.now ≡ right.now) }
 {
     left.positive == right.positive && same_formula(&left.formula, &right.formula)
 }
