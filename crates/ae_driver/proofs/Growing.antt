@@ -1,0 +1,142 @@
+-- Lines that are added to a derivation, and values that change.
+use Rattle.std.proofs.Common.{◌≡◌, ℕ, zero, suc, ◌+◌, ◌<◌, Bool, true, List, [], ◌∷◌, ◌++◌, length, Option, Some, None, refl, sym, ap, ◌∙◌, subst, arith, append_assoc, append-nil, length-append, get_or, set, map, ⊎_elim}
+use Rattle.std.specs.Prelude.{slice_get, Result, Ok, Err, IfOk}
+use Rattle.std.specs.declared.alloc.AllocError.{AllocError}
+use Rattle.ae_core.specs.declared.terms.Term.{Term}
+use Rattle.std.specs.List.{AllByRecursion}
+use Rattle.std.proofs.Math.ListN.{length-map, get_or-append}
+use Rattle.std.proofs.Math.Seq.{get_or-append_seam}
+use Rattle.std.proofs.lemmas.Bool.{cases_lt}
+use Rattle.std.proofs.lemmas.Bool.Decides.{eqb_tells}
+use Rattle.std.proofs.lemmas.List.{get_or-set_other, length-set}
+use Rattle.std.proofs.lemmas.Grind.{get_or-set_at}
+use Rattle.ae_core.specs.Clauses.{is_true, is_false}
+use Rattle.ae_core.specs.Lines.{Fact, equal, states, Stated, Allowed, AllAllowed}
+use Rattle.ae_core.proofs.Written.{all_append}
+use Rattle.ae_core.specs.declared.formulas.Lit.{Lit}
+use Rattle.ae_core.specs.declared.proofs.EqLine.{EqLine}
+use Rattle.ae_core.specs.declared.proofs.Deriv.{Deriv}
+use Rattle.ae_core.specs.declared.proofs.Ending.TheVariants.{Neq}
+use Rattle.ae_core.specs.Sorts.{◌>>=◌}
+use Rattle.ae_driver.specs.Chains.{constant, equation, assumed}
+use Rattle.ae_driver.specs.declared.form.Equation.{Equation}
+use Rattle.ae_driver.specs.declared.search.Named.{Named}
+use Rattle.ae_driver.specs.Search.{Known, At, Holds, HoldsBy, Grows, IsValue, Valued, OfConstants, IsDerivation, no_signature, any}
+
+-- ---- one more line
+every_push : {X : Type 0} (P : X → Type 0) (xs : List X) (x : X) → AllByRecursion P xs → P x → AllByRecursion P (xs ++ x ∷ [])
+every_push P [] x a p = (p, tt)
+every_push P (y ∷ ys) x a p = (a.0, every_push P ys x a.1 p)
+
+pub push : (n : ℕ) (hyps : List Lit) (lines : List EqLine) (l : EqLine) → IsDerivation n hyps lines → OfConstants n l → Allowed no_signature hyps lines l → IsDerivation n hyps (lines ++ l ∷ [])
+push n hyps lines l d c a = record {
+  of_constants = every_push (OfConstants n) lines l d.of_constants c;
+  allowed = all_append no_signature any hyps [] lines (l ∷ []) d.allowed ((refl, a), tt);
+}
+
+pub get_seam : {X : Type 0} (pre : List X) (c : X) (post : List X) (k : ℕ) → k ≡ length pre → slice_get (pre ++ c ∷ post) k ≡ Some c
+get_seam [] c post zero e = refl
+get_seam [] c post (suc k) e = absurd (omega arith)
+get_seam (x ∷ pre) c post zero e = absurd (omega arith)
+get_seam (x ∷ pre) c post (suc k) e = get_seam pre c post k (omega arith)
+
+none_some : {Y : Type 0} {y : Y} → ◌≡◌ {A = Option Y} None (Some y) → ⊥
+none_some e = cc
+
+pub get_append : {X : Type 0} (xs ys : List X) (k : ℕ) (x : X) → slice_get xs k ≡ Some x → slice_get (xs ++ ys) k ≡ Some x
+get_append [] ys k x e = absurd (none_some e)
+get_append (z ∷ zs) ys zero x e = e
+get_append (z ∷ zs) ys (suc k) x e = get_append zs ys k x e
+
+stated_more : (lines more : List EqLine) (k : ℕ) (f : Fact) → Stated lines k f → Stated (lines ++ more) k f
+stated_more [] more k f h = absurd (none_some h)
+stated_more (l ∷ ls) more zero f h = h
+stated_more (l ∷ ls) more (suc k) f h = stated_more ls more k f h
+
+pub stated_last : (lines : List EqLine) (l : EqLine) (k : ℕ) (f : Fact) → k ≡ length lines → states l ≡ f → Stated (lines ++ l ∷ []) k f
+stated_last lines l k f e s = ap (λ o. o >>= λ m. Some (states m)) (get_seam lines l [] k e) ∙ ap Some s
+
+-- ---- what holds of a derivation holds when it has more lines
+pub grows_same : (a : Known) → Grows a a
+grows_same a = record { count = refl; hyps = refl; more = []; lines = sym (append-nil a.lines) }
+
+pub grows_then : (a b c : Known) → Grows a b → Grows b c → Grows a c
+grows_then a b c h k = record {
+  count = k.count ∙ h.count;
+  hyps = k.hyps ∙ h.hyps;
+  more = h.more ++ k.more;
+  lines = k.lines ∙ ap (λ ls. ls ++ k.more) h.lines ∙ append_assoc a.lines h.more k.more;
+}
+
+pub at_grows : (a b : Known) (k left right : ℕ) → Grows a b → At a k left right → At b k left right
+at_grows a b k left right g h = record {
+  left_within = subst (λ n. left < n) (sym g.count) h.left_within;
+  right_within = subst (λ n. right < n) (sym g.count) h.right_within;
+  stated = subst (λ ls. Stated ls k (equal (constant left) (constant right))) (sym g.lines) (stated_more a.lines g.more k _ h.stated);
+}
+
+by_grows : (a b : Known) (step : Option ℕ) (left right : ℕ) → Grows a b → HoldsBy a step left right → HoldsBy b step left right
+by_grows a b None left right g h = h
+by_grows a b (Some k) left right g h = at_grows a b k left right g h
+
+pub holds_grows : (a b : Known) (step : Option ℕ) (left right : ℕ) → Grows a b → Holds a step left right → Holds b step left right
+holds_grows a b step left right g h = record { by = by_grows a b step left right g h.by }
+
+pub holds_line : (a : Known) (k left right : ℕ) → At a k left right → Holds a (Some k) left right
+holds_line a k left right h = record { by = h }
+
+pub value_grows : (a b : Known) (v : Named) (k : ℕ) → Grows a b → IsValue a v k → IsValue b v k
+value_grows a b v k g h = record { within = subst (λ n. v.value < n) (sym g.count) h.within; holds = holds_grows a b v.step v.value k g h.holds }
+
+pub valued_grows : (a b : Known) (values : List Named) → Grows a b → Valued a values → Valued b values
+valued_grows a b values g h = record { each = λ k d lt. value_grows a b _ k g (h.each k d lt) }
+
+pub valued_push : (a : Known) (values : List Named) (v : Named) (n : ℕ) → n ≡ length values → Valued a values → IsValue a v n → Valued a (values ++ v ∷ [])
+valued_push a values v n len h here = record {
+  each = λ k d lt.
+      ⊎_elim
+      (λ below. subst (λ w. IsValue a w k) (sym (get_or-append values (v ∷ []) d k below)) (h.each k d below))
+      (λ above.
+      let e : n ≡ k = omega (arith, length-append values (v ∷ [])) in
+      subst (λ j. IsValue a (get_or (values ++ v ∷ []) j d) j) e
+      (subst (λ m. IsValue a (get_or (values ++ v ∷ []) m d) n) (sym len)
+      (subst (λ w. IsValue a w n) (sym (get_or-append_seam values v [] d)) here)))
+      (cases_lt k (length values));
+}
+
+pub valued_set : (a : Known) (values : List Named) (i : ℕ) (v : Named) → Valued a values → IsValue a v i → Valued a (set values i v)
+valued_set a values i v h here = record {
+  each = λ k d lt.
+      let within : k < length values = omega (arith, length-set values i v) in
+      ⊎_elim
+      (λ same.
+      subst (λ w. IsValue a w k) (sym (get_or-set_at values i k v d same.1 (omega (arith, same.1))))
+      (subst (λ j. IsValue a v j) (sym same.1) here))
+      (λ other. subst (λ w. IsValue a w k) (sym (get_or-set_other values i k v d other.1)) (h.each k d within))
+      (eqb_tells k i);
+}
+
+-- ---- the end of a block
+pub last_assumed : (es : List Equation) (g : Equation) → slice_get (assumed es g) (length es) ≡ Some (is_false (equation g))
+last_assumed es g = get_seam (map (λ e. is_true (equation e)) es) (is_false (equation g)) [] (length es) (sym (length-map es (λ e. is_true (equation e))))
+
+get_map_go : (es : List Equation) (more : List Lit) (i : ℕ) (e : Equation) → slice_get es i ≡ Some e → slice_get (map (λ e. is_true (equation e)) es ++ more) i ≡ Some (is_true (equation e))
+get_map_go [] more i e h = absurd (none_some h)
+get_map_go (x ∷ xs) more zero e h = ap (λ o. o >>= λ y. Some (is_true (equation y))) h
+get_map_go (x ∷ xs) more (suc i) e h = get_map_go xs more i e h
+
+pub each_assumed : (es : List Equation) (g : Equation) (i : ℕ) (e : Equation) → slice_get es i ≡ Some e → slice_get (assumed es g) i ≡ Some (is_true (equation e))
+each_assumed es g i e h = get_map_go es _ i e h
+
+-- ---- what a pushed line says
+pub sides : (l : EqLine) (s t : Term) (left right : ℕ) → states l ≡ equal s t → s ≡ constant left → t ≡ constant right → states l ≡ equal (constant left) (constant right)
+sides l s t left right e a b = e ∙ (λ i. equal (a i) (b i))
+
+pub told : (r : Result ℕ AllocError) (known : Known) (line : EqLine) (left right : ℕ) → states line ≡ equal (constant left) (constant right) → left < known.count → right < known.count
+    → IfOk r (λ k. (l : ℕ) (m : ℕ) → states line ≡ equal (constant l) (constant m) → l < known.count → m < known.count → At known k l m)
+    → IfOk r (λ k. At known k left right)
+told (Ok k) known line left right e a b h = h left right e a b
+told (Err x) known line left right e a b h = h
+
+pub fewer : (old new : Known) (n : ℕ) → Grows old new → n < old.count → n < new.count
+fewer old new n g h = subst (λ m. n < m) (sym g.count) h

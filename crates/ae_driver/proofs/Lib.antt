@@ -1,0 +1,11 @@
+pub mod Cutting
+pub mod Placing
+pub mod Sound
+pub mod Complete
+pub mod Reading
+pub mod Growing
+pub mod Propagates
+pub mod ChainProof
+pub mod TextLaws
+pub mod TextProof
+pub mod Answered

@@ -1,0 +1,7 @@
+use Rattle.std.proofs.Common.{◌≡◌, map, take}
+use Rattle.ae_core.specs.Clauses.{is_true}
+use Rattle.ae_driver.specs.Chains.{equation}
+use Rattle.ae_driver.proofs.search.assumed_literals.Given as goal
+
+abbrev pub invariant-loop-hyp : goal.invariant-loop-hyp
+invariant-loop-hyp l = l.lits ≡ map (λ e. is_true (equation e)) (take l.hyp-index l.hyps)

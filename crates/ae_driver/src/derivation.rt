@@ -1,0 +1,200 @@
+//! Derived lines between constants.
+
+ghost use Rattle.std.specs.Prelude.{◌≡◌, ℕ, [], ◌<◌, IfOk, Some, slice_get};
+ghost use Rattle.ae_core.specs.Clauses.{is_true};
+ghost use Rattle.ae_core.specs.Lines.{equal, states, Allowed};
+ghost use Rattle.ae_core.specs.declared.terms.Term.{Term};
+ghost use Rattle.ae_driver.specs.Chains.{constant, equation};
+ghost use Rattle.ae_driver.specs.Form.{IsWithin};
+ghost use Rattle.ae_driver.specs.Search.{At, Grows, Holds, IsDerivation, OfConstants, no_signature};
+
+use crate::form::Equation;
+use ae_core::formulas::Lit;
+use ae_core::lists::List;
+use ae_core::proofs::{Deriv, EqLine};
+use ae_core::terms::{Head, Term};
+use std::alloc::{AllocError, Global};
+use std::marker::Model;
+
+/// The constant of a symbol.
+pub fn constant_term(alloc: Global, symbol: usize) -> Term
+    ensures { result ≡ constant symbol }
+{
+    Term::Apply {
+        head: Head::Symbol(symbol),
+        sorts: List::new(alloc),
+        args: List::new(alloc),
+    }
+}
+
+/// Hypotheses, and lines that are allowed under them, each of which equates two of the first `count` constants.
+#[derive(Drop)]
+pub struct Derivation {
+    count: usize,
+    hyps: List<Lit>,
+    lines: List<EqLine>,
+}
+
+impl Model for Derivation {
+    ghost use Rattle.std.specs.Prelude.{[]};
+    ghost use Rattle.std.specs.Coded.{codes};
+    ghost use Rattle.ae_core.specs.contracts.formulas.Formula as formula;
+    ghost use Rattle.ae_core.specs.contracts.terms.Term as term;
+    ghost use Rattle.ae_driver.specs.Search.{Known, IsDerivation};
+
+    ghost Value = { Known };
+
+    ghost coded = { Prim.hlevel (codes, formula.the_row.coded, term.the_row.coded) };
+
+    ghost view = { λ d. record { count = d.count; hyps = d.hyps; lines = d.lines } };
+
+    ghost invariant = { λ d. IsDerivation d.count d.hyps d.lines };
+}
+
+impl Derivation {
+    /// No line yet.
+    pub fn new(alloc: Global, count: usize, hyps: List<Lit>) -> Derivation
+        ensures { result ≡ record { count = count; hyps = hyps; lines = [] } }
+    {
+        Derivation {
+            count,
+            hyps,
+            lines: List::new(alloc),
+        }
+    }
+
+    // Adds an allowed line, and answers its number.
+    fn push(&mut self, line: EqLine) -> Result<usize, AllocError>
+        requires constants { OfConstants self.old.count line }
+        requires allowed { Allowed no_signature self.old.hyps self.old.lines line }
+        ensures at { IfOk result (λ k. (left : ℕ) (right : ℕ) → states line ≡ equal (constant left) (constant right) → left < self.new.count → right < self.new.count → At self.new k left right) }
+        ensures grows { Grows self.old self.new }
+    {
+        let at = self.lines.len();
+        self.lines.push(line)?;
+        Ok(at)
+    }
+
+    /// The hypothesis of this number, which is the equation.
+    pub fn hyp(&mut self, alloc: Global, given: Equation, hyp: usize) -> Result<usize, AllocError>
+        requires within { IsWithin self.old.count given }
+        requires given { slice_get self.old.hyps hyp ≡ Some (is_true (equation given)) }
+        ensures at { IfOk result (λ k. At self.new k given.left given.right) }
+        ensures grows { Grows self.old self.new }
+    {
+        let left = constant_term(alloc, given.left);
+        let right = constant_term(alloc, given.right);
+        self.push(EqLine::EqHyp { left, right, hyp })
+    }
+
+    /// A constant is equal to itself.
+    pub fn refl(&mut self, alloc: Global, symbol: usize) -> Result<usize, AllocError>
+        requires { symbol < self.old.count }
+        ensures at { IfOk result (λ k. At self.new k symbol symbol) }
+        ensures grows { Grows self.old self.new }
+    {
+        let left = constant_term(alloc, symbol);
+        let right = constant_term(alloc, symbol);
+        self.push(EqLine::EqRefl { left, right })
+    }
+
+    /// The sides of a line turned.
+    pub fn sym(
+        &mut self,
+        alloc: Global,
+        line: usize,
+        left: usize,
+        right: usize,
+    ) -> Result<usize, AllocError>
+        requires { At self.old line left right }
+        ensures at { IfOk result (λ k. At self.new k right left) }
+        ensures grows { Grows self.old self.new }
+    {
+        let from = constant_term(alloc, right);
+        let to = constant_term(alloc, left);
+        self.push(EqLine::EqSym {
+            left: from,
+            right: to,
+            line,
+        })
+    }
+
+    /// Two lines joined at `middle`.
+    pub fn trans(
+        &mut self,
+        alloc: Global,
+        first: usize,
+        second: usize,
+        left: usize,
+        middle: usize,
+        right: usize,
+    ) -> Result<usize, AllocError>
+        requires first { At self.old first left middle }
+        requires second { At self.old second middle right }
+        ensures at { IfOk result (λ k. At self.new k left right) }
+        ensures grows { Grows self.old self.new }
+    {
+        let from = constant_term(alloc, left);
+        let to = constant_term(alloc, right);
+        self.push(EqLine::EqTrans {
+            left: from,
+            right: to,
+            first,
+            second,
+        })
+    }
+
+    /// A step turned.
+    pub fn turned(
+        &mut self,
+        alloc: Global,
+        step: Option<usize>,
+        left: usize,
+        right: usize,
+    ) -> Result<Option<usize>, AllocError>
+        requires { Holds self.old step left right }
+        ensures holds { IfOk result (λ s. Holds self.new s right left) }
+        ensures grows { Grows self.old self.new }
+    {
+        match step {
+            None => Ok(None),
+            Some(line) => Ok(Some(self.sym(alloc, line, left, right)?)),
+        }
+    }
+
+    /// Two steps joined at `middle`.
+    pub fn joined(
+        &mut self,
+        alloc: Global,
+        first: Option<usize>,
+        second: Option<usize>,
+        left: usize,
+        middle: usize,
+        right: usize,
+    ) -> Result<Option<usize>, AllocError>
+        requires first { Holds self.old first left middle }
+        requires second { Holds self.old second middle right }
+        ensures holds { IfOk result (λ s. Holds self.new s left right) }
+        ensures grows { Grows self.old self.new }
+    {
+        match first {
+            None => Ok(second),
+            Some(one) => match second {
+                None => Ok(first),
+                Some(two) => Ok(Some(self.trans(alloc, one, two, left, middle, right)?)),
+            },
+        }
+    }
+
+    /// The hypotheses and the lines.
+    pub fn into_deriv(self) -> Deriv
+        ensures hyps { result.hyps ≡ self.hyps }
+        ensures lines { result.lines ≡ self.lines }
+        ensures derivation { IsDerivation self.count result.hyps result.lines }
+    {
+        Deriv {
+            hyps: self.hyps,
+            lines: self.lines,
+        }
+    }
+}

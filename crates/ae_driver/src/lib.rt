@@ -1,0 +1,12 @@
+//! The program's top call.
+#![tactic(auto)]
+
+mod derivation;
+pub mod form;
+mod reader;
+mod program;
+mod search;
+mod text;
+mod tokens;
+
+pub use program::{INPUT_LIMIT, Status, run};

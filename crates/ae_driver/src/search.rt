@@ -1,0 +1,321 @@
+//! The search over a plain list of the constants' values.
+
+ghost use Rattle.std.specs.Prelude.{◌≡◌, ◌≢◌, ◌<◌, length, IfOk, OnOk, IfSome, Some, slice_get};
+ghost use Rattle.std.specs.List.{AllByRecursion};
+ghost use Rattle.ae_core.specs.Clauses.{is_true};
+ghost use Rattle.ae_driver.specs.Chains.{equation, assumed};
+ghost use Rattle.ae_driver.specs.Form.{IsWithin};
+ghost use Rattle.ae_driver.specs.Search.{At, Grows, Holds, IsValue, Refutes, Valued};
+
+use crate::derivation::{Derivation, constant_term};
+use crate::form::Equation;
+use ae_core::formulas::{Formula, Lit};
+use ae_core::lists::List;
+use ae_core::proofs::Deriv;
+use std::alloc::{AllocError, Global};
+
+/// The value of a constant: the least constant that it is known to equal, and the step from that one to it.
+/// A step is the line that equates two constants, or `None` where they are the same one.
+#[derive(Clone, Copy)]
+pub struct Named {
+    pub value: usize,
+    pub step: Option<usize>,
+}
+
+/// Two values that are equal, and the step from the smaller one to the larger one.
+#[derive(Clone, Copy)]
+pub struct Joined {
+    pub smaller: usize,
+    pub larger: usize,
+    pub step: Option<usize>,
+}
+
+/// A derivation under the hypotheses and the negated last equation, and its line that equates the sides of that equation.
+#[derive(Drop)]
+pub struct Refutation {
+    pub deriv: Deriv,
+    pub line: usize,
+}
+
+/// The formula of an equation.
+pub fn equation_formula(alloc: Global, of: Equation) -> Formula
+    ensures { result ≡ equation of }
+{
+    Formula::Eq {
+        left: constant_term(alloc, of.left),
+        right: constant_term(alloc, of.right),
+    }
+}
+
+fn assumed_literals(
+    alloc: Global,
+    hyps: &[Equation],
+    last: Equation,
+) -> Result<List<Lit>, AllocError>
+    ensures { IfOk result (λ lits. lits ≡ assumed hyps.now last) }
+{
+    let mut lits = List::new(alloc);
+    for hyp in hyps {
+        lits.push(Lit {
+            positive: true,
+            formula: equation_formula(alloc, *hyp),
+        })?;
+    }
+    lits.push(Lit {
+        positive: false,
+        formula: equation_formula(alloc, last),
+    })?;
+    Ok(lits)
+}
+
+// Each constant is its own value.
+fn first_values(
+    alloc: Global,
+    derivation: &Derivation,
+    count: usize,
+) -> Result<Vec<Named>, AllocError>
+    requires { derivation.now.count ≡ count }
+    ensures valued { IfOk result (λ values. Valued derivation.now values.items) }
+    ensures count { IfOk result (λ values. length values.items ≡ count) }
+{
+    let mut values = Vec::with_capacity(alloc, count)?;
+    for symbol in 0..count {
+        values.push(Named {
+            value: symbol,
+            step: None,
+        })?;
+    }
+    Ok(values)
+}
+
+// The constant k gets the smaller value where it has the larger one.
+fn replace_at(
+    alloc: Global,
+    derivation: &mut Derivation,
+    values: &mut [Named],
+    joined: Joined,
+    k: usize,
+) -> Result<(), AllocError>
+    requires within { k < length values.old }
+    requires smaller { joined.smaller < derivation.old.count }
+    requires step { Holds derivation.old joined.step joined.smaller joined.larger }
+    requires valued { Valued derivation.old values.old }
+    ensures valued { OnOk result (Valued derivation.new values.new) }
+    ensures grows { Grows derivation.old derivation.new }
+{
+    let named = values[k];
+    if named.value != joined.larger {
+        return Ok(());
+    }
+    let step = derivation.joined(
+        alloc,
+        joined.step,
+        named.step,
+        joined.smaller,
+        joined.larger,
+        k,
+    )?;
+    values[k] = Named {
+        value: joined.smaller,
+        step,
+    };
+    Ok(())
+}
+
+// The smaller value takes the place of the larger one over the whole list.
+fn replace(
+    alloc: Global,
+    derivation: &mut Derivation,
+    values: &mut [Named],
+    joined: Joined,
+) -> Result<(), AllocError>
+    requires smaller { joined.smaller < derivation.old.count }
+    requires step { Holds derivation.old joined.step joined.smaller joined.larger }
+    requires valued { Valued derivation.old values.old }
+    ensures valued { OnOk result (Valued derivation.new values.new) }
+    ensures grows { Grows derivation.old derivation.new }
+{
+    for k in 0..values.len() {
+        replace_at(alloc, derivation, values, joined, k)?;
+    }
+    Ok(())
+}
+
+// The step from the value of one constant to that of another, where a step joins the two constants.
+fn between(
+    alloc: Global,
+    derivation: &mut Derivation,
+    from: Named,
+    from_constant: usize,
+    step: Option<usize>,
+    to_constant: usize,
+    to: Named,
+) -> Result<Option<usize>, AllocError>
+    requires from { IsValue derivation.old from from_constant }
+    requires step { Holds derivation.old step from_constant to_constant }
+    requires to { IsValue derivation.old to to_constant }
+    ensures holds { IfOk result (λ s. Holds derivation.new s from.value to.value) }
+    ensures grows { Grows derivation.old derivation.new }
+{
+    let half = derivation.joined(
+        alloc,
+        from.step,
+        step,
+        from.value,
+        from_constant,
+        to_constant,
+    )?;
+    let back = derivation.turned(alloc, to.step, to.value, to_constant)?;
+    derivation.joined(alloc, half, back, from.value, to_constant, to.value)
+}
+
+// The values of the two sides of an equation are equal.
+fn join(
+    alloc: Global,
+    derivation: &mut Derivation,
+    left: Named,
+    right: Named,
+    given: Equation,
+    hyp: usize,
+) -> Result<Joined, AllocError>
+    requires within { IsWithin derivation.old.count given }
+    requires given { slice_get derivation.old.hyps hyp ≡ Some (is_true (equation given)) }
+    requires left { IsValue derivation.old left given.left }
+    requires right { IsValue derivation.old right given.right }
+    ensures smaller { IfOk result (λ joined. joined.smaller < derivation.new.count) }
+    ensures step { IfOk result (λ joined. Holds derivation.new joined.step joined.smaller joined.larger) }
+    ensures grows { Grows derivation.old derivation.new }
+{
+    let stated = Some(derivation.hyp(alloc, given, hyp)?);
+    if left.value < right.value {
+        let step = between(
+            alloc,
+            derivation,
+            left,
+            given.left,
+            stated,
+            given.right,
+            right,
+        )?;
+        return Ok(Joined {
+            smaller: left.value,
+            larger: right.value,
+            step,
+        });
+    }
+    let back = derivation.turned(alloc, stated, given.left, given.right)?;
+    let step = between(
+        alloc,
+        derivation,
+        right,
+        given.right,
+        back,
+        given.left,
+        left,
+    )?;
+    Ok(Joined {
+        smaller: right.value,
+        larger: left.value,
+        step,
+    })
+}
+
+// A hypothesis is taken up: its two sides get one value.
+fn merge(
+    alloc: Global,
+    derivation: &mut Derivation,
+    values: &mut [Named],
+    given: Equation,
+    hyp: usize,
+) -> Result<(), AllocError>
+    requires count { length values.old ≡ derivation.old.count }
+    requires within { IsWithin derivation.old.count given }
+    requires given { slice_get derivation.old.hyps hyp ≡ Some (is_true (equation given)) }
+    requires valued { Valued derivation.old values.old }
+    ensures valued { OnOk result (Valued derivation.new values.new) }
+    ensures grows { Grows derivation.old derivation.new }
+{
+    let left = values[given.left];
+    let right = values[given.right];
+    if left.value == right.value {
+        return Ok(());
+    }
+    let joined = join(alloc, derivation, left, right, given, hyp)?;
+    replace(alloc, derivation, values, joined)
+}
+
+/// A refutation of the hypotheses and the negated last equation, where one is found.
+pub fn refute(
+    alloc: Global,
+    count: usize,
+    hyps: &[Equation],
+    last: Equation,
+) -> Result<Option<Refutation>, AllocError>
+    requires hyps { AllByRecursion (IsWithin count) hyps.now }
+    requires last { IsWithin count last }
+    ensures { IfOk result (λ found. IfSome found (λ r. Refutes count hyps.now last r)) }
+{
+    let lits = assumed_literals(alloc, hyps, last)?;
+    let mut derivation = Derivation::new(alloc, count, lits);
+    let mut values = first_values(alloc, &derivation, count)?;
+    for (i, hyp) in hyps.iter().enumerate() {
+        merge(alloc, &mut derivation, &mut values, *hyp, i)?;
+    }
+    conclude(alloc, derivation, values.as_slice(), hyps, last)
+}
+
+// The refutation, where the two sides of the last equation have one value.
+fn conclude(
+    alloc: Global,
+    mut derivation: Derivation,
+    values: &[Named],
+    hyps: &[Equation],
+    last: Equation,
+) -> Result<Option<Refutation>, AllocError>
+    requires count { length values.now ≡ derivation.count }
+    requires last { IsWithin derivation.count last }
+    requires valued { Valued derivation values.now }
+    requires hyps { derivation.hyps ≡ assumed hyps.now last }
+    ensures { IfOk result (λ found. IfSome found (λ r. Refutes derivation.count hyps.now last r)) }
+{
+    let left = values[last.left];
+    let right = values[last.right];
+    if left.value != right.value {
+        return Ok(None);
+    }
+    let line = conclusion(alloc, &mut derivation, left, right, last)?;
+    Ok(Some(Refutation {
+        deriv: derivation.into_deriv(),
+        line,
+    }))
+}
+
+// The line that equates the two sides of an equation whose values are the same.
+fn conclusion(
+    alloc: Global,
+    derivation: &mut Derivation,
+    left: Named,
+    right: Named,
+    last: Equation,
+) -> Result<usize, AllocError>
+    requires within { IsWithin derivation.old.count last }
+    requires left { IsValue derivation.old left last.left }
+    requires right { IsValue derivation.old right last.right }
+    requires same { left.value ≡ right.value }
+    ensures at { IfOk result (λ k. At derivation.new k last.left last.right) }
+    ensures grows { Grows derivation.old derivation.new }
+{
+    let back = derivation.turned(alloc, left.step, left.value, last.left)?;
+    let step = derivation.joined(
+        alloc,
+        back,
+        right.step,
+        last.left,
+        left.value,
+        last.right,
+    )?;
+    match step {
+        Some(line) => Ok(line),
+        None => derivation.refl(alloc, last.left),
+    }
+}
