@@ -4,3 +4,4 @@ pub mod Sorts
 pub mod Lines
 pub mod Clauses
 pub mod Derivations
+pub mod Orders

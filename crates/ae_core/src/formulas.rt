@@ -1,7 +1,6 @@
 //! Formulas.
 ghost use Rattle.std.specs.Prelude.{◌≡◌, ◌↔◌, IsTrue};
 
-
 use crate::lists::{Boxed, List};
 use crate::terms::{Sort, Term, same_sorts, same_term, same_terms};
 

@@ -5,8 +5,11 @@ pub mod copies;
 pub mod formulas;
 pub mod laws;
 pub mod lists;
+pub mod orders;
 pub mod problems;
 pub mod proofs;
 pub mod sorts;
 pub mod terms;
+#[cfg(test)]
+mod tests;
 pub mod words;

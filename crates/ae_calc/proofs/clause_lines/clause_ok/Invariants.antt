@@ -1,0 +1,6 @@
+use Rattle.std.proofs.Common.{◌≡◌, true, take}
+use Rattle.ae_core.specs.Derivations as spec
+use Rattle.ae_calc.proofs.clause_lines.clause_ok.Given as goal
+
+abbrev pub invariant-loop-lit : goal.invariant-loop-lit
+invariant-loop-lit l = spec.clause_ok l.signature (take l.lit-index l.clause) ≡ true

@@ -1,0 +1,7 @@
+use Rattle.std.proofs.Common.{◌≡◌, map, take, Some}
+use Rattle.ae_core.specs.Sorts.{all_known}
+use Rattle.ae_core.specs.Derivations as spec
+use Rattle.ae_calc.proofs.clause_lines.hinted.Given as goal
+
+abbrev pub invariant-loop-hint : goal.invariant-loop-hint
+invariant-loop-hint l = all_known (map (spec.stated_by l.problem l.goal l.earlier) (take l.hint-index l.hints)) ≡ Some l.found

@@ -1,0 +1,215 @@
+//! Clause lines: what each states, and whether it is allowed after earlier ones.
+ghost use Rattle.std.specs.Prelude.{◌≡◌, ◌↔◌, IfOk, IsTrue, map};
+ghost use Rattle.ae_core.specs.Sorts.{all_known};
+ghost use Rattle.ae_core.specs.Derivations as spec;
+ghost use Rattle.ae_core.specs.declared.proofs.ClauseLine.TheVariants.{Goal};
+
+use crate::lines::block_allowed;
+use crate::literals::{literal, opposites};
+use crate::propagation::refutes;
+use crate::rows::row;
+use ae_core::copies::copy_clause;
+use ae_core::formulas::{Clause, Formula, Lit};
+use ae_core::lists::{List, at};
+use ae_core::problems::{Item, Problem, Signature};
+use ae_core::proofs::ClauseLine;
+use ae_core::sorts::formula_ok;
+use std::alloc::{AllocError, Global};
+
+/// Whether each formula of a clause is closed and well sorted.
+pub fn clause_ok(alloc: Global, signature: &Signature, clause: &[Lit]) -> Result<bool, AllocError>
+    ensures { IfOk result (λ b. b ≡ spec.clause_ok signature.now clause.now) }
+{
+    for lit in clause {
+        if !formula_ok(alloc, signature, &lit.formula)? {
+            return Ok(false);
+        }
+    }
+    Ok(true)
+}
+
+/// The clause of the line `goal`: the goal is false. There is none where no goal stands at that place.
+pub fn goal_clause(
+    alloc: Global,
+    problem: &Problem,
+    goal: usize,
+) -> Result<Option<Clause>, AllocError>
+    ensures { IfOk result (λ c. c ≡ spec.conclusion problem.now goal Goal) }
+{
+    match at(problem.items.as_slice(), goal) {
+        None => Ok(None),
+        Some(item) => match item {
+            Item::Axiom { .. } => Ok(None),
+            Item::Goal { body, .. } => {
+                let mut clause = List::new(alloc);
+                clause.push(literal(alloc, false, body)?)?;
+                Ok(Some(clause))
+            }
+        },
+    }
+}
+
+/// The clause that a line states, for the goal at place `goal` among the items. There is none where a number or a form in it doesn't fit, and for each kind of line that is never allowed.
+pub fn conclusion(
+    alloc: Global,
+    problem: &Problem,
+    goal: usize,
+    line: &ClauseLine,
+) -> Result<Option<Clause>, AllocError>
+    ensures { IfOk result (λ c. c ≡ spec.conclusion problem.now goal line.now) }
+{
+    match line {
+        ClauseLine::Goal => goal_clause(alloc, problem, goal),
+        ClauseLine::Def {
+            row: number,
+            formula,
+        } => row(alloc, *number, formula),
+        ClauseLine::Block(block) => Ok(Some(opposites(alloc, block.deriv.hyps.as_slice())?)),
+        ClauseLine::Rup { clause, .. } => Ok(Some(copy_clause(alloc, clause.as_slice())?)),
+        _ => Ok(None),
+    }
+}
+
+/// Whether the goal at this place is closed and well sorted; it isn't where no goal stands there.
+pub fn goal_ok(alloc: Global, problem: &Problem, goal: usize) -> Result<bool, AllocError>
+    ensures { IfOk result (λ b. b ≡ spec.line_ok problem.now goal Goal) }
+{
+    match at(problem.items.as_slice(), goal) {
+        None => Ok(false),
+        Some(item) => match item {
+            Item::Axiom { .. } => Ok(false),
+            Item::Goal { body, .. } => formula_ok(alloc, &problem.signature, body),
+        },
+    }
+}
+
+/// Whether each formula that a line states is closed and well sorted.
+pub fn line_ok(
+    alloc: Global,
+    problem: &Problem,
+    goal: usize,
+    line: &ClauseLine,
+) -> Result<bool, AllocError>
+    ensures { IfOk result (λ b. b ≡ spec.line_ok problem.now goal line.now) }
+{
+    let signature = &problem.signature;
+    match line {
+        ClauseLine::Goal => goal_ok(alloc, problem, goal),
+        ClauseLine::Def { formula, .. } => formula_ok(alloc, signature, formula),
+        ClauseLine::Block(block) => clause_ok(alloc, signature, block.deriv.hyps.as_slice()),
+        ClauseLine::Rup { clause, .. } => clause_ok(alloc, signature, clause.as_slice()),
+        _ => Ok(false),
+    }
+}
+
+/// Whether a line states a clause.
+pub fn has_conclusion(
+    alloc: Global,
+    problem: &Problem,
+    goal: usize,
+    line: &ClauseLine,
+) -> Result<bool, AllocError>
+    ensures { IfOk result (λ b. IsTrue b ↔ spec.HasConclusion problem.now goal line.now) }
+{
+    match conclusion(alloc, problem, goal, line)? {
+        None => Ok(false),
+        Some(_) => Ok(true),
+    }
+}
+
+/// The clause that the earlier line of this number states.
+pub fn stated_by(
+    alloc: Global,
+    problem: &Problem,
+    goal: usize,
+    earlier: &[ClauseLine],
+    number: usize,
+) -> Result<Option<Clause>, AllocError>
+    ensures { IfOk result (λ c. c ≡ spec.stated_by problem.now goal earlier.now number) }
+{
+    match at(earlier, number) {
+        None => Ok(None),
+        Some(line) => conclusion(alloc, problem, goal, line),
+    }
+}
+
+/// The clauses of the hinted earlier lines in the order of the hints, where each hint has one.
+#[tactic(auto, using(ae_core::proofs::SortLaws::known_step, ae_core::proofs::SortLaws::known_stop))]
+pub fn hinted(
+    alloc: Global,
+    problem: &Problem,
+    goal: usize,
+    earlier: &[ClauseLine],
+    hints: &[usize],
+) -> Result<Option<List<Clause>>, AllocError>
+    ensures { IfOk result (λ cs. cs ≡ spec.hinted problem.now goal earlier.now hints.now) }
+{
+    let mut found = List::new(alloc);
+    for hint in hints {
+        match stated_by(alloc, problem, goal, earlier, *hint)? {
+            None => return Ok(None),
+            Some(clause) => found.push(clause)?,
+        }
+    }
+    Ok(Some(found))
+}
+
+/// Whether unit propagation through the hinted earlier lines, in the order of the hints, refutes that a clause is false.
+pub fn is_refuted(
+    alloc: Global,
+    problem: &Problem,
+    goal: usize,
+    earlier: &[ClauseLine],
+    clause: &[Lit],
+    hints: &[usize],
+) -> Result<bool, AllocError>
+    ensures { IfOk result (λ b. b ≡ spec.is_refuted (spec.hinted problem.now goal earlier.now hints.now) clause.now) }
+{
+    match hinted(alloc, problem, goal, earlier, hints)? {
+        None => Ok(false),
+        Some(clauses) => refutes(alloc, clause, clauses.as_slice()),
+    }
+}
+
+/// What a line asks beside a clause and good sorts: a block that is allowed, or hints that refute.
+pub fn meets(
+    alloc: Global,
+    problem: &Problem,
+    goal: usize,
+    earlier: &[ClauseLine],
+    line: &ClauseLine,
+) -> Result<bool, AllocError>
+    ensures { IfOk result (λ b. IsTrue b ↔ spec.Meets problem.now goal earlier.now line.now) }
+{
+    match line {
+        ClauseLine::Block(block) => block_allowed(alloc, &problem.signature, block),
+        ClauseLine::Rup { clause, hints } => is_refuted(
+            alloc,
+            problem,
+            goal,
+            earlier,
+            clause.as_slice(),
+            hints.as_slice(),
+        ),
+        _ => Ok(true),
+    }
+}
+
+/// Whether a clause line is allowed after earlier ones, for the goal at place `goal` among the items.
+pub fn allowed(
+    alloc: Global,
+    problem: &Problem,
+    goal: usize,
+    earlier: &[ClauseLine],
+    line: &ClauseLine,
+) -> Result<bool, AllocError>
+    ensures { IfOk result (λ b. IsTrue b ↔ spec.IsAllowed problem.now goal earlier.now line.now) }
+{
+    if !line_ok(alloc, problem, goal, line)? {
+        return Ok(false);
+    }
+    if !has_conclusion(alloc, problem, goal, line)? {
+        return Ok(false);
+    }
+    meets(alloc, problem, goal, earlier, line)
+}

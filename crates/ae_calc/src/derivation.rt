@@ -1,0 +1,62 @@
+//! Whether a proof derives its goal.
+ghost use Rattle.std.specs.Prelude.{◌↔◌, [], IfOk, IsTrue};
+ghost use Rattle.ae_core.specs.Derivations.{AreAllowed, Derives};
+ghost use Rattle.ae_calc.specs.Ending.{EndsEmpty};
+
+use crate::clause_lines::{allowed, conclusion};
+use ae_core::problems::Problem;
+use ae_core::proofs::{ClauseLine, Proof};
+use std::alloc::{AllocError, Global};
+
+/// Whether each clause line is allowed after those before it.
+#[tactic(auto, using(crate::proofs::Steps::clause_lines_more, crate::proofs::Steps::clause_lines_stop))]
+pub fn are_allowed(
+    alloc: Global,
+    problem: &Problem,
+    goal: usize,
+    lines: &[ClauseLine],
+) -> Result<bool, AllocError>
+    ensures { IfOk result (λ b. IsTrue b ↔ AreAllowed problem.now goal [] lines.now) }
+{
+    for i in 0..lines.len() {
+        if !allowed(alloc, problem, goal, &lines[..i], &lines[i])? {
+            return Ok(false);
+        }
+    }
+    Ok(true)
+}
+
+/// Whether the last line states the empty clause.
+#[tactic(auto, using(crate::proofs::Steps::last_of_read))]
+pub fn ends_empty(
+    alloc: Global,
+    problem: &Problem,
+    goal: usize,
+    lines: &[ClauseLine],
+) -> Result<bool, AllocError>
+    ensures { IfOk result (λ b. IsTrue b ↔ EndsEmpty problem.now goal lines.now) }
+{
+    if lines.is_empty() {
+        return Ok(false);
+    }
+    match conclusion(alloc, problem, goal, &lines[lines.len() - 1])? {
+        None => Ok(false),
+        Some(clause) => Ok(clause.is_empty()),
+    }
+}
+
+/// Whether a proof derives the goal at place `goal` among the items of a problem: each line is allowed after those before it, and the last one states the empty clause.
+pub fn derives(
+    alloc: Global,
+    problem: &Problem,
+    goal: usize,
+    proof: &Proof,
+) -> Result<bool, AllocError>
+    ensures { IfOk result (λ b. IsTrue b ↔ Derives problem.now goal proof.now) }
+{
+    let lines = proof.lines.as_slice();
+    if !are_allowed(alloc, problem, goal, lines)? {
+        return Ok(false);
+    }
+    ends_empty(alloc, problem, goal, lines)
+}

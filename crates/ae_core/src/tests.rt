@@ -1,0 +1,125 @@
+//! The orders and the copies on a few values. What is expected is read off the ranks of the definition.
+use crate::copies::{copy_formula, copy_term};
+use crate::formulas::{Formula, same_formula};
+use crate::lists::{Boxed, List};
+use crate::orders::{compare_formulas, compare_terms};
+use crate::terms::{Head, Op, Sort, Term, same_term};
+use std::alloc::{AllocError, Global};
+use std::test::Fail;
+
+fn applied(head: Head, sorts: List<Sort>, args: List<Term>) -> Term {
+    Term::Apply { head, sorts, args }
+}
+
+fn numeral(top: i128, bottom: i128, real: bool) -> Term {
+    Term::Num { top, bottom, real }
+}
+
+/// Terms, each before those that follow it.
+fn ascending_terms(alloc: Global) -> Result<List<Term>, AllocError> {
+    let mut terms = List::new(alloc);
+    terms.push(Term::Bound(0))?;
+    terms.push(Term::Bound(7))?;
+    terms.push(numeral(-5, 2, true))?;
+    terms.push(numeral(3, 1, false))?;
+    terms.push(numeral(3, 1, true))?;
+    terms.push(numeral(3, 2, true))?;
+    terms.push(Term::Fresh {
+        number: 0,
+        sort: Boxed::new(alloc, Sort::Unit)?,
+    })?;
+    terms.push(Term::Fresh {
+        number: 1,
+        sort: Boxed::new(alloc, Sort::Int)?,
+    })?;
+    let symbol = Head::Symbol(4);
+    terms.push(applied(symbol, List::new(alloc), List::new(alloc)))?;
+    let mut one = List::new(alloc);
+    one.push(Term::Bound(9))?;
+    terms.push(applied(symbol, List::new(alloc), one))?;
+    let mut two = List::new(alloc);
+    two.push(Term::Bound(9))?;
+    two.push(Term::Bound(0))?;
+    terms.push(applied(symbol, List::new(alloc), two))?;
+    let mut later = List::new(alloc);
+    later.push(Term::Bound(9))?;
+    later.push(Term::Bound(1))?;
+    terms.push(applied(symbol, List::new(alloc), later))?;
+    let mut sorts = List::new(alloc);
+    sorts.push(Sort::Rigid(0))?;
+    terms.push(applied(symbol, sorts, List::new(alloc)))?;
+    terms.push(applied(Head::Int(Op::Sub), List::new(alloc), List::new(alloc)))?;
+    terms.push(applied(Head::Real(Op::Add), List::new(alloc), List::new(alloc)))?;
+    terms.push(applied(Head::Void, List::new(alloc), List::new(alloc)))?;
+    Ok(terms)
+}
+
+fn literal(alloc: Global, holds: bool) -> Result<Boxed<Formula>, AllocError> {
+    Boxed::new(alloc, if holds { Formula::True } else { Formula::False })
+}
+
+/// Formulas, each before those that follow it.
+fn ascending_formulas(alloc: Global) -> Result<List<Formula>, AllocError> {
+    let mut formulas = List::new(alloc);
+    formulas.push(Formula::True)?;
+    formulas.push(Formula::False)?;
+    formulas.push(Formula::Eq {
+        left: Term::Bound(5),
+        right: Term::Bound(0),
+    })?;
+    formulas.push(Formula::Lt {
+        left: Term::Bound(0),
+        right: Term::Bound(2),
+    })?;
+    formulas.push(Formula::Lt {
+        left: Term::Bound(1),
+        right: Term::Bound(0),
+    })?;
+    formulas.push(Formula::Le {
+        left: Term::Bound(0),
+        right: Term::Bound(0),
+    })?;
+    formulas.push(Formula::Not(literal(alloc, true)?))?;
+    formulas.push(Formula::And(literal(alloc, true)?, literal(alloc, false)?))?;
+    formulas.push(Formula::And(literal(alloc, false)?, literal(alloc, true)?))?;
+    formulas.push(Formula::Or(literal(alloc, true)?, literal(alloc, true)?))?;
+    formulas.push(Formula::Xor(literal(alloc, true)?, literal(alloc, true)?))?;
+    formulas.push(Formula::Iff(literal(alloc, true)?, literal(alloc, true)?))?;
+    Ok(formulas)
+}
+
+#[test]
+fn orders_terms(rt: HostRuntime) -> Result<(), Fail> {
+    let terms = ascending_terms(rt.alloc())?;
+    let terms = terms.as_slice();
+    for i in 0..terms.len() {
+        let copy = copy_term(rt.alloc(), &terms[i])?;
+        assert!(rt; same_term(&copy, &terms[i]), "copy of term {i}");
+        for j in 0..terms.len() {
+            assert_eq!(rt;
+                compare_terms(&terms[i], &terms[j]),
+                i.cmp(&j),
+                "terms {i} and {j}"
+            );
+        }
+    }
+    Ok(())
+}
+
+#[test]
+fn orders_formulas(rt: HostRuntime) -> Result<(), Fail> {
+    let formulas = ascending_formulas(rt.alloc())?;
+    let formulas = formulas.as_slice();
+    for i in 0..formulas.len() {
+        let copy = copy_formula(rt.alloc(), &formulas[i])?;
+        assert!(rt; same_formula(&copy, &formulas[i]), "copy of formula {i}");
+        for j in 0..formulas.len() {
+            assert_eq!(rt;
+                compare_formulas(&formulas[i], &formulas[j]),
+                i.cmp(&j),
+                "formulas {i} and {j}"
+            );
+        }
+    }
+    Ok(())
+}

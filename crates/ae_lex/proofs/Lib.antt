@@ -1,0 +1,9 @@
+pub mod Parts
+pub mod Tables
+pub mod Forms
+pub mod Comments
+pub mod NumeralFacts
+pub mod Pieces
+pub mod KindLaws
+pub mod Cuts
+pub mod Unique

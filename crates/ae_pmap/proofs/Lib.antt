@@ -1,0 +1,9 @@
+pub mod Tables
+pub mod Opened
+pub mod Joins
+pub mod Turns
+pub mod PairLemmas
+pub mod Searches
+pub mod Values
+pub mod Heights
+pub mod Walks

@@ -1,0 +1,4 @@
+use Rattle.ae_pmap.proofs.nodes.+remove.Given as goal
+
+abbrev pub decreases-remove : goal.decreases-remove
+decreases-remove l = l.place

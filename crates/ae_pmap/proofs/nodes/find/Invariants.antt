@@ -1,0 +1,15 @@
+use Rattle.std.proofs.Common.{◌≡◌, ◌≤◌, length}
+use Rattle.ae_pmap.specs.Pairs.{found, Rises}
+use Rattle.ae_pmap.specs.Trees.{pairs}
+use Rattle.ae_pmap.specs.Nodes.{tree_at}
+use Rattle.ae_pmap.proofs.nodes.find.Given as goal
+
+abbrev pub invariant-loop-place : goal.invariant-loop-place
+invariant-loop-place l = record {
+  inside : l.place ≤ length l.nodes;
+  rises : Rises (pairs (tree_at l.nodes l.place));
+  same : found (pairs (tree_at l.nodes l.place)) l.key ≡ found (pairs (tree_at l.nodes l.root)) l.key;
+}
+
+abbrev pub decreases-loop-place : goal.decreases-loop-place
+decreases-loop-place l = l.place

@@ -1,0 +1,5 @@
+pub mod Pairs
+pub mod Trees
+pub mod Nodes
+pub mod Forest
+pub mod Walk
