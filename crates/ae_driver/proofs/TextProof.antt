@@ -64,7 +64,7 @@ module _ (names : Names) where
       text_or names _ _
       ∙ (λ i. of_two (codes "@or") ((text_not names (equation e) ∙ ap (of_one (codes "@not")) (text_equation e ws.0)) i) (text_chain es g ws.1 w i))
       ∙ ap Some (regroup_chain (codes "(@or ") (codes "(@not ") (equation_bytes names e) (codes ")") (codes " ") (flat_map (opening_bytes names) es) (equation_bytes names g) (closing_bytes es) (codes ")")
-        ∙ ap (λ z. codes "(@or (@not " ++ equation_bytes names e ++ codes ") " ++ flat_map (opening_bytes names) es ++ equation_bytes names g ++ z) (sym (closing_turned es)))
+      ∙ ap (λ z. codes "(@or (@not " ++ equation_bytes names e ++ codes ") " ++ flat_map (opening_bytes names) es ++ equation_bytes names g ++ z) (sym (closing_turned es)))
 
 -- ---- literals and derived lines
 regroup_line : (e A b B H D n : List ℕ) → e ++ A ++ b ++ B ++ (H ++ D) ++ n ≡ e ++ A ++ b ++ B ++ H ++ D ++ n
@@ -136,7 +136,7 @@ module _ (names : Names) where
   text_defs [] g rest R ws w r = r
   text_defs (e ∷ es) g rest R ws w r =
       let line : (row : ℕ) → line_text names (Def row (chain (e ∷ es) g)) ≡ Some (def_bytes names row (e ∷ es) g) =
-          λ row. ap (λ o. o >>= λ s. Some (codes "def " ++ decimal row ++ codes " " ++ s ++ codes "\n")) (text_chain names (e ∷ es) g ws w) in
+      λ row. ap (λ o. o >>= λ s. Some (codes "def " ++ decimal row ++ codes " " ++ s ++ codes "\n")) (text_chain names (e ∷ es) g ws w) in
       (λ i. line 4 i >>= λ x. (line 5 i >>= λ y. text_defs es g rest R ws.1 w r i >>= λ ys. Some (y ++ ys)) >>= λ xs. Some (x ++ xs))
       ∙ ap Some (regroup_defs (def_bytes names 4 (e ∷ es) g) (def_bytes names 5 (e ∷ es) g) (defs_bytes names es g) R)
 
@@ -155,7 +155,7 @@ module _ (names : Names) where
       let E = ending_bytes r.line (length es) in
       let rest = BlockLine (block_of es r) ∷ Rup [] (hints es 0 1 (length es + length es + 1)) ∷ [] in
       let last : in_order (map (line_text names) rest) ≡ Some (codes "block\n" ++ A ++ L ++ E ++ (rup_bytes es ++ [])) =
-          ap (λ o. o >>= λ x. Some (x ++ (rup_bytes es ++ []))) (text_block es g r ws w f) in
+      ap (λ o. o >>= λ x. Some (x ++ (rup_bytes es ++ []))) (text_block es g r ws w f) in
       ap (λ o. (o >>= λ xs. Some (codes "goal\n" ++ xs)) >>= λ ls. Some (codes "proof 1\n" ++ ls ++ codes "end\n")) (text_defs es g rest _ ws w last)
       ∙ ap (λ z. Some (codes "proof 1\n" ++ (codes "goal\n" ++ (defs_bytes names es g ++ (codes "block\n" ++ A ++ L ++ E ++ z))) ++ codes "end\n")) (append-nil (rup_bytes es))
       ∙ ap Some (regroup_proof (codes "proof 1\n") (codes "goal\n") (defs_bytes names es g) (codes "block\n") A L E (rup_bytes es) (codes "end\n"))

@@ -3,8 +3,8 @@
 
 mod derivation;
 pub mod form;
-mod reader;
 mod program;
+mod reader;
 mod search;
 mod text;
 mod tokens;

@@ -122,11 +122,7 @@ fn only_goal(goals: &[Chain]) -> Option<&Chain>
 }
 
 // The part of a goal, where it is found to follow.
-fn goal_part(
-    alloc: Global,
-    constants: &[Word],
-    goal: &Chain,
-) -> Result<Option<Vec<u8>>, AllocError>
+fn goal_part(alloc: Global, constants: &[Word], goal: &Chain) -> Result<Option<Vec<u8>>, AllocError>
     requires { IsGoal (length constants.now) goal.now }
     ensures { IfOk result (λ found. IfSome found (λ part. IsPartOf constants.now goal.now part.items)) }
 {

@@ -9,8 +9,8 @@ ghost use Rattle.ae_driver.specs.Stages.{place, expected, constant, after_consta
 ghost use Rattle.ae_driver.specs.declared.reader.Stage.TheVariants as stage;
 
 use crate::form::{Chain, Equation, Form};
-use ae_core::lists::List;
 use crate::tokens::{is_word, tokens};
+use ae_core::lists::List;
 use ae_core::words::Word;
 use std::alloc::{AllocError, Global};
 

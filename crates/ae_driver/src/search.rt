@@ -306,14 +306,7 @@ fn conclusion(
     ensures grows { Grows derivation.old derivation.new }
 {
     let back = derivation.turned(alloc, left.step, left.value, last.left)?;
-    let step = derivation.joined(
-        alloc,
-        back,
-        right.step,
-        last.left,
-        left.value,
-        last.right,
-    )?;
+    let step = derivation.joined(alloc, back, right.step, last.left, left.value, last.right)?;
     match step {
         Some(line) => Ok(line),
         None => derivation.refl(alloc, last.left),

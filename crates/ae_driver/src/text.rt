@@ -51,11 +51,7 @@ fn put_equation(out: &mut Vec<u8>, names: &[Word], of: Equation) -> Result<(), A
     put(out, b")")
 }
 
-fn put_openings(
-    out: &mut Vec<u8>,
-    names: &[Word],
-    hyps: &[Equation],
-) -> Result<(), AllocError>
+fn put_openings(out: &mut Vec<u8>, names: &[Word], hyps: &[Equation]) -> Result<(), AllocError>
     ensures { OnOk result (out.new.items ≡ out.old.items ++ flat_map (bytes.opening_bytes names.now) hyps.now) }
 {
     for hyp in hyps {
@@ -193,11 +189,7 @@ fn put_derived(out: &mut Vec<u8>, names: &[Word], line: &EqLine) -> Result<(), A
     }
 }
 
-fn put_derivation(
-    out: &mut Vec<u8>,
-    names: &[Word],
-    lines: &[EqLine],
-) -> Result<(), AllocError>
+fn put_derivation(out: &mut Vec<u8>, names: &[Word], lines: &[EqLine]) -> Result<(), AllocError>
     ensures { OnOk result (out.new.items ≡ out.old.items ++ flat_map (bytes.derived_bytes names.now) lines.now) }
 {
     for line in lines {

@@ -9,7 +9,7 @@ pub invariant_of-self-2 : goal.invariant_of-self-2
 invariant_of-self-2 c =
     subst (λ ls. IsDerivation c.self.inside.count c.self.inside.hyps ls) (sym c.in_ok-push.ensures.ok)
     (push _ _ _ _ c.self.invariant (subst (λ k. OfConstants k.count c.args.line) (sym c.self.view_is) c.requires.constants)
-      (subst (λ k. Allowed no_signature k.hyps k.lines c.args.line) (sym c.self.view_is) c.requires.allowed))
+    (subst (λ k. Allowed no_signature k.hyps k.lines c.args.line) (sym c.self.view_is) c.requires.allowed))
 
 pub returns-clause-at : goal.returns-clause-at
 returns-clause-at c = λ left right e below_left below_right. record {
