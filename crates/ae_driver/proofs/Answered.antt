@@ -1,25 +1,24 @@
 -- A refuted chain is a valid goal of its form's problem.
-use Rattle.std.specs.Prelude.{ℕ, zero, suc, ◌<◌, Bool, true, List, [], ◌∷◌, ◌++◌, ◌≡◌, map, length, slice_get, Option, Some, None, codes}
+use Rattle.std.specs.Prelude.{ℕ, zero, suc, ◌<◌, List, [], ◌∷◌, ◌≡◌, map, length, slice_get, Option, Some, None}
 use Rattle.std.specs.List.{AllByRecursion}
 use Rattle.std.proofs.Common.{refl, sym, ap, ◌∙◌, subst, arith}
 use Rattle.std.specs.Prelude.{Result, Ok, Err, IfOk, IfSome}
 use Rattle.std.specs.declared.alloc.AllocError.{AllocError}
-use Rattle.ae_core.specs.Decided.{Sorts_discrete, decided}
-use Rattle.ae_core.specs.Sorts.{◌>>=◌, or_else, only, sort_of, is_closed_sort, put_sort, symbol_sort, head_sort}
-use Rattle.ae_core.specs.Derivations.{Derives, goal_body}
+use Rattle.ae_core.specs.Decided.{Sorts_discrete}
+use Rattle.ae_core.specs.Sorts.{◌>>=◌, or_else, only, sort_of, is_closed_sort, put_sort, symbol_sort}
+use Rattle.ae_core.specs.Derivations.{goal_body}
 use Rattle.ae_core.proofs.SortLaws.{sort_in_apply, put_named}
-use Rattle.ae_core.specs.declared.terms.Sort.{Sort}
 use Rattle.ae_core.specs.declared.terms.Head.TheVariants.{Symbol}
 use Rattle.ae_core.specs.declared.problems.Item.TheVariants.{Axiom, Goal}
 use Rattle.ae_driver.specs.declared.form.Chain.{Chain}
 use Rattle.ae_driver.specs.declared.form.Form.{Form}
 use Rattle.ae_driver.specs.declared.search.Refutation.{Refutation}
-use Rattle.ae_driver.specs.Form.{IsForm, IsGoal, IsWithin, Reads}
+use Rattle.ae_driver.specs.Form.{IsForm, IsGoal, Reads}
 use Rattle.ae_driver.specs.Chains.{constant, chain, symbol_entry, goal_item, signature, problem, the_type, chain_proof}
 use Rattle.ae_driver.specs.Search.{Refutes, block_of}
-use Rattle.ae_driver.specs.Texts.{Names, proof_text}
+use Rattle.ae_driver.specs.Texts.{proof_text}
 use Rattle.ae_driver.specs.Bytes.{proof_bytes}
-use Rattle.ae_driver.specs.Output.{symbol_names, goal_name, IsValidPart, IsPartOf, Answers, valid_bytes}
+use Rattle.ae_driver.specs.Output.{goal_name, IsValidPart, IsPartOf, Answers, valid_bytes}
 use Rattle.ae_driver.proofs.Propagates.{decided_true}
 use Rattle.ae_driver.proofs.ChainProof.{derives}
 use Rattle.ae_driver.proofs.TextProof.{text_proof}

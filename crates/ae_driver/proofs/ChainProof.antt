@@ -1,29 +1,26 @@
 -- The proof of a chain derives its goal.
-use Rattle.std.proofs.Common.{◌≡◌, ℕ, zero, suc, ◌+◌, ◌<◌, Bool, true, false, not, ◌&&◌, List, [], ◌∷◌, ◌++◌, map, length, Option, Some, None, refl, sym, ap, ◌∙◌, subst, arith, append_assoc, append-nil, length-append}
-use Rattle.std.specs.Prelude.{slice_get, reverse}
-use Rattle.std.specs.List.{AllByRecursion, list_all}
-use Rattle.ae_core.specs.Sorts.{sort_of, sort_in, formula_ok, formula_in, is_closed_sort, same_known, ◌>>=◌, all_known, or_else}
-use Rattle.ae_core.specs.Lines.{Fact, equal, states, Stated, Given, Allowed, AllAllowed, fact_ok}
-use Rattle.ae_core.specs.Clauses.{Clause, literal, no_of, opposite, is_true, is_false, row, refutes}
-use Rattle.ae_core.specs.Derivations.{goal_body, conclusion, line_ok, HasConclusion, stated_by, hinted, is_refuted, Meets, IsAllowed, AreAllowed, last_of, Derives, IsContradictory, clause_ok, EndsNeq, Ends}
+use Rattle.std.proofs.Common.{◌≡◌, ℕ, ◌+◌, ◌<◌, true, false, ◌&&◌, List, [], ◌∷◌, ◌++◌, map, length, Option, Some, refl, sym, ap, ◌∙◌, subst, arith, append_assoc, append-nil, length-append}
+use Rattle.std.specs.Prelude.{slice_get}
+use Rattle.std.specs.List.{AllByRecursion}
+use Rattle.ae_core.specs.Sorts.{sort_of, formula_ok, is_closed_sort, same_known, ◌>>=◌, all_known, or_else}
+use Rattle.ae_core.specs.Lines.{states, Allowed, AllAllowed, fact_ok}
+use Rattle.ae_core.specs.Clauses.{Clause, no_of, opposite, is_true, is_false, row}
+use Rattle.ae_core.specs.Derivations.{goal_body, conclusion, stated_by, hinted, is_refuted, IsAllowed, AreAllowed, last_of, Derives, IsContradictory, clause_ok}
 use Rattle.ae_core.proofs.SortLaws.{formula_in_eq, formula_in_not, formula_in_or}
 use Rattle.ae_core.proofs.ClauseLaws.{literal_eq, literal_not, literal_or, row_or}
 use Rattle.ae_core.specs.declared.terms.Sort.{Sort}
-use Rattle.ae_core.specs.declared.formulas.Formula.{Formula, Eq, Or, Not}
+use Rattle.ae_core.specs.declared.formulas.Formula.{Not}
 use Rattle.ae_core.specs.declared.formulas.Lit.{Lit}
 use Rattle.ae_core.specs.declared.problems.Problem.{Problem}
 use Rattle.ae_core.specs.declared.problems.Signature.{Signature}
 use Rattle.ae_core.specs.declared.proofs.EqLine.{EqLine}
 use Rattle.ae_core.specs.declared.proofs.EqLine.TheVariants.{EqHyp, EqRefl, EqSym, EqTrans, EqCong, EqAc, EqLin, EqField, EqFields, LeHyp, LtHyp, LeSum, LtSum, LeRound}
-use Rattle.ae_core.specs.declared.proofs.Ending.{Ending}
-use Rattle.ae_core.specs.declared.proofs.Ending.TheVariants.{Neq}
-use Rattle.ae_core.specs.declared.proofs.Block.{Block}
 use Rattle.ae_core.specs.declared.proofs.ClauseLine.{ClauseLine}
 use Rattle.ae_core.specs.declared.proofs.ClauseLine.TheVariants.{Goal, Def, Block as BlockLine, Rup}
 use Rattle.ae_driver.specs.declared.form.Equation.{Equation}
-use Rattle.ae_driver.specs.Chains.{constant, equation, chain, assumed, defs, hints, proof_lines, chain_proof}
+use Rattle.ae_driver.specs.Chains.{constant, equation, chain, assumed, defs, hints, chain_proof}
 use Rattle.ae_driver.specs.Form.{IsWithin}
-use Rattle.ae_driver.specs.Search.{OfConstants, IsDerivation, Refutes, block_of, no_signature, any}
+use Rattle.ae_driver.specs.Search.{OfConstants, Refutes, block_of, no_signature, any}
 use Rattle.ae_driver.specs.declared.search.Refutation.{Refutation}
 use Rattle.ae_driver.proofs.Growing.{get_seam, last_assumed}
 use Rattle.ae_driver.proofs.Propagates.{four, five, denied, hinted_clauses, propagates_all, decided_true, both_true}

@@ -1,5 +1,5 @@
 -- Lines that are added to a derivation, and values that change.
-use Rattle.std.proofs.Common.{◌≡◌, ℕ, zero, suc, ◌+◌, ◌<◌, Bool, true, List, [], ◌∷◌, ◌++◌, length, Option, Some, None, refl, sym, ap, ◌∙◌, subst, arith, append_assoc, append-nil, length-append, get_or, set, map, ⊎_elim}
+use Rattle.std.proofs.Common.{◌≡◌, ℕ, zero, suc, ◌<◌, List, [], ◌∷◌, ◌++◌, length, Option, Some, None, refl, sym, ap, ◌∙◌, subst, arith, append_assoc, append-nil, length-append, get_or, set, map, ⊎_elim}
 use Rattle.std.specs.Prelude.{slice_get, Result, Ok, Err, IfOk}
 use Rattle.std.specs.declared.alloc.AllocError.{AllocError}
 use Rattle.ae_core.specs.declared.terms.Term.{Term}
@@ -11,12 +11,10 @@ use Rattle.std.proofs.lemmas.Bool.Decides.{eqb_tells}
 use Rattle.std.proofs.lemmas.List.{get_or-set_other, length-set}
 use Rattle.std.proofs.lemmas.Grind.{get_or-set_at}
 use Rattle.ae_core.specs.Clauses.{is_true, is_false}
-use Rattle.ae_core.specs.Lines.{Fact, equal, states, Stated, Allowed, AllAllowed}
+use Rattle.ae_core.specs.Lines.{Fact, equal, states, Stated, Allowed}
 use Rattle.ae_core.proofs.Written.{all_append}
 use Rattle.ae_core.specs.declared.formulas.Lit.{Lit}
 use Rattle.ae_core.specs.declared.proofs.EqLine.{EqLine}
-use Rattle.ae_core.specs.declared.proofs.Deriv.{Deriv}
-use Rattle.ae_core.specs.declared.proofs.Ending.TheVariants.{Neq}
 use Rattle.ae_core.specs.Sorts.{◌>>=◌}
 use Rattle.ae_driver.specs.Chains.{constant, equation, assumed}
 use Rattle.ae_driver.specs.declared.form.Equation.{Equation}

@@ -1,12 +1,12 @@
 -- Unit propagation through the clauses of a chain's proof.
 -- False along the way are implications and hypotheses' negations alone: an implication `A -> B` becomes false, and each equation true.
-use Rattle.std.specs.Prelude.{ℕ, zero, suc, ◌+◌, Bool, true, false, not, cond, ◌&&◌, ◌||◌, List, [], ◌∷◌, ◌++◌, ◌≡◌, map, length, slice_get, Option, Some, None, ◌⊎◌}
-use Rattle.std.specs.List.{list_any, list_all}
+use Rattle.std.specs.Prelude.{Bool, true, false, not, cond, ◌&&◌, ◌||◌, List, [], ◌∷◌, ◌++◌, ◌≡◌, map, Option, Some, None, ◌⊎◌}
+use Rattle.std.specs.List.{list_all}
 use Rattle.std.proofs.Common.{refl, sym, ap, ◌∙◌, subst, true≢false, inl, inr, ⊎_elim}
 use Rattle.ae_core.specs.Decided.{decided, Lit_discrete}
 use Rattle.ae_core.specs.Sorts.{when}
 use Rattle.ae_core.specs.Clauses.{Clause, opposite, is_true, is_false, stands, has_true, is_or_stands, next_false, refutes}
-use Rattle.ae_core.specs.declared.formulas.Formula.{Formula, Formula-F, out-Formula, Eq, Or, Not}
+use Rattle.ae_core.specs.declared.formulas.Formula.{Formula, Formula-F, out-Formula, Or}
 use Rattle.ae_core.specs.declared.formulas.Formula.TheOpen as layer
 use Rattle.ae_core.specs.declared.formulas.Formula.TheVariants.{outs-Eq, outs-Or}
 use Rattle.ae_core.specs.declared.formulas.Quant.{Quant}

@@ -1,10 +1,9 @@
 -- The proof of a chain has a text, and it is the bytes that the writers make.
-use Rattle.std.specs.Prelude.{ℕ, zero, suc, ◌+◌, ◌<◌, ◌≤◌, Bool, true, false, List, [], ◌∷◌, ◌++◌, ◌≡◌, map, length, drop, slice_get, slice_index_or, Option, Some, None, codes, decimal}
+use Rattle.std.specs.Prelude.{ℕ, zero, suc, ◌+◌, ◌<◌, Bool, true, false, List, [], ◌∷◌, ◌++◌, ◌≡◌, map, length, slice_get, Option, Some, codes, decimal}
 use Rattle.std.specs.List.{AllByRecursion, flat_map}
-use Rattle.std.proofs.Common.{refl, sym, ap, ◌∙◌, subst, arith, append_assoc, append-nil}
+use Rattle.std.proofs.Common.{refl, sym, ap, ◌∙◌, arith, append_assoc, append-nil}
 use Rattle.ae_core.specs.Sorts.{◌>>=◌}
-use Rattle.ae_core.specs.Lines.{Fact, equal, states, Allowed, AllAllowed}
-use Rattle.ae_core.specs.Clauses.{is_true, is_false}
+use Rattle.ae_core.specs.Lines.{equal, states, Allowed, AllAllowed}
 use Rattle.ae_core.specs.declared.terms.Term.{Term}
 use Rattle.ae_core.specs.declared.terms.Head.TheVariants.{Symbol}
 use Rattle.ae_core.specs.declared.terms.Term.TheVariants.{outs-Apply}
@@ -15,14 +14,14 @@ use Rattle.ae_core.specs.declared.formulas.Lit.{Lit}
 use Rattle.ae_core.specs.declared.proofs.EqLine.{EqLine}
 use Rattle.ae_core.specs.declared.proofs.EqLine.TheVariants.{EqHyp, EqRefl, EqSym, EqTrans, EqCong, EqAc, EqLin, EqField, EqFields, LeHyp, LtHyp, LeSum, LtSum, LeRound}
 use Rattle.ae_core.specs.declared.proofs.ClauseLine.{ClauseLine}
-use Rattle.ae_core.specs.declared.proofs.ClauseLine.TheVariants.{Goal, Def, Block as BlockLine, Rup}
+use Rattle.ae_core.specs.declared.proofs.ClauseLine.TheVariants.{Def, Block as BlockLine, Rup}
 use Rattle.ae_driver.specs.declared.form.Equation.{Equation}
 use Rattle.ae_driver.specs.declared.search.Refutation.{Refutation}
-use Rattle.ae_driver.specs.Chains.{constant, equation, chain, assumed, defs, hints, proof_lines, chain_proof}
+use Rattle.ae_driver.specs.Chains.{constant, equation, chain, assumed, defs, hints, chain_proof}
 use Rattle.ae_driver.specs.Form.{IsWithin}
-use Rattle.ae_driver.specs.Search.{OfConstants, IsDerivation, Refutes, block_of, no_signature, any}
-use Rattle.ae_driver.specs.Texts.{Names, term_text, term_layer_text, formula_text, formula_text_step, of_two, of_one, literal_text, unless_negation, is_negation, sign_text, sides_text, derived_text, ending_text, in_order, hypothesis_text, block_text, numbers_text, line_text, proof_text}
-use Rattle.ae_driver.specs.Bytes.{name_bytes, equation_bytes, opening_bytes, closing_bytes, chain_bytes, def_bytes, defs_bytes, hypothesis_bytes, assumed_bytes, term_bytes, head_bytes, derived_bytes, ending_bytes, rup_bytes, proof_bytes}
+use Rattle.ae_driver.specs.Search.{OfConstants, Refutes, block_of, no_signature, any}
+use Rattle.ae_driver.specs.Texts.{Names, term_text, term_layer_text, formula_text, formula_text_step, of_two, of_one, literal_text, unless_negation, is_negation, sign_text, sides_text, derived_text, in_order, hypothesis_text, block_text, line_text, proof_text}
+use Rattle.ae_driver.specs.Bytes.{name_bytes, equation_bytes, opening_bytes, closing_bytes, chain_bytes, def_bytes, defs_bytes, hypothesis_bytes, assumed_bytes, term_bytes, derived_bytes, ending_bytes, rup_bytes, proof_bytes}
 use Rattle.ae_driver.proofs.TextLaws.{bytes_apply}
 
 -- ---- formulas

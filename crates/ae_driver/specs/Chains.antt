@@ -1,5 +1,5 @@
 -- The problem of a text of the first form, and the proof of a goal.
-use Rattle.std.specs.Prelude.{◌≡◌, ℕ, ◌+◌, List, [], ◌∷◌, ◌++◌, map, length, Option, Some, None}
+use Rattle.std.specs.Prelude.{ℕ, ◌+◌, List, [], ◌∷◌, ◌++◌, map, length, Some}
 use Rattle.ae_core.specs.Clauses.{is_true, is_false}
 use Rattle.ae_core.specs.declared.terms.Sort.{Sort, Named}
 use Rattle.ae_core.specs.declared.terms.Head.TheVariants.{Symbol}

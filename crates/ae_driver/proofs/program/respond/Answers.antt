@@ -1,4 +1,4 @@
-use Rattle.std.proofs.Common.{◌≡◌, [], ◌∷◌, ◌∙◌, sym, ap, subst, length}
+use Rattle.std.proofs.Common.{◌≡◌, [], ◌∷◌, ◌∙◌, sym, subst}
 use Rattle.ae_driver.specs.Form.{Reads}
 use Rattle.ae_driver.specs.Output.{Answers, IsPartOf}
 use Rattle.ae_driver.proofs.Answered.{answered, if_part}

@@ -1,6 +1,5 @@
-use Rattle.std.proofs.Common.{refl, ap, sym, subst, ◌∙◌}
-use Rattle.ae_core.specs.Lines.{Given, Stated, equal, states}
-use Rattle.ae_core.specs.declared.proofs.EqLine.TheVariants.{EqHyp, EqRefl, EqSym, EqTrans}
+use Rattle.std.proofs.Common.{refl}
+use Rattle.ae_core.specs.declared.proofs.EqLine.TheVariants.{EqRefl}
 use Rattle.ae_driver.proofs.Growing.{sides, told, fewer}
 use Rattle.ae_driver.proofs.derivation.Derivation.refl.Goals as goal
 
