@@ -10,3 +10,6 @@ mod text;
 mod tokens;
 
 pub use program::{INPUT_LIMIT, Status, run};
+
+#[cfg(test)]
+mod tests;
