@@ -1,27 +1,45 @@
 -- A refuted chain is a valid goal of its form's problem.
-use Rattle.std.specs.Prelude.{ℕ, zero, suc, ◌<◌, List, [], ◌∷◌, ◌≡◌, map, length, slice_get, Option, Some, None}
+use Rattle.std.specs.Prelude.{ℕ, zero, suc, ◌+◌, ◌<◌, ◌≤◌, ◌⊎◌, true, List, [], ◌∷◌, ◌++◌, ◌≡◌, map, length, get_or, take, slice_get, ◌≢◌, Option, Some, None, IfSome, Result, Ok, Err, IfOk}
 use Rattle.std.specs.List.{AllByRecursion}
-use Rattle.std.proofs.Common.{refl, sym, ap, ◌∙◌, subst, arith}
-use Rattle.std.specs.Prelude.{Result, Ok, Err, IfOk, IfSome}
-use Rattle.std.specs.declared.alloc.AllocError.{AllocError}
+use Rattle.std.proofs.Common.{refl, sym, ap, ◌∙◌, subst, arith, true≢false, inl, inr, ⊎_elim, append_assoc, append-nil, length-append}
 use Rattle.ae_core.specs.Decided.{Sorts_discrete}
-use Rattle.ae_core.specs.Sorts.{◌>>=◌, or_else, only, sort_of, is_closed_sort, put_sort, symbol_sort}
+use Rattle.ae_core.specs.Sorts.{◌>>=◌, or_else, only, known, sort_of, term_ok, is_closed_sort, put_sort, symbol_sort}
+use Rattle.ae_core.specs.Clauses.{no_of}
 use Rattle.ae_core.specs.Derivations.{goal_body}
 use Rattle.ae_core.proofs.SortLaws.{sort_in_apply, put_named}
+use Rattle.ae_core.specs.declared.terms.Term.{Term}
 use Rattle.ae_core.specs.declared.terms.Head.TheVariants.{Symbol}
+use Rattle.ae_core.specs.declared.formulas.Formula.{Formula}
+use Rattle.ae_core.specs.declared.problems.Problem.{Problem}
 use Rattle.ae_core.specs.declared.problems.Item.TheVariants.{Axiom, Goal}
 use Rattle.ae_driver.specs.declared.form.Chain.{Chain}
 use Rattle.ae_driver.specs.declared.form.Form.{Form}
+use Rattle.ae_driver.specs.declared.search.Named.{Named}
 use Rattle.ae_driver.specs.declared.search.Refutation.{Refutation}
-use Rattle.ae_driver.specs.Form.{IsForm, IsGoal, Reads}
+use Rattle.ae_driver.specs.Form.{IsForm, IsGoal}
 use Rattle.ae_driver.specs.Chains.{constant, chain, symbol_entry, goal_item, signature, problem, the_type, chain_proof}
-use Rattle.ae_driver.specs.Search.{Refutes, block_of}
+use Rattle.ae_driver.specs.Search.{Refutes, IsOpen, block_of}
 use Rattle.ae_driver.specs.Texts.{proof_text}
 use Rattle.ae_driver.specs.Bytes.{proof_bytes}
-use Rattle.ae_driver.specs.Output.{goal_name, IsValidPart, IsPartOf, Answers, valid_bytes}
+use Rattle.ae_driver.specs.Values.{numbers_of}
+use Rattle.ae_driver.specs.Truth.{truth}
+use Rattle.ae_driver.specs.StateTexts.{state_text}
+use Rattle.ae_driver.specs.StateChains.{constants_from, state_of}
+use Rattle.ae_driver.specs.StateBytes.{state_bytes, unknown_bytes}
+use Rattle.ae_driver.specs.States.{alike, IsConstant, IsCompleted, IsSaturated}
+use Rattle.ae_driver.specs.Output.{goal_name, IsValidPart, IsUnknownPart, IsPart, IsPartOf, by_refutation, by_values, AreParts, PartEnds, HasParts, GoalsEnd, TextEnds, IsDone, IsRefusedByForm, IsOutOfMemory, IsCutOff, IsOffered, IsRead, IsTooLong, writes_parts, writes_no_form, valid_bytes}
+use Rattle.ae_driver.specs.Form.{Reads}
+use Rattle.ae_driver.specs.declared.program.Status.{Status}
+use Rattle.ae_driver.specs.declared.program.Status.TheVariants as status
+use Rattle.ae_io.specs.Moves.{Written, Lost, Untold, Told, Gets, GetsPrefix, Rose}
+use Rattle.ae_io.proofs.Moves.{gets_then}
 use Rattle.ae_driver.proofs.Propagates.{decided_true}
-use Rattle.ae_driver.proofs.ChainProof.{derives}
+use Rattle.ae_driver.proofs.ChainProof.{derives, no_chain}
+use Rattle.ae_driver.proofs.Soundness.{sound}
 use Rattle.ae_driver.proofs.TextProof.{text_proof}
+use Rattle.ae_driver.proofs.StateTextProof.{text_state}
+use Rattle.ae_driver.proofs.ValueFacts.{IsValues, Same, values_are, hypotheses_same}
+use Rattle.ae_driver.proofs.Saturated.{constant_inj, all_among, first_literal, alike_equality, consistent, equal_sides, apart_sides, goal_is_false, all_named, all_apart}
 
 none_some : {Y : Type 0} {y : Y} → ◌≡◌ {A = Option Y} None (Some y) → ⊥
 none_some e = cc
@@ -64,8 +82,20 @@ module _ (f : Form) where
   name_is : (k : ℕ) (g : Chain) → slice_get f.goals k ≡ Some g → goal_name (problem f) k ≡ Some g.name
   name_is k g e = ap (λ o. o >>= λ i. elim i [ Axiom n v b ↦ None | Goal n v b ↦ Some n ]) (get_map goal_item f.goals k g e)
 
+  body_of : (k : ℕ) (g : Chain) (b : Formula) → slice_get f.goals k ≡ Some g → goal_body (problem f) k ≡ Some b → chain g.hyps g.last ≡ b
+  body_of k g b e h = ap (λ o. or_else o (chain g.hyps g.last)) (sym (body_is k g e) ∙ h)
+
+  -- the items are goals, so no axiom is among them
+  no_axiom : (gs : List Chain) (i : ℕ) (name : List ℕ) (b : Formula) → slice_get (map goal_item gs) i ≡ Some (Axiom name 0 b) → ⊥
+  no_axiom [] i name b e = none_some e
+  no_axiom (g ∷ gs) zero name b e = goal_is_no_axiom (ap (λ o. or_else o (goal_item g)) e)
+    where
+      goal_is_no_axiom : goal_item g ≡ Axiom name 0 b → ⊥
+      goal_is_no_axiom h = cc
+  no_axiom (g ∷ gs) (suc i) name b e = no_axiom gs i name b e
+
   -- the part of a goal that is refuted
-  pub valid_part : (k : ℕ) (g : Chain) (r : Refutation) → IsForm f → slice_get f.goals k ≡ Some g → Refutes (length f.constants) g.hyps g.last r
+  valid_part : (k : ℕ) (g : Chain) (r : Refutation) → IsForm f → slice_get f.goals k ≡ Some g → Refutes (length f.constants) g.hyps g.last r
       → IsValidPart (problem f) k (valid_bytes f.constants g r)
   valid_part k g r is e h =
       let ok : IsGoal (length f.constants) g = all_at (IsGoal (length f.constants)) f.goals k g is.goals e in
@@ -79,23 +109,209 @@ module _ (f : Form) where
         written = refl;
       }
 
--- the one goal of a form is a goal of the form
-pub one_goal : (f : Form) (g : Chain) → f.goals ≡ g ∷ [] → IsForm f → IsGoal (length f.constants) g
-one_goal f g one is = all_at (IsGoal (length f.constants)) f.goals 0 g is.goals (ap (λ gs. slice_get gs 0) one)
+  -- ---- the system of the constants
+  get_constants : (n k i : ℕ) (t : Term) → slice_get (constants_from k n) i ≡ Some t → (i < n) × (t ≡ constant (k + i))
+  get_constants zero k i t e = absurd (none_some e)
+  get_constants (suc n) k zero t e = (omega arith, sym (ap (λ o. or_else o (constant k)) e) ∙ ap constant (let h : k ≡ k + 0 = omega arith in h))
+  get_constants (suc n) k (suc i) t e =
+      let r = get_constants n (k + 1) i t e in (omega (arith, r.0), r.1 ∙ ap constant (let h : (k + 1) + i ≡ k + suc i = omega arith in h))
 
--- the answer to a text with one goal
-pub answered : (text bytes : List ℕ) (f : Form) (g : Chain) → Reads text f → f.goals ≡ g ∷ [] → IsPartOf f.constants g bytes → Answers text bytes
-answered text bytes f g reads one h = record {
-  form = f;
-  reads = reads;
-  goal = g;
-  one = one;
-  part = subst (λ b. IsValidPart (problem f) 0 b) (sym h.are) (valid_part f 0 g h.refutation reads.is_form (ap (λ gs. slice_get gs 0) one) h.refutes);
-}
+  constants_ok : (n k : ℕ) → k + n ≤ length f.constants → AllByRecursion (λ t. term_ok (signature f) t ≡ true) (constants_from k n)
+  constants_ok zero k le = tt
+  constants_ok (suc n) k le = (ap known (constants_fit k (omega (arith, le))), constants_ok n (k + 1) (omega (arith, le)))
 
--- what is known of a part that may be there
-pub if_part : {X : Type 0} (items : X → List ℕ) (P Q : List ℕ → Type 0) → ((xs : List ℕ) → P xs → Q xs) → (r : Result (Option X) AllocError)
-    → IfOk r (λ found. IfSome found (λ x. P (items x))) → IfOk r (λ found. IfSome found (λ x. Q (items x)))
-if_part items P Q f (Ok None) h = h
-if_part items P Q f (Ok (Some x)) h = f (items x) h
-if_part items P Q f (Err e) h = h
+  constants_plain : (n k : ℕ) → AllByRecursion IsConstant (constants_from k n)
+  constants_plain zero k = tt
+  constants_plain (suc n) k = (record { head = Symbol k; sorts = []; is = refl }, constants_plain n (k + 1))
+
+  length_constants : (n k : ℕ) → length (constants_from k n) ≡ n
+  length_constants zero k = refl
+  length_constants (suc n) k = ap (λ m. suc m) (length_constants n (k + 1))
+
+  get_within : (vs : List ℕ) (k v : ℕ) → slice_get vs k ≡ Some v → (k < length vs) × (get_or vs k 0 ≡ v)
+  get_within [] k v e = absurd (none_some e)
+  get_within (x ∷ vs) zero v e = (omega arith, ap (λ o. or_else o x) e)
+  get_within (x ∷ vs) (suc k) v e = let r = get_within vs k v e in (omega (arith, r.0), r.1)
+
+  get_some : (vs : List ℕ) (k : ℕ) → k < length vs → slice_get vs k ≡ Some (get_or vs k 0)
+  get_some [] k lt = absurd (omega (arith, lt))
+  get_some (x ∷ vs) zero lt = refl
+  get_some (x ∷ vs) (suc k) lt = get_some vs k (omega (arith, lt))
+
+  leaf_values : (n : ℕ) (vs : List ℕ) → IsValues n vs → (k v : ℕ) → slice_get vs k ≡ Some v → slice_get vs v ≡ Some v
+  leaf_values n vs is k v e =
+      let r = get_within vs k v e in
+      let lt : k < n = subst (λ m. k < m) is.count r.0 in
+      let within : v < n = subst (λ u. u < n) r.1 (is.within k lt) in
+      let leaf : get_or vs v 0 ≡ v = subst (λ u. get_or vs u 0 ≡ u) r.1 (is.leaf k lt) in
+      get_some vs v (subst (λ m. v < m) (sym is.count) within) ∙ ap Some leaf
+
+  pub completed : (vs : List ℕ) → IsValues (length f.constants) vs → IsCompleted (signature f) (record { names = constants_from 0 (length f.constants); values = vs })
+  completed vs is =
+      let n = length f.constants in
+      let number : (i : ℕ) (t : Term) → slice_get (constants_from 0 n) i ≡ Some t → (i < n) × (t ≡ constant i) =
+      λ i t e. let r = get_constants n 0 i t e in (r.0, r.1 ∙ ap constant (let h : 0 + i ≡ i = omega arith in h)) in
+      record {
+        counted = is.count ∙ sym (length_constants n 0);
+        well_sorted = constants_ok n 0 (omega arith);
+        different = λ i j t e h. constant_inj i j (sym (number i t e).1 ∙ (number j t h).1);
+        constants = constants_plain n 0;
+        leaves = all_among (λ v. slice_get vs v ≡ Some v) vs (leaf_values n vs is);
+        sorts = λ k v t u e a b.
+            let x = number k t a in
+            let y = number v u b in
+            ap (sort_of (signature f)) x.1 ∙ constants_fit k x.0 ∙ sym (ap (sort_of (signature f)) y.1 ∙ constants_fit v y.0);
+      }
+
+  -- the state of a goal whose sides have different values
+  pub saturated : (k : ℕ) (g : Chain) (vs : List Named) → IsForm f → slice_get f.goals k ≡ Some g → IsOpen (length f.constants) g.hyps g.last vs
+      → IsSaturated (problem f) k (state_of (length f.constants) g.hyps g.last (numbers_of vs))
+  saturated k g vs is e open_values =
+      let n = length f.constants in
+      let ok : IsGoal n g = all_at (IsGoal n) f.goals k g is.goals e in
+      let values : IsValues n (numbers_of vs) = subst (IsValues n) (sym open_values.numbers) (values_are n g.hyps ok.hyps) in
+      let same : AllByRecursion (Same (numbers_of vs)) g.hyps = subst (λ z. AllByRecursion (Same z) g.hyps) (sym open_values.numbers) (hypotheses_same n g.hyps ok.hyps) in
+      record {
+        completed = completed (numbers_of vs) values;
+        named = all_named n g.hyps g.last (numbers_of vs) ok.hyps ok.last values same open_values.apart;
+        consistent = consistent n g.hyps g.last (numbers_of vs) ok.hyps ok.last values same open_values.apart;
+        hypotheses = λ i name b lt h. absurd (no_axiom f.goals i name b h);
+        goal = λ b h. (0, first_literal g.hyps g.last ∙ ap Some (sym (no_chain g.hyps g.last) ∙ ap no_of (body_of k g b e h)));
+        taken_apart = all_apart n g.hyps g.last (numbers_of vs) ok.hyps ok.last values same open_values.apart;
+        equal = equal_sides n g.hyps g.last (numbers_of vs) ok.hyps ok.last values same open_values.apart;
+        apart = apart_sides n g.hyps g.last (numbers_of vs) ok.hyps ok.last values same open_values.apart;
+        goal_false = λ b h. ap (truth (alike (record { names = constants_from 0 n; values = numbers_of vs }))) (sym (body_of k g b e h)) ∙ goal_is_false n g.hyps g.last (numbers_of vs) ok.hyps ok.last values same open_values.apart;
+      }
+
+  unknown_part : (k : ℕ) (g : Chain) (vs : List Named) → IsForm f → slice_get f.goals k ≡ Some g → IsOpen (length f.constants) g.hyps g.last vs
+      → IsUnknownPart (problem f) k (unknown_bytes f.constants g vs)
+  unknown_part k g vs is e open_values =
+      let n = length f.constants in
+      let ok : IsGoal n g = all_at (IsGoal n) f.goals k g is.goals e in
+      let state = state_of n g.hyps g.last (numbers_of vs) in
+      let sat = saturated k g vs is e open_values in
+      record {
+        name = g.name;
+        is_name = name_is k g e;
+        state = state;
+        saturated = sat;
+        none_derives = λ proof d. true≢false (sym (sound (alike state.system) (alike_equality state.system) (problem f) k proof (chain g.hyps g.last) d (body_is k g e)) ∙ sat.goal_false (chain g.hyps g.last) (body_is k g e));
+        text = state_bytes f.constants g.hyps g.last vs;
+        is_text = ap (λ m. state_text m state) (names_are f.constants) ∙ text_state f.constants g.hyps g.last vs ok.hyps ok.last;
+        written = refl;
+      }
+
+  -- the part of a goal
+  pub goal_is_part : (k : ℕ) (g : Chain) (part : List ℕ) → IsForm f → slice_get f.goals k ≡ Some g → IsPartOf f.constants g part → IsPart (problem f) k part
+  goal_is_part k g part is e (by_refutation r h are) = inl (subst (IsValidPart (problem f) k) (sym are) (valid_part k g r is e h))
+  goal_is_part k g part is e (by_values vs h are) = inr (subst (IsUnknownPart (problem f) k) (sym are) (unknown_part k g vs is e h))
+
+-- ---- parts in order
+-- one part more
+pub parts_more : (p : Problem) (k n : ℕ) (bytes part : List ℕ) → AreParts p k n bytes → IsPart p (k + n) part → AreParts p k (suc n) (bytes ++ part)
+parts_more p k zero bytes part a h =
+    (part, [], ap (λ z. z ++ part) a ∙ sym (append-nil part), subst (λ j. IsPart p j part) (let e : k + 0 ≡ k = omega arith in e) h, refl)
+parts_more p k (suc n) bytes part (first, rest, cut, is, more) h =
+    (first, rest ++ part, ap (λ z. z ++ part) cut ∙ append_assoc first rest part, is, parts_more p (suc k) n rest part more (subst (λ j. IsPart p j part) (let e : k + suc n ≡ suc k + n = omega arith in e) h))
+
+-- ---- what the sink got
+front_of : (xs ys : List ℕ) (n : ℕ) → take (length xs + n) (xs ++ ys) ≡ xs ++ take n ys
+front_of [] ys n = ap (λ m. take m ys) (let e : 0 + n ≡ n = omega arith in e)
+front_of (x ∷ xs) ys n = ap (λ m. take m (x ∷ xs ++ ys)) (let e : length {A = ℕ} (x ∷ xs) + n ≡ suc (length xs + n) = omega arith in e) ∙ ap (λ z. x ∷ z) (front_of xs ys n)
+
+prefix_then : (a b c : Written) (xs ys : List ℕ) → Gets a b xs → GetsPrefix b c ys → GetsPrefix a c (xs ++ ys)
+prefix_then a b c xs ys h (n, lt, k) =
+    (length xs + n, omega (arith, lt, length-append xs ys), subst (λ z. Gets a c z) (sym (front_of xs ys n)) (gets_then a b c xs (take n ys) h k))
+
+gets_nothing : (a : Written) → Gets a a []
+gets_nothing Lost = tt
+gets_nothing Untold = tt
+gets_nothing (Told xs) = sym (append-nil xs)
+
+module _ (f : Form) (is : IsForm f) where
+  pub nothing_yet : (a : Written) → HasParts f 0 a a
+  nothing_yet a = record { bytes = []; parts = refl; written = gets_nothing a }
+
+  with_part : (i : ℕ) (g : Chain) (bytes part : List ℕ) → slice_get f.goals i ≡ Some g → AreParts (problem f) 0 i bytes → IsPartOf f.constants g part → AreParts (problem f) 0 (i + 1) (bytes ++ part)
+  with_part i g bytes part e a h =
+      subst (λ m. AreParts (problem f) 0 m (bytes ++ part)) (let n : suc i ≡ i + 1 = omega arith in n)
+      (parts_more (problem f) 0 i bytes part a (subst (λ m. IsPart (problem f) m part) (let z : i ≡ 0 + i = omega arith in z) (goal_is_part f i g part is e h)))
+
+  pub part_done : (i : ℕ) (g : Chain) (a b c : Written) → slice_get f.goals i ≡ Some g → HasParts f i a b → PartEnds f.constants g b c status.Done → HasParts f (i + 1) a c
+  part_done i g a b c e h (part, is_part, got) =
+      record { bytes = h.bytes ++ part; parts = with_part i g h.bytes part e h.parts is_part; written = gets_then a b c h.bytes part h.written got }
+
+  pub part_cut : (i : ℕ) (g : Chain) (a b c : Written) → slice_get f.goals i ≡ Some g → i < length f.goals → HasParts f i a b → PartEnds f.constants g b c status.WriteFault → GoalsEnd f a c status.WriteFault
+  part_cut i g a b c e lt h (part, is_part, got) =
+      (i + 1, omega (arith, lt), record { bytes = h.bytes ++ part; parts = with_part i g h.bytes part e h.parts is_part; written = prefix_then a b c h.bytes part h.written got })
+
+  -- a goal that isn't done ends the answers
+  pub part_ends : (i : ℕ) (g : Chain) (a b c : Written) (s : Status) → slice_get f.goals i ≡ Some g → i < length f.goals → HasParts f i a b → PartEnds f.constants g b c s → (s ≡ status.Memory → c ≡ b) → s ≢ status.Done → GoalsEnd f a c s
+  part_ends i g a b c status.Done e lt h p m n = absurd (n refl)
+  part_ends i g a b c status.WriteFault e lt h p m n = part_cut i g a b c e lt h p
+  part_ends i g a b c status.Memory e lt h p m n = (i, omega (arith, lt), subst (λ w. HasParts f i a w) (sym (m refl)) h)
+  part_ends i g a b c status.Refused e lt h p m n = absurd p
+  part_ends i g a b c status.ReadFault e lt h p m n = absurd p
+  part_ends i g a b c status.Usage e lt h p m n = absurd p
+
+-- what a text's end says of a run
+pub done_is : (left : Option (List ℕ)) (text : List ℕ) (a c : Written) → IsRead left text → TextEnds text a c status.Done → IsDone left a c
+done_is left text a c r (bytes, legal, got) = record { text = text; read = r; bytes = bytes; answers = legal; written = got }
+
+pub refused_is : (left : Option (List ℕ)) (text : List ℕ) (a c : Written) → IsRead left text → TextEnds text a c status.Refused → IsRefusedByForm left a c
+refused_is left text a c r (none, got) = record { text = text; read = r; no_form = none; written = got }
+
+pub memory_is : (left : Option (List ℕ)) (text : List ℕ) (a c : Written) → IsRead left text → TextEnds text a c status.Memory → IsOutOfMemory left a c
+memory_is left text a c r (bytes, begun, got) = record { bytes = bytes; begun = ⊎_elim (λ e. inl e) (λ b. inr (text, r, b)) begun; written = got }
+
+pub cut_off_is : (left : Option (List ℕ)) (text : List ℕ) (a c : Written) → IsRead left text → TextEnds text a c status.WriteFault → IsCutOff left a c
+cut_off_is left text a c r (bytes, may, got) =
+    record { bytes = bytes; may = ⊎_elim (λ b. writes_parts text r b) (λ n. writes_no_form text r n.0 n.1) may; written = got }
+
+pub no_memory_yet : (left : Option (List ℕ)) (a : Written) → IsOutOfMemory left a a
+no_memory_yet left a = record { bytes = []; begun = inl refl; written = gets_nothing a }
+
+pub is_read : (left : Option (List ℕ)) (text : List ℕ) → IfSome left (λ xs. text ≡ xs) → length text ≤ 16777216 → IsRead left text
+is_read None text told le = record { told = tt; within = le }
+is_read (Some xs) text told le = record { told = sym told; within = le }
+
+pub is_too_long : (left : Option (List ℕ)) → IfSome left (λ xs. 16777216 < length xs) → IsTooLong left
+is_too_long None h = tt
+is_too_long (Some xs) h = h
+
+-- what is known of an answer, in other words
+pub in_words : {X E : Type 0} (r : Result X E) (P Q : X → Type 0) → ((x : X) → P x → Q x) → IfOk r P → IfOk r Q
+in_words (Ok x) P Q f h = f x h
+in_words (Err e) P Q f h = h
+
+-- a count that rose after a part of a call rose in the whole call
+pub rose_later : (a b c : ℕ) → a ≤ b → Rose b c → Rose a c
+rose_later a b c le r = ⊎_elim (λ lt. inl (omega (arith, le, lt))) (λ e. inr e) r
+
+-- an item of a list at a place, read in two ways
+pub item_at : {X : Type 0} (xs ys : List X) (i : ℕ) (x : X) → x ≡ get_or xs i x → i < length xs → xs ≡ ys → (slice_get ys i ≡ Some x) × (i < length ys)
+item_at xs ys i x e lt same = (subst (λ zs. slice_get zs i ≡ Some x) same (go xs i x lt ∙ ap Some (sym e)), subst (λ zs. i < length zs) same lt)
+  where
+    go : {X : Type 0} (xs : List X) (i : ℕ) (d : X) → i < length xs → slice_get xs i ≡ Some (get_or xs i d)
+    go [] i d lt = absurd (omega (arith, lt))
+    go (x ∷ xs) zero d lt = refl
+    go (x ∷ xs) (suc i) d lt = go xs i d (omega (arith, lt))
+
+-- a text that was told
+told_is : (left : Option (List ℕ)) (text told : List ℕ) → left ≡ Some told → IfSome left (λ xs. text ≡ xs) → text ≡ told
+told_is None text told e h = absurd (none_some e)
+told_is (Some xs) text told e h = h ∙ ap (λ o. or_else o xs) e
+
+-- a text of the form is answered where no write fails
+pub complete_is : (left : Option (List ℕ)) (text : List ℕ) (a c : Written) (s : Status) (R : Type 0) → IsOffered left → IfSome left (λ xs. text ≡ xs) → TextEnds text a c s → (s ≡ status.WriteFault → R) → ¬ R
+    → (s ≡ status.Done) ⊎ (s ≡ status.Memory)
+complete_is left text a c status.Done R o h e f n = inl refl
+complete_is left text a c status.Memory R o h e f n = inr refl
+complete_is left text a c status.WriteFault R o h e f n = absurd (n (f refl))
+complete_is left text a c status.Refused R o h e f n = absurd (e.0 o.form (subst (λ t. Reads t o.form) (sym (told_is left text o.text o.told h)) o.reads))
+complete_is left text a c status.ReadFault R o h e f n = absurd e
+complete_is left text a c status.Usage R o h e f n = absurd e
+
+-- no text within the limit is too long
+pub not_too_long : (left : Option (List ℕ)) → IsOffered left → IfSome left (λ xs. 16777216 < length xs) → ⊥
+not_too_long left o h = absurd (omega (arith, o.within, subst (λ z. IfSome z (λ xs. 16777216 < length xs)) o.told h))

@@ -28,11 +28,11 @@ use Rattle.ae_core.specs.Decided.{Sort_discrete}
 use Rattle.std.proofs.lemmas.List.{reverse-append}
 
 -- ---- literals and rows of a chain
-no_chain : (es : List Equation) (g : Equation) → no_of (chain es g) ≡ is_false (chain es g)
+pub no_chain : (es : List Equation) (g : Equation) → no_of (chain es g) ≡ is_false (chain es g)
 no_chain [] g = literal_eq false _ _
 no_chain (e ∷ es) g = literal_or false _ _
 
-no_not : (e : Equation) → no_of (Not (equation e)) ≡ is_true (equation e)
+pub no_not : (e : Equation) → no_of (Not (equation e)) ≡ is_true (equation e)
 no_not e = literal_not false (equation e) ∙ literal_eq true _ _
 
 row_four : (e : Equation) (es : List Equation) (g : Equation) → row 4 (chain (e ∷ es) g) ≡ Some (four e es g)

@@ -9,3 +9,9 @@ pub mod ChainProof
 pub mod TextLaws
 pub mod TextProof
 pub mod Answered
+pub mod ValueLaws
+pub mod ValueFacts
+pub mod Saturated
+pub mod Soundness
+pub mod StateTextProof
+pub mod Existence

@@ -57,7 +57,7 @@ module _ (names : Names) where
   text_equation : (e : Equation) → IsWithin (length names) e → formula_text names (equation e) ≡ Some (equation_bytes names e)
   text_equation e w = text_eq names _ _ ∙ (λ i. of_two (codes "=") (text_constant names e.left w.0 i) (text_constant names e.right w.1 i))
 
-  text_chain : (es : List Equation) (g : Equation) → AllByRecursion (IsWithin (length names)) es → IsWithin (length names) g → formula_text names (chain es g) ≡ Some (chain_bytes names es g)
+  pub text_chain : (es : List Equation) (g : Equation) → AllByRecursion (IsWithin (length names)) es → IsWithin (length names) g → formula_text names (chain es g) ≡ Some (chain_bytes names es g)
   text_chain [] g ws w = text_equation g w ∙ ap Some (sym (append-nil (equation_bytes names g)))
   text_chain (e ∷ es) g ws w =
       text_or names _ _
@@ -85,7 +85,7 @@ regroup_assumed : (H F h G n : List ℕ) → H ++ (F ++ h ++ G ++ n) ≡ H ++ F 
 regroup_assumed H F h G n = simp append_assoc refl
 
 module _ (names : Names) where
-  text_literal : (sign : Bool) (e : Equation) → IsWithin (length names) e → literal_text names (record { positive = sign; formula = equation e }) ≡ Some (sign_text sign ++ equation_bytes names e)
+  pub text_literal : (sign : Bool) (e : Equation) → IsWithin (length names) e → literal_text names (record { positive = sign; formula = equation e }) ≡ Some (sign_text sign ++ equation_bytes names e)
   unfolding literal_text
   text_literal sign e w =
       (λ i. unless_negation (is_negation (outs-Eq (constant e.left) (constant e.right) i)) (text_equation names e w i >>= λ s. Some (sign_text sign ++ s)))

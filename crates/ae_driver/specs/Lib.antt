@@ -1,7 +1,14 @@
 pub mod Form
 pub mod Stages
 pub mod Chains
-pub mod Search
 pub mod Texts
 pub mod Bytes
+pub mod Values
+pub mod Search
+pub mod Truth
+pub mod StateTypes
+pub mod StateTexts
+pub mod StateChains
+pub mod StateBytes
+pub mod States
 pub mod Output

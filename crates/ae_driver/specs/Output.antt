@@ -1,20 +1,27 @@
 -- The answer to a text: what is written, and why it is right.
-use Rattle.std.specs.Prelude.{◌≡◌, ℕ, List, [], ◌∷◌, ◌++◌, map, length, Option, Some, None, slice_get, codes}
+use Rattle.std.specs.Prelude.{◌≡◌, ◌⊎◌, ℕ, zero, suc, ◌<◌, ◌≤◌, List, [], ◌++◌, map, length, Option, Some, None, slice_get, codes}
 use Rattle.ae_core.specs.Sorts.{◌>>=◌}
 use Rattle.ae_core.specs.Derivations.{Derives}
 use Rattle.ae_core.specs.declared.problems.Item.TheVariants.{Axiom, Goal}
 use Rattle.ae_core.specs.declared.problems.Signature.{Signature}
 use Rattle.ae_core.specs.declared.problems.Problem.{Problem}
 use Rattle.ae_core.specs.declared.proofs.Proof.{Proof}
-use Rattle.ae_io.specs.Moves.{Written, Gets}
+use Rattle.ae_io.specs.Moves.{Written, Gets, GetsPrefix}
 use Rattle.ae_driver.specs.declared.form.Chain.{Chain}
 use Rattle.ae_driver.specs.declared.form.Form.{Form}
+use Rattle.ae_driver.specs.declared.search.Named.{Named}
 use Rattle.ae_driver.specs.declared.search.Refutation.{Refutation}
+use Rattle.ae_driver.specs.declared.program.Status.{Status}
+use Rattle.ae_driver.specs.declared.program.Status.TheVariants as status
 use Rattle.ae_driver.specs.Form.{Reads}
-use Rattle.ae_driver.specs.Search.{Refutes}
 use Rattle.ae_driver.specs.Chains.{problem}
+use Rattle.ae_driver.specs.Search.{Refutes, IsOpen}
 use Rattle.ae_driver.specs.Texts.{Names, proof_text}
 use Rattle.ae_driver.specs.Bytes.{proof_bytes}
+use Rattle.ae_driver.specs.StateTypes.{State}
+use Rattle.ae_driver.specs.StateTexts.{state_text}
+use Rattle.ae_driver.specs.StateBytes.{unknown_bytes}
+use Rattle.ae_driver.specs.States.{IsSaturated}
 
 -- the symbols' names, by their numbers
 abbrev pub symbol_names : Signature → Names
@@ -34,33 +41,155 @@ pub record IsValidPart (p : Problem) (k : ℕ) (part : List ℕ) : Type 0 where
   pub is_text : proof_text (symbol_names p.signature) proof ≡ Some text
   pub written : part ≡ codes "goal " ++ name ++ codes " Valid\n" ++ text
 
--- the text is of the first form with exactly one goal, and the bytes are the part of that goal
-pub record Answers (text bytes : List ℕ) : Type 0 where
+-- the part of the goal at place k: the line `goal NAME I don't know`, and the text of a saturated state in which the goal is false; no proof derives the goal
+pub record IsUnknownPart (p : Problem) (k : ℕ) (part : List ℕ) : Type 0 where
+  pub name : List ℕ
+  pub is_name : goal_name p k ≡ Some name
+  pub state : State
+  pub saturated : IsSaturated p k state
+  pub none_derives : (proof : Proof) → Derives p k proof → ⊥
+  pub text : List ℕ
+  pub is_text : state_text (symbol_names p.signature) state ≡ Some text
+  pub written : part ≡ codes "goal " ++ name ++ codes " I don't know\n" ++ text
+
+abbrev pub IsPart : Problem → ℕ → List ℕ → Type 0
+IsPart p k part = IsValidPart p k part ⊎ IsUnknownPart p k part
+
+-- one part for each of n goals, from place k on, in order
+abbrev pub AreParts : Problem → ℕ → ℕ → List ℕ → Type 0
+AreParts p k zero bytes = bytes ≡ []
+AreParts p k (suc n) bytes = (part : List ℕ) × (rest : List ℕ) × (bytes ≡ part ++ rest) × IsPart p k part × AreParts p (suc k) n rest
+
+-- a legal output for a text of the first form: one part for each goal, in order
+pub record IsLegalOutput (text bytes : List ℕ) : Type 0 where
   pub form : Form
   pub reads : Reads text form
-  pub goal : Chain
-  pub one : form.goals ≡ goal ∷ []
-  pub part : IsValidPart (problem form) 0 bytes
+  pub parts : AreParts (problem form) 0 (length form.goals) bytes
+
+-- the parts of the first goals of a text, of all of them or of fewer: with some rest they are a legal output
+pub record IsBegun (text bytes : List ℕ) : Type 0 where
+  pub form : Form
+  pub reads : Reads text form
+  pub count : ℕ
+  pub at_most : count ≤ length form.goals
+  pub parts : AreParts (problem form) 0 count bytes
+  pub rest : List ℕ
+  pub legal : IsLegalOutput text (bytes ++ rest)
+
+-- the text is not of the first form
+abbrev pub HasNoForm : List ℕ → Type 0
+HasNoForm text = (form : Form) → Reads text form → ⊥
 
 -- the source told this text, or told nothing
 abbrev pub MayBe : Option (List ℕ) → List ℕ → Type 0
 MayBe None text = Unit {0}
 MayBe (Some xs) text = xs ≡ text
 
--- a run that is done: the text that the source had left is answered, and the sink got the answer behind what it held
+-- the text that the source had left, within the limit on bytes
+pub record IsRead (left : Option (List ℕ)) (text : List ℕ) : Type 0 where
+  pub told : MayBe left text
+  pub within : length text ≤ 16777216
+
+-- the source had more bytes left than the limit, as far as it tells
+abbrev pub IsTooLong : Option (List ℕ) → Type 0
+IsTooLong None = Unit {0}
+IsTooLong (Some xs) = 16777216 < length xs
+
+-- ---- what a run has written when it ends
+abbrev pub usage_line : List ℕ
+usage_line = codes "usage: altac\n"
+
+abbrev pub too_long_line : List ℕ
+too_long_line = codes "refused input too long\n"
+
+abbrev pub no_form_line : List ℕ
+no_form_line = codes "refused form\n"
+
+-- done: the text is answered, and the sink got the answer behind what it held
 pub record IsDone (left : Option (List ℕ)) (old new : Written) : Type 0 where
   pub text : List ℕ
-  pub read : MayBe left text
+  pub read : IsRead left text
   pub bytes : List ℕ
-  pub answers : Answers text bytes
+  pub answers : IsLegalOutput text bytes
   pub written : Gets old new bytes
 
--- the bytes of a part, as the writers make them
+-- refused by form: the text has none, and the sink got that line
+pub record IsRefusedByForm (left : Option (List ℕ)) (old new : Written) : Type 0 where
+  pub text : List ℕ
+  pub read : IsRead left text
+  pub no_form : HasNoForm text
+  pub written : Gets old new no_form_line
+
+-- refused by length: the source had more left than the limit, and the sink got that line
+pub record IsRefusedByLength (left : Option (List ℕ)) (old new : Written) : Type 0 where
+  pub too_long : IsTooLong left
+  pub written : Gets old new too_long_line
+
+-- no memory: the sink got nothing, or the parts of the first goals of the text
+pub record IsOutOfMemory (left : Option (List ℕ)) (old new : Written) : Type 0 where
+  pub bytes : List ℕ
+  pub begun : (bytes ≡ []) ⊎ ((text : List ℕ) × IsRead left text × IsBegun text bytes)
+  pub written : Gets old new bytes
+
+-- what a run without words may be writing
+pub data MayWrite (left : Option (List ℕ)) (bytes : List ℕ) : Type 0 where
+  writes_parts : (text : List ℕ) → IsRead left text → IsBegun text bytes → MayWrite left bytes
+  writes_no_form : (text : List ℕ) → IsRead left text → HasNoForm text → bytes ≡ no_form_line → MayWrite left bytes
+  writes_too_long : IsTooLong left → bytes ≡ too_long_line → MayWrite left bytes
+
+-- a write failed: the sink got a part from the front of what was being written, and not all of it
+pub record IsCutOff (left : Option (List ℕ)) (old new : Written) : Type 0 where
+  pub bytes : List ℕ
+  pub may : MayWrite left bytes
+  pub written : GetsPrefix old new bytes
+
+-- the source tells a text of the first form within the limit on bytes
+pub record IsOffered (left : Option (List ℕ)) : Type 0 where
+  pub text : List ℕ
+  pub told : left ≡ Some text
+  pub within : length text ≤ 16777216
+  pub form : Form
+  pub reads : Reads text form
+
+-- ---- the parts, as the writers make them
 abbrev pub valid_bytes : Names → Chain → Refutation → List ℕ
 valid_bytes names g r = codes "goal " ++ g.name ++ codes " Valid\n" ++ proof_bytes names g.hyps g.last r
 
--- the bytes of a part by a refutation of the goal
-pub record IsPartOf (names : Names) (g : Chain) (part : List ℕ) : Type 0 where
-  pub refutation : Refutation
-  pub refutes : Refutes (length names) g.hyps g.last refutation
-  pub are : part ≡ valid_bytes names g refutation
+-- the bytes of a part, by a refutation of the goal or by values that tell its sides apart
+pub data IsPartOf (names : Names) (g : Chain) (part : List ℕ) : Type 0 where
+  by_refutation : (r : Refutation) → Refutes (length names) g.hyps g.last r → part ≡ valid_bytes names g r → IsPartOf names g part
+  by_values : (vs : List Named) → IsOpen (length names) g.hyps g.last vs → part ≡ unknown_bytes names g vs → IsPartOf names g part
+
+-- how one goal is answered
+abbrev pub PartEnds : Names → Chain → Written → Written → Status → Type 0
+PartEnds names g old new status.Done = (part : List ℕ) × IsPartOf names g part × Gets old new part
+PartEnds names g old new status.WriteFault = (part : List ℕ) × IsPartOf names g part × GetsPrefix old new part
+PartEnds names g old new status.Memory = Unit {0}
+PartEnds names g old new _ = ⊥
+
+-- the sink got the parts of so many goals
+pub record HasParts (f : Form) (count : ℕ) (old new : Written) : Type 0 where
+  pub bytes : List ℕ
+  pub parts : AreParts (problem f) 0 count bytes
+  pub written : Gets old new bytes
+
+-- the sink got a front of the parts of so many goals, and not all of it
+pub record HasFront (f : Form) (count : ℕ) (old new : Written) : Type 0 where
+  pub bytes : List ℕ
+  pub parts : AreParts (problem f) 0 count bytes
+  pub written : GetsPrefix old new bytes
+
+-- how the goals of a form are answered
+abbrev pub GoalsEnd : Form → Written → Written → Status → Type 0
+GoalsEnd f old new status.Done = HasParts f (length f.goals) old new
+GoalsEnd f old new status.WriteFault = (k : ℕ) × (k ≤ length f.goals) × HasFront f k old new
+GoalsEnd f old new status.Memory = (k : ℕ) × (k ≤ length f.goals) × HasParts f k old new
+GoalsEnd f old new _ = ⊥
+
+-- how a text that was read is answered
+abbrev pub TextEnds : List ℕ → Written → Written → Status → Type 0
+TextEnds text old new status.Done = (bytes : List ℕ) × IsLegalOutput text bytes × Gets old new bytes
+TextEnds text old new status.Refused = HasNoForm text × Gets old new no_form_line
+TextEnds text old new status.WriteFault = (bytes : List ℕ) × ((IsBegun text bytes) ⊎ (HasNoForm text × (bytes ≡ no_form_line))) × GetsPrefix old new bytes
+TextEnds text old new status.Memory = (bytes : List ℕ) × ((bytes ≡ []) ⊎ IsBegun text bytes) × Gets old new bytes
+TextEnds text old new _ = ⊥

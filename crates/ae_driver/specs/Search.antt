@@ -1,5 +1,5 @@
 -- What the search keeps: derived lines between constants, and the constants' values.
-use Rattle.std.specs.Prelude.{◌≡◌, ◌<◌, ℕ, Bool, true, List, [], ◌++◌, length, slice_index_or, Option, Some, None}
+use Rattle.std.specs.Prelude.{◌≡◌, ◌≢◌, ◌<◌, ℕ, Bool, true, List, [], ◌++◌, length, slice_index_or, Option, Some, None}
 use Rattle.std.specs.List.{AllByRecursion}
 use Rattle.ae_core.specs.Lines.{Fact, equal, states, Stated, AllAllowed}
 use Rattle.ae_core.specs.declared.formulas.Lit.{Lit}
@@ -11,6 +11,9 @@ use Rattle.ae_driver.specs.Chains.{constant, assumed}
 use Rattle.ae_driver.specs.declared.form.Equation.{Equation}
 use Rattle.ae_driver.specs.declared.search.Named.{Named}
 use Rattle.ae_driver.specs.declared.search.Refutation.{Refutation}
+use Rattle.ae_driver.specs.declared.search.Outcome.{Outcome}
+use Rattle.ae_driver.specs.declared.search.Outcome.TheVariants as outcome
+use Rattle.ae_driver.specs.Values.{from, numbers_of, values_after}
 
 -- how many constants there are, the hypotheses and the lines
 pub record Known : Type 0 where
@@ -77,3 +80,13 @@ pub record Refutes (n : ℕ) (es : List Equation) (g : Equation) (r : Refutation
 -- the block: its last hypothesis is the negated end
 abbrev pub block_of : List Equation → Refutation → Block
 block_of es r = record { deriv = r.deriv; ending = Neq r.line (length es) }
+
+-- no line equates the sides of the end: these values are those of the hypotheses, and they tell the sides apart
+pub record IsOpen (n : ℕ) (es : List Equation) (g : Equation) (values : List Named) : Type 0 where
+  pub numbers : numbers_of values ≡ values_after (from 0 n) es
+  pub apart : slice_index_or (numbers_of values) g.left 0 ≢ slice_index_or (numbers_of values) g.right 0
+
+-- what the search comes to
+abbrev pub IsOutcome : ℕ → List Equation → Equation → Outcome → Type 0
+IsOutcome n es g (outcome.Refuted r) = Refutes n es g r
+IsOutcome n es g (outcome.Open values) = IsOpen n es g values.items

@@ -3,9 +3,11 @@
 
 mod derivation;
 pub mod form;
+pub mod laws;
 mod program;
 mod reader;
 mod search;
+mod state_text;
 mod text;
 mod tokens;
 

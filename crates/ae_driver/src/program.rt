@@ -1,15 +1,17 @@
 //! The top call.
 
-ghost use Rattle.std.specs.Prelude.{◌≡◌, ◌≢◌, ◌⊎◌, [], ◌∷◌, length, codes, Some, IfOk, IfSome};
+ghost use Rattle.std.specs.Prelude.{◌≡◌, ◌≢◌, ◌⊎◌, ◌≤◌, [], length, IfOk};
 ghost use Rattle.std.specs.Io.KnownBytes.{IsAtEnd};
-ghost use Rattle.ae_io.specs.Moves.{Rose, Gets};
-ghost use Rattle.ae_driver.specs.Form.{IsGoal};
-ghost use Rattle.ae_driver.specs.Output.{Answers, IsDone, IsPartOf};
+ghost use Rattle.ae_io.specs.Moves.{Rose, Gets, GetsPrefix};
+ghost use Rattle.ae_driver.specs.Form.{IsForm, IsGoal};
+ghost use Rattle.ae_driver.specs.Output.{IsDone, IsOffered, IsRefusedByForm, IsRefusedByLength, IsOutOfMemory, IsCutOff, IsPartOf, PartEnds, GoalsEnd, TextEnds, usage_line, valid_bytes};
+ghost use Rattle.ae_driver.specs.StateBytes.{unknown_bytes};
 ghost use Rattle.ae_driver.specs.declared.program.Status.TheVariants.{Done, Refused, ReadFault, WriteFault, Memory, Usage};
 
-use crate::form::Chain;
+use crate::form::{Chain, Form};
 use crate::reader::read_form;
-use crate::search::refute;
+use crate::search::{Named, Outcome, Refutation, settle};
+use crate::state_text::put_unknown;
 use crate::text::put_valid;
 use ae_core::words::Word;
 use ae_io::{ReadEnd, Sink, Source, read_all, write_all};
@@ -35,13 +37,15 @@ pub enum Status {
     Usage,
 }
 
-/// Reads a text, and answers its goal.
+/// Reads a text, and answers its goals in order, each as soon as it is settled.
 ///
-/// `Done` comes only where the text was read to its end, is of the first form with one goal, and
-/// the line `goal NAME Valid` was written with the text of a proof that derives this goal in the
-/// problem of the text. `Usage` comes exactly where there are words, unless the usage line can't be
-/// written. `ReadFault` and `WriteFault` come only where the count of faults of the source or the
-/// sink rose in this call.
+/// `Done` comes only where the text was read to its end, is of the first form, and one part was
+/// written for each goal: `Valid` with the text of a proof that derives the goal in the problem of the
+/// text, or `I don't know` with the text of a saturated state in which the goal is false; then no
+/// proof derives it. `Refused` comes exactly where the text is not of the form or is longer than
+/// `INPUT_LIMIT`, and `Usage` exactly where there are words, unless the line can't be written.
+/// `ReadFault` and `WriteFault` come only where the count of faults of the source or the sink rose in
+/// this call. `Memory` is the one free answer.
 pub fn run<S: Source, K: Sink>(
     alloc: Global,
     words: &[String],
@@ -50,12 +54,17 @@ pub fn run<S: Source, K: Sink>(
 ) -> Status
     ensures done { result ≡ Done → IsDone (S.left source.old) (K.written sink.old) (K.written sink.new) }
     ensures end { result ≡ Done → IsAtEnd (S.left source.new) }
+    ensures complete { words.now ≡ [] → IsOffered (S.left source.old) → ¬ (Rose (S.faults source.old) (S.faults source.new)) → ¬ (Rose (K.faults sink.old) (K.faults sink.new)) → (result ≡ Done) ⊎ (result ≡ Memory) }
+    ensures refused { result ≡ Refused → IsRefusedByForm (S.left source.old) (K.written sink.old) (K.written sink.new) ⊎ IsRefusedByLength (S.left source.old) (K.written sink.old) (K.written sink.new) }
     ensures usage { result ≡ Usage → words.now ≢ [] }
-    ensures usage_line { result ≡ Usage → Gets (K.written sink.old) (K.written sink.new) (codes "usage: altac\n") }
+    ensures usage_line { result ≡ Usage → Gets (K.written sink.old) (K.written sink.new) usage_line }
     ensures words { words.now ≢ [] → (result ≡ Usage) ⊎ (result ≡ WriteFault) }
     ensures read_fault { result ≡ ReadFault → Rose (S.faults source.old) (S.faults source.new) }
     ensures nothing { result ≡ ReadFault → sink.new ≡ sink.old }
     ensures write_fault { result ≡ WriteFault → Rose (K.faults sink.old) (K.faults sink.new) }
+    ensures cut_off { result ≡ WriteFault → words.now ≡ [] → IsCutOff (S.left source.old) (K.written sink.old) (K.written sink.new) }
+    ensures usage_cut_off { result ≡ WriteFault → words.now ≢ [] → GetsPrefix (K.written sink.old) (K.written sink.new) usage_line }
+    ensures memory { result ≡ Memory → IsOutOfMemory (S.left source.old) (K.written sink.old) (K.written sink.new) }
 {
     if !words.is_empty() {
         return tell(sink, b"usage: altac\n", Status::Usage);
@@ -74,6 +83,7 @@ fn tell<K: Sink>(sink: &mut K, line: &[u8], status: Status) -> Status
     ensures same { (result ≡ status) ⊎ (result ≡ WriteFault) }
     ensures write_fault { result ≡ WriteFault → Rose (K.faults sink.old) (K.faults sink.new) }
     ensures told { result ≡ status → Gets (K.written sink.old) (K.written sink.new) line.now }
+    ensures cut_off { result ≡ WriteFault → GetsPrefix (K.written sink.old) (K.written sink.new) line.now }
 {
     match write_all(sink, line) {
         Ok(()) => status,
@@ -83,54 +93,84 @@ fn tell<K: Sink>(sink: &mut K, line: &[u8], status: Status) -> Status
 
 // Answers a text that was read whole.
 fn answer<K: Sink>(alloc: Global, text: &[u8], sink: &mut K) -> Status
-    ensures done { result ≡ Done → IsDone (Some text.now) (K.written sink.old) (K.written sink.new) }
-    ensures read { result ≢ ReadFault }
+    ensures ends { TextEnds text.now (K.written sink.old) (K.written sink.new) result }
     ensures write_fault { result ≡ WriteFault → Rose (K.faults sink.old) (K.faults sink.new) }
-    ensures usage { result ≢ Usage }
 {
-    match respond(alloc, text) {
-        Ok(Some(bytes)) => match write_all(sink, bytes.as_slice()) {
-            Ok(()) => Status::Done,
-            Err(_) => Status::WriteFault,
-        },
+    match read_form(alloc, text) {
+        Ok(Some(form)) => answer_goals(alloc, &form, sink),
         Ok(None) => tell(sink, b"refused form\n", Status::Refused),
         Err(_) => Status::Memory,
     }
 }
 
-// The answer to a text of the first form with one goal, where that is found to follow.
-fn respond(alloc: Global, text: &[u8]) -> Result<Option<Vec<u8>>, AllocError>
-    ensures { IfOk result (λ found. IfSome found (λ bytes. Answers text.now bytes.items)) }
+// Answers the goals of a form in order.
+fn answer_goals<K: Sink>(alloc: Global, form: &Form, sink: &mut K) -> Status
+    requires { IsForm form.now }
+    ensures ends { GoalsEnd form.now (K.written sink.old) (K.written sink.new) result }
+    ensures write_fault { result ≡ WriteFault → Rose (K.faults sink.old) (K.faults sink.new) }
 {
-    let Some(form) = read_form(alloc, text)? else {
-        return Ok(None);
-    };
-    let Some(goal) = only_goal(form.goals.as_slice()) else {
-        return Ok(None);
-    };
-    goal_part(alloc, form.constants.as_slice(), goal)
+    for goal in form.goals.as_slice() {
+        match answer_goal(alloc, form.constants.as_slice(), goal, sink) {
+            Status::Done => {}
+            stopped => return stopped,
+        }
+    }
+    Status::Done
 }
 
-// The goal, where there is exactly one.
-fn only_goal(goals: &[Chain]) -> Option<&Chain>
-    ensures { IfSome result (λ goal. goals.now ≡ goal.now ∷ []) }
+// Answers one goal.
+fn answer_goal<K: Sink>(alloc: Global, constants: &[Word], goal: &Chain, sink: &mut K) -> Status
+    requires { IsGoal (length constants.now) goal.now }
+    ensures ends { PartEnds constants.now goal.now (K.written sink.old) (K.written sink.new) result }
+    ensures memory { result ≡ Memory → sink.new ≡ sink.old }
+    ensures write_fault { result ≡ WriteFault → Rose (K.faults sink.old) (K.faults sink.new) }
+    ensures later { K.faults sink.old ≤ K.faults sink.new }
 {
-    match goals {
-        [goal] => Some(goal),
-        _ => None,
+    match goal_part(alloc, constants, goal) {
+        Ok(part) => match write_all(sink, part.as_slice()) {
+            Ok(()) => Status::Done,
+            Err(_) => Status::WriteFault,
+        },
+        Err(_) => Status::Memory,
     }
 }
 
-// The part of a goal, where it is found to follow.
-fn goal_part(alloc: Global, constants: &[Word], goal: &Chain) -> Result<Option<Vec<u8>>, AllocError>
+// The part of a goal.
+fn goal_part(alloc: Global, constants: &[Word], goal: &Chain) -> Result<Vec<u8>, AllocError>
     requires { IsGoal (length constants.now) goal.now }
-    ensures { IfOk result (λ found. IfSome found (λ part. IsPartOf constants.now goal.now part.items)) }
+    ensures { IfOk result (λ part. IsPartOf constants.now goal.now part.items) }
 {
-    let found = refute(alloc, constants.len(), goal.hyps.as_slice(), goal.last)?;
-    let Some(refutation) = found else {
-        return Ok(None);
-    };
+    match settle(alloc, constants.len(), goal.hyps.as_slice(), goal.last)? {
+        Outcome::Refuted(refutation) => valid_part(alloc, constants, goal, &refutation),
+        Outcome::Open(values) => unknown_part(alloc, constants, goal, values.as_slice()),
+    }
+}
+
+// The part of a goal that is refuted.
+fn valid_part(
+    alloc: Global,
+    constants: &[Word],
+    goal: &Chain,
+    refutation: &Refutation,
+) -> Result<Vec<u8>, AllocError>
+    requires { IsGoal (length constants.now) goal.now }
+    ensures { IfOk result (λ part. part.items ≡ valid_bytes constants.now goal.now refutation.now) }
+{
     let mut part = Vec::new(alloc);
-    put_valid(&mut part, constants, goal, &refutation)?;
-    Ok(Some(part))
+    put_valid(&mut part, constants, goal, refutation)?;
+    Ok(part)
+}
+
+// The part of a goal whose sides have different values.
+fn unknown_part(
+    alloc: Global,
+    constants: &[Word],
+    goal: &Chain,
+    values: &[Named],
+) -> Result<Vec<u8>, AllocError>
+    ensures { IfOk result (λ part. part.items ≡ unknown_bytes constants.now goal.now values.now) }
+{
+    let mut part = Vec::new(alloc);
+    put_unknown(&mut part, constants, goal, values)?;
+    Ok(part)
 }

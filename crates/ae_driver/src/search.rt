@@ -1,11 +1,13 @@
 //! The search over a plain list of the constants' values.
 
-ghost use Rattle.std.specs.Prelude.{◌≡◌, ◌≢◌, ◌<◌, length, IfOk, OnOk, IfSome, Some, slice_get};
+ghost use Rattle.std.specs.Prelude.{◌≡◌, ℕ, ◌<◌, length, map, min, max, IfOk, OnOk, Some, slice_get};
 ghost use Rattle.std.specs.List.{AllByRecursion};
 ghost use Rattle.ae_core.specs.Clauses.{is_true};
 ghost use Rattle.ae_driver.specs.Chains.{equation, assumed};
+ghost use Rattle.ae_driver.specs.declared.form.Equation.{Equation};
 ghost use Rattle.ae_driver.specs.Form.{IsWithin};
-ghost use Rattle.ae_driver.specs.Search.{At, Grows, Holds, IsValue, Refutes, Valued};
+ghost use Rattle.ae_driver.specs.Search.{At, Grows, Holds, IsValue, Refutes, Valued, IsOutcome};
+ghost use Rattle.ae_driver.specs.Values.{from, merged, numbers_of, replaced, values_after};
 
 use crate::derivation::{Derivation, constant_term};
 use crate::form::Equation;
@@ -76,6 +78,7 @@ fn first_values(
 ) -> Result<Vec<Named>, AllocError>
     requires { derivation.now.count ≡ count }
     ensures valued { IfOk result (λ values. Valued derivation.now values.items) }
+    ensures numbers { IfOk result (λ values. numbers_of values.items ≡ from 0 count) }
     ensures count { IfOk result (λ values. length values.items ≡ count) }
 {
     let mut values = Vec::with_capacity(alloc, count)?;
@@ -88,24 +91,23 @@ fn first_values(
     Ok(values)
 }
 
-// The constant k gets the smaller value where it has the larger one.
-fn replace_at(
+// The value of the constant k, where the smaller value takes the place of the larger one.
+fn replacement(
     alloc: Global,
     derivation: &mut Derivation,
-    values: &mut [Named],
+    named: Named,
     joined: Joined,
     k: usize,
-) -> Result<(), AllocError>
-    requires within { k < length values.old }
+) -> Result<Named, AllocError>
     requires smaller { joined.smaller < derivation.old.count }
     requires step { Holds derivation.old joined.step joined.smaller joined.larger }
-    requires valued { Valued derivation.old values.old }
-    ensures valued { OnOk result (Valued derivation.new values.new) }
+    requires value { IsValue derivation.old named k }
+    ensures value { IfOk result (λ w. w.value ≡ replaced joined.smaller joined.larger named.value) }
+    ensures holds { IfOk result (λ w. IsValue derivation.new w k) }
     ensures grows { Grows derivation.old derivation.new }
 {
-    let named = values[k];
     if named.value != joined.larger {
-        return Ok(());
+        return Ok(named);
     }
     let step = derivation.joined(
         alloc,
@@ -115,11 +117,10 @@ fn replace_at(
         joined.larger,
         k,
     )?;
-    values[k] = Named {
+    Ok(Named {
         value: joined.smaller,
         step,
-    };
-    Ok(())
+    })
 }
 
 // The smaller value takes the place of the larger one over the whole list.
@@ -133,10 +134,12 @@ fn replace(
     requires step { Holds derivation.old joined.step joined.smaller joined.larger }
     requires valued { Valued derivation.old values.old }
     ensures valued { OnOk result (Valued derivation.new values.new) }
+    ensures numbers { OnOk result (numbers_of values.new ≡ map (replaced joined.smaller joined.larger) (numbers_of values.old)) }
     ensures grows { Grows derivation.old derivation.new }
 {
     for k in 0..values.len() {
-        replace_at(alloc, derivation, values, joined, k)?;
+        let named = values[k];
+        values[k] = replacement(alloc, derivation, named, joined, k)?;
     }
     Ok(())
 }
@@ -184,6 +187,8 @@ fn join(
     requires right { IsValue derivation.old right given.right }
     ensures smaller { IfOk result (λ joined. joined.smaller < derivation.new.count) }
     ensures step { IfOk result (λ joined. Holds derivation.new joined.step joined.smaller joined.larger) }
+    ensures least { IfOk result (λ joined. joined.smaller ≡ min left.value right.value) }
+    ensures greatest { IfOk result (λ joined. joined.larger ≡ max left.value right.value) }
     ensures grows { Grows derivation.old derivation.new }
 {
     let stated = Some(derivation.hyp(alloc, given, hyp)?);
@@ -233,6 +238,7 @@ fn merge(
     requires given { slice_get derivation.old.hyps hyp ≡ Some (is_true (equation given)) }
     requires valued { Valued derivation.old values.old }
     ensures valued { OnOk result (Valued derivation.new values.new) }
+    ensures numbers { OnOk result (numbers_of values.new ≡ merged (numbers_of values.old) given) }
     ensures grows { Grows derivation.old derivation.new }
 {
     let left = values[given.left];
@@ -244,47 +250,74 @@ fn merge(
     replace(alloc, derivation, values, joined)
 }
 
-/// A refutation of the hypotheses and the negated last equation, where one is found.
-pub fn refute(
+// The hypotheses are taken up in order.
+fn take_up(
+    alloc: Global,
+    derivation: &mut Derivation,
+    values: &mut [Named],
+    hyps: &[Equation],
+) -> Result<(), AllocError>
+    requires count { length values.old ≡ derivation.old.count }
+    requires within { AllByRecursion (IsWithin derivation.old.count) hyps.now }
+    requires given { (i : ℕ) (e : Equation) → slice_get hyps.now i ≡ Some e → slice_get derivation.old.hyps i ≡ Some (is_true (equation e)) }
+    requires valued { Valued derivation.old values.old }
+    ensures valued { OnOk result (Valued derivation.new values.new) }
+    ensures numbers { OnOk result (numbers_of values.new ≡ values_after (numbers_of values.old) hyps.now) }
+    ensures grows { Grows derivation.old derivation.new }
+{
+    for (i, hyp) in hyps.iter().enumerate() {
+        merge(alloc, derivation, values, *hyp, i)?;
+    }
+    Ok(())
+}
+
+/// What the search comes to: a refutation of the hypotheses and the negated last equation, or values of the constants under which the hypotheses hold and the last equation doesn't.
+#[derive(Drop)]
+pub enum Outcome {
+    Refuted(Refutation),
+    Open(Vec<Named>),
+}
+
+/// Settles a chain over the first `count` constants.
+pub fn settle(
     alloc: Global,
     count: usize,
     hyps: &[Equation],
     last: Equation,
-) -> Result<Option<Refutation>, AllocError>
+) -> Result<Outcome, AllocError>
     requires hyps { AllByRecursion (IsWithin count) hyps.now }
     requires last { IsWithin count last }
-    ensures { IfOk result (λ found. IfSome found (λ r. Refutes count hyps.now last r)) }
+    ensures { IfOk result (IsOutcome count hyps.now last) }
 {
     let lits = assumed_literals(alloc, hyps, last)?;
     let mut derivation = Derivation::new(alloc, count, lits);
     let mut values = first_values(alloc, &derivation, count)?;
-    for (i, hyp) in hyps.iter().enumerate() {
-        merge(alloc, &mut derivation, &mut values, *hyp, i)?;
-    }
-    conclude(alloc, derivation, values.as_slice(), hyps, last)
+    take_up(alloc, &mut derivation, values.as_mut_slice(), hyps)?;
+    conclude(alloc, derivation, values, hyps, last)
 }
 
-// The refutation, where the two sides of the last equation have one value.
+// Whether the two sides of the last equation have one value.
 fn conclude(
     alloc: Global,
     mut derivation: Derivation,
-    values: &[Named],
+    values: Vec<Named>,
     hyps: &[Equation],
     last: Equation,
-) -> Result<Option<Refutation>, AllocError>
-    requires count { length values.now ≡ derivation.count }
+) -> Result<Outcome, AllocError>
+    requires count { length values.items ≡ derivation.count }
     requires last { IsWithin derivation.count last }
-    requires valued { Valued derivation values.now }
+    requires valued { Valued derivation values.items }
+    requires numbers { numbers_of values.items ≡ values_after (from 0 derivation.count) hyps.now }
     requires hyps { derivation.hyps ≡ assumed hyps.now last }
-    ensures { IfOk result (λ found. IfSome found (λ r. Refutes derivation.count hyps.now last r)) }
+    ensures { IfOk result (IsOutcome derivation.count hyps.now last) }
 {
     let left = values[last.left];
     let right = values[last.right];
     if left.value != right.value {
-        return Ok(None);
+        return Ok(Outcome::Open(values));
     }
     let line = conclusion(alloc, &mut derivation, left, right, last)?;
-    Ok(Some(Refutation {
+    Ok(Outcome::Refuted(Refutation {
         deriv: derivation.into_deriv(),
         line,
     }))

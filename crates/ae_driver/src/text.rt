@@ -13,13 +13,13 @@ use ae_core::words::Word;
 use itoa::Buffer;
 use std::alloc::AllocError;
 
-fn put(out: &mut Vec<u8>, bytes: &[u8]) -> Result<(), AllocError>
+pub fn put(out: &mut Vec<u8>, bytes: &[u8]) -> Result<(), AllocError>
     ensures { OnOk result (out.new.items ≡ out.old.items ++ bytes.now) }
 {
     out.extend_from_slice(bytes)
 }
 
-fn put_number(out: &mut Vec<u8>, n: usize) -> Result<(), AllocError>
+pub fn put_number(out: &mut Vec<u8>, n: usize) -> Result<(), AllocError>
     ensures { OnOk result (out.new.items ≡ out.old.items ++ decimal n) }
 {
     let mut buffer = Buffer::new();
@@ -32,7 +32,7 @@ fn put_word(out: &mut Vec<u8>, word: &Word) -> Result<(), AllocError>
     put(out, word.as_str().as_bytes())
 }
 
-fn put_name(out: &mut Vec<u8>, names: &[Word], n: usize) -> Result<(), AllocError>
+pub fn put_name(out: &mut Vec<u8>, names: &[Word], n: usize) -> Result<(), AllocError>
     ensures { OnOk result (out.new.items ≡ out.old.items ++ bytes.name_bytes names.now n) }
 {
     match names.get(n) {
@@ -41,7 +41,7 @@ fn put_name(out: &mut Vec<u8>, names: &[Word], n: usize) -> Result<(), AllocErro
     }
 }
 
-fn put_equation(out: &mut Vec<u8>, names: &[Word], of: Equation) -> Result<(), AllocError>
+pub fn put_equation(out: &mut Vec<u8>, names: &[Word], of: Equation) -> Result<(), AllocError>
     ensures { OnOk result (out.new.items ≡ out.old.items ++ bytes.equation_bytes names.now of) }
 {
     put(out, b"(= ")?;
@@ -51,7 +51,7 @@ fn put_equation(out: &mut Vec<u8>, names: &[Word], of: Equation) -> Result<(), A
     put(out, b")")
 }
 
-fn put_openings(out: &mut Vec<u8>, names: &[Word], hyps: &[Equation]) -> Result<(), AllocError>
+pub fn put_openings(out: &mut Vec<u8>, names: &[Word], hyps: &[Equation]) -> Result<(), AllocError>
     ensures { OnOk result (out.new.items ≡ out.old.items ++ flat_map (bytes.opening_bytes names.now) hyps.now) }
 {
     for hyp in hyps {
@@ -62,7 +62,7 @@ fn put_openings(out: &mut Vec<u8>, names: &[Word], hyps: &[Equation]) -> Result<
     Ok(())
 }
 
-fn put_closings(out: &mut Vec<u8>, hyps: &[Equation]) -> Result<(), AllocError>
+pub fn put_closings(out: &mut Vec<u8>, hyps: &[Equation]) -> Result<(), AllocError>
     ensures { OnOk result (out.new.items ≡ out.old.items ++ bytes.closing_bytes hyps.now) }
 {
     for _hyp in hyps {
