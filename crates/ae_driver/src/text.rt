@@ -13,12 +13,14 @@ use ae_core::words::Word;
 use itoa::Buffer;
 use std::alloc::AllocError;
 
+/// Puts bytes at the end; `Err` where there is no memory for them, as in every writer here.
 pub fn put(out: &mut Vec<u8>, bytes: &[u8]) -> Result<(), AllocError>
     ensures { OnOk result (out.new.items ≡ out.old.items ++ bytes.now) }
 {
     out.extend_from_slice(bytes)
 }
 
+/// Puts a number's decimal digits at the end.
 pub fn put_number(out: &mut Vec<u8>, n: usize) -> Result<(), AllocError>
     ensures { OnOk result (out.new.items ≡ out.old.items ++ decimal n) }
 {
@@ -32,6 +34,7 @@ fn put_word(out: &mut Vec<u8>, word: &Word) -> Result<(), AllocError>
     put(out, word.as_str().as_bytes())
 }
 
+/// Puts the name of the constant of number n at the end, and nothing where there is none.
 pub fn put_name(out: &mut Vec<u8>, names: &[Word], n: usize) -> Result<(), AllocError>
     ensures { OnOk result (out.new.items ≡ out.old.items ++ bytes.name_bytes names.now n) }
 {
@@ -41,6 +44,7 @@ pub fn put_name(out: &mut Vec<u8>, names: &[Word], n: usize) -> Result<(), Alloc
     }
 }
 
+/// Puts an equation at the end, as proof and state texts write it.
 pub fn put_equation(out: &mut Vec<u8>, names: &[Word], of: Equation) -> Result<(), AllocError>
     ensures { OnOk result (out.new.items ≡ out.old.items ++ bytes.equation_bytes names.now of) }
 {
@@ -51,6 +55,7 @@ pub fn put_equation(out: &mut Vec<u8>, names: &[Word], of: Equation) -> Result<(
     put(out, b")")
 }
 
+/// Puts at the end, for each hypothesis, what stands before the rest of the chain in its formula.
 pub fn put_openings(out: &mut Vec<u8>, names: &[Word], hyps: &[Equation]) -> Result<(), AllocError>
     ensures { OnOk result (out.new.items ≡ out.old.items ++ flat_map (bytes.opening_bytes names.now) hyps.now) }
 {
@@ -62,6 +67,7 @@ pub fn put_openings(out: &mut Vec<u8>, names: &[Word], hyps: &[Equation]) -> Res
     Ok(())
 }
 
+/// Puts at the end the closing bracket of each hypothesis.
 pub fn put_closings(out: &mut Vec<u8>, hyps: &[Equation]) -> Result<(), AllocError>
     ensures { OnOk result (out.new.items ≡ out.old.items ++ bytes.closing_bytes hyps.now) }
 {
