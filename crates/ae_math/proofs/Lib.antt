@@ -1,0 +1,4 @@
+pub mod FractionLaws
+pub mod FractionOrder
+pub mod Divisors
+pub mod FormLaws

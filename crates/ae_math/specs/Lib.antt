@@ -1,0 +1,5 @@
+pub mod Choices
+pub mod Integers
+pub mod Fractions
+pub mod Divisors
+pub mod Forms

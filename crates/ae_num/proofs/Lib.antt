@@ -1,0 +1,9 @@
+pub mod StepLaws
+pub mod PairLaws
+pub mod SumLaws
+pub mod ReductionLaws
+pub mod NormalLaws
+pub mod WholeLaws
+pub mod KeyLaws
+pub mod MeaningLaws
+pub mod UniqueLaws

@@ -1,0 +1,4 @@
+pub mod Limits
+pub mod Forms
+pub mod Pairs
+pub mod Reduction

@@ -1,0 +1,11 @@
+//! Numbers within the limits of 128 bits, and linear forms over names with one denominator.
+#![tactic(auto)]
+
+pub mod forms;
+pub mod laws;
+pub mod numbers;
+mod pairs;
+mod reduction;
+mod sums;
+#[cfg(test)]
+mod tests;
