@@ -8,7 +8,7 @@ use Rattle.ae_core.specs.declared.formulas.Formula.TheOpen as layer_of
 use Rattle.ae_core.specs.declared.formulas.Formula.TheVariants.{rolls-True, rolls-False, rolls-Eq, rolls-Lt, rolls-Le, rolls-Pred, rolls-Not, rolls-And, rolls-Or, rolls-Xor, rolls-Iff, rolls-All, rolls-Ex, outs-True, outs-False, outs-Eq, outs-Lt, outs-Le, outs-Pred, outs-Not, outs-And, outs-Or, outs-Xor, outs-Iff, outs-All, outs-Ex}
 use Rattle.ae_core.specs.declared.formulas.Quant.{Quant}
 use Rattle.ae_core.specs.declared.formulas.Lit.{Lit}
-use Rattle.ae_core.specs.Clauses.{literal, literal_step, row, row_of, or_row}
+use Rattle.ae_core.specs.Clauses.{literal, literal_step, row, row_of, and_row, or_row, iff_row, xor_row, true_row, false_row}
 
 pub literal_true : (sign : Bool) → literal sign True ≡ record { positive = sign; formula = True }
 unfolding literal
@@ -86,11 +86,11 @@ literal_ex sign q =
     ap (literal sign) (sym (rolls-Ex q)) ∙ ap (λ g. g sign) (para-roll-Formula (Bool → Lit) (Unit {0}) literal_step (λ q. tt) (layer_of.Ex q))
     ∙ ap (λ f. record { positive = sign; formula = f }) (rolls-Ex q)
 
-pub row_true : (r : ℕ) → row r True ≡ None
+pub row_true : (r : ℕ) → row r True ≡ true_row r True
 unfolding row row_of
 row_true r = ap (row_of r True) outs-True
 
-pub row_false : (r : ℕ) → row r False ≡ None
+pub row_false : (r : ℕ) → row r False ≡ false_row r False
 unfolding row row_of
 row_false r = ap (row_of r False) outs-False
 
@@ -114,7 +114,7 @@ pub row_not : (r : ℕ) (a : Formula) → row r (Not a) ≡ None
 unfolding row row_of
 row_not r a = ap (row_of r (Not a)) (outs-Not a)
 
-pub row_and : (r : ℕ) (a b : Formula) → row r (And a b) ≡ None
+pub row_and : (r : ℕ) (a b : Formula) → row r (And a b) ≡ and_row r (And a b) a b
 unfolding row row_of
 row_and r a b = ap (row_of r (And a b)) (outs-And a b)
 
@@ -122,11 +122,11 @@ pub row_or : (r : ℕ) (a b : Formula) → row r (Or a b) ≡ or_row r (Or a b) 
 unfolding row row_of
 row_or r a b = ap (row_of r (Or a b)) (outs-Or a b)
 
-pub row_xor : (r : ℕ) (a b : Formula) → row r (Xor a b) ≡ None
+pub row_xor : (r : ℕ) (a b : Formula) → row r (Xor a b) ≡ xor_row r (Xor a b) a b
 unfolding row row_of
 row_xor r a b = ap (row_of r (Xor a b)) (outs-Xor a b)
 
-pub row_iff : (r : ℕ) (a b : Formula) → row r (Iff a b) ≡ None
+pub row_iff : (r : ℕ) (a b : Formula) → row r (Iff a b) ≡ iff_row r (Iff a b) a b
 unfolding row row_of
 row_iff r a b = ap (row_of r (Iff a b)) (outs-Iff a b)
 

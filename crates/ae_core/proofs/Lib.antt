@@ -5,3 +5,4 @@ pub mod Written
 pub mod Recursion
 pub mod TreeLaws
 pub mod OrderLaws
+pub mod LinearLaws

@@ -39,17 +39,41 @@ is_true f = record { positive = true; formula = f }
 abbrev pub is_false : Formula → Lit
 is_false f = record { positive = false; formula = f }
 
--- ---- the defining clauses, each with its number; so far those of a disjunction that is false where a part is
+-- ---- the defining clauses, each with its number: what the truth of a formula has to do with that of its parts
 abbrev pub row_at : ℕ → List (ℕ × Clause) → Option Clause
 row_at r [] = None
 row_at r (c ∷ cs) = cond (nat_eq r c.0) (Some c.1) (row_at r cs)
 
--- the rows of a disjunction f of a and b
+-- the rows of a conjunction f of a and b, and so on
+abbrev pub and_row : ℕ → Formula → Formula → Formula → Option Clause
+and_row r f a b =
+    row_at r ((1, is_false f ∷ yes_of a ∷ []) ∷ (2, is_false f ∷ yes_of b ∷ []) ∷ (3, is_true f ∷ no_of a ∷ no_of b ∷ []) ∷ [])
+
 abbrev pub or_row : ℕ → Formula → Formula → Formula → Option Clause
-or_row r f a b = row_at r ((4, is_true f ∷ no_of a ∷ []) ∷ (5, is_true f ∷ no_of b ∷ []) ∷ [])
+or_row r f a b =
+    row_at r ((4, is_true f ∷ no_of a ∷ []) ∷ (5, is_true f ∷ no_of b ∷ []) ∷ (6, is_false f ∷ yes_of a ∷ yes_of b ∷ []) ∷ [])
+
+abbrev pub iff_row : ℕ → Formula → Formula → Formula → Option Clause
+iff_row r f a b =
+    row_at r ((7, is_false f ∷ no_of a ∷ yes_of b ∷ []) ∷ (8, is_false f ∷ yes_of a ∷ no_of b ∷ []) ∷ (9, is_true f ∷ yes_of a ∷ yes_of b ∷ []) ∷ (10, is_true f ∷ no_of a ∷ no_of b ∷ []) ∷ [])
+
+abbrev pub xor_row : ℕ → Formula → Formula → Formula → Option Clause
+xor_row r f a b =
+    row_at r ((11, is_false f ∷ yes_of a ∷ yes_of b ∷ []) ∷ (12, is_false f ∷ no_of a ∷ no_of b ∷ []) ∷ (13, is_true f ∷ no_of a ∷ yes_of b ∷ []) ∷ (14, is_true f ∷ yes_of a ∷ no_of b ∷ []) ∷ [])
+
+abbrev pub true_row : ℕ → Formula → Option Clause
+true_row r f = row_at r ((15, is_true f ∷ []) ∷ [])
+
+abbrev pub false_row : ℕ → Formula → Option Clause
+false_row r f = row_at r ((16, is_false f ∷ []) ∷ [])
 
 unfoldable pub row_of : ℕ → Formula → Formula-F Formula Quant → Option Clause
+row_of r f (layer_of.And a b) = and_row r f a b
 row_of r f (layer_of.Or a b) = or_row r f a b
+row_of r f (layer_of.Iff a b) = iff_row r f a b
+row_of r f (layer_of.Xor a b) = xor_row r f a b
+row_of r f layer_of.True = true_row r f
+row_of r f layer_of.False = false_row r f
 row_of r f _ = None
 
 -- the defining clause of number r of a formula

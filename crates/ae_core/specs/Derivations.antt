@@ -1,5 +1,5 @@
 -- Contradictory literals, and a derivation of a goal.
--- Allowed so far: the ending `neq`, and the clause lines `goal`, `def` (rows 4 and 5), `block` and `rup`. No other ending or clause line is ever allowed.
+-- Allowed so far: the ending `neq`, and the clause lines `goal`, `def`, `block` and `rup`. No other ending or clause line is ever allowed.
 use Rattle.std.specs.Prelude.{ℕ, Bool, true, false, List, [], ◌∷◌, ◌++◌, ◌≡◌, map, reverse, slice_get, Option, Some, None}
 use Rattle.std.specs.List.{AllByRecursion, Contains, list_all}
 use Rattle.ae_core.specs.Sorts.{formula_ok, ◌>>=◌, or_else, all_known}

@@ -5,3 +5,5 @@ pub mod Lines
 pub mod Clauses
 pub mod Derivations
 pub mod Orders
+pub mod TreeOrder
+pub mod Linear

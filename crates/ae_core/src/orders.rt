@@ -1,7 +1,11 @@
 //! Structural orders of sorts, terms, formulas and literals: by variant, then by the parts from left to right. Without memory, in time linear in the smaller of the two values.
-ghost use Rattle.std.specs.Prelude.{◌≡◌, ◌↔◌};
+ghost use Rattle.std.specs.Prelude.{◌≡◌, ◌↔◌, Some};
 ghost use Rattle.std.specs.declared.cmp.Ordering.TheVariants.{Equal};
-ghost use Rattle.std.specs.Ordering.{ordering_then};
+ghost use Rattle.std.specs.Cmp.{partial_equiv_from_equiv, partial_order_from_agreeing_total};
+ghost use Rattle.std.specs.Ordering.{ordering_then, eq_by_cmp};
+ghost use Rattle.std.proofs.Common.{refl};
+ghost use Rattle.std.proofs.lemmas.Cmp.{eq_by_cmp_equiv};
+ghost use Rattle.ae_core.specs.TreeOrder.{formula_total};
 ghost use Rattle.std.specs.Cmp.Lexicographic.{slice_cmp};
 ghost use Rattle.ae_core.specs.Orders.{number, rank, sort_order, sort_tree, op_tree, head_order, head_tree, term_order, term_tree, formula_order, formula_tree, quant_order, lit_order};
 
@@ -351,5 +355,44 @@ pub fn compare_lits(left: &Lit, right: &Lit) -> Ordering
     match compare_formulas(&left.formula, &right.formula) {
         Ordering::Equal => left.positive.cmp(&right.positive),
         other => other,
+    }
+}
+
+/// The structural order, so that formulas are keys of maps.
+impl Ord for Formula {
+    ghost cmp = { formula_order };
+
+    ghost total = { formula_total };
+
+    ghost matches_partial_cmp = { λ a b. refl };
+
+    ghost matches_eq = { λ a b. refl };
+
+    fn cmp(&self, other: &Formula) -> Ordering {
+        compare_formulas(self, other)
+    }
+}
+
+impl PartialOrd for Formula {
+    ghost partial_cmp = { λ a b. Some (formula_order a b) };
+
+    ghost laws = { partial_order_from_agreeing_total formula_order formula_total (λ a b. refl) (λ a b. refl) };
+
+    fn partial_cmp(&self, other: &Formula) -> Option<Ordering> {
+        Some(compare_formulas(self, other))
+    }
+}
+
+impl Eq for Formula {
+    ghost laws = { eq_by_cmp_equiv formula_total };
+}
+
+impl PartialEq for Formula {
+    ghost eq = { eq_by_cmp formula_order };
+
+    ghost laws = { partial_equiv_from_equiv (eq_by_cmp_equiv formula_total) };
+
+    fn eq(&self, other: &Formula) -> bool {
+        compare_formulas(self, other).is_eq()
     }
 }

@@ -6,7 +6,7 @@ use Rattle.std.proofs.lemmas.Bool.Decides.{eqb_tells}
 use Rattle.ae_core.specs.Decided.{decided, pick_yes, pick_no, Term_discrete}
 use Rattle.ae_core.specs.Sorts.{known, or_else}
 use Rattle.ae_core.specs.Lines.{Among}
-use Rattle.ae_core.specs.Clauses.{Clause, is_true, is_false, opposite, row}
+use Rattle.ae_core.specs.Clauses.{Clause, yes_of, is_true, is_false, opposite, row}
 use Rattle.ae_core.proofs.ClauseLaws.{row_eq, row_or}
 use Rattle.ae_core.proofs.Recursion.{fold_eq, fold_not, fold_or}
 use Rattle.ae_core.specs.declared.terms.Head.TheVariants.{Symbol}
@@ -141,10 +141,14 @@ first_literal [] g = refl
 first_literal (e ∷ es) g = refl
 
 -- ---- taking apart
-row_choice : (b c : Bool) (x y : Clause) (z : Clause) → cond b (Some x) (cond c (Some y) None) ≡ Some z → (x ≡ z) ⊎ (y ≡ z)
-row_choice true c x y z e = inl (ap (λ o. or_else o x) e)
-row_choice false true x y z e = inr (ap (λ o. or_else o y) e)
-row_choice false false x y z e = absurd (none_some e)
+row_choice : (b c d : Bool) (x y w : Clause) (z : Clause) → cond b (Some x) (cond c (Some y) (cond d (Some w) None)) ≡ Some z → (x ≡ z) ⊎ ((y ≡ z) ⊎ (w ≡ z))
+row_choice true c d x y w z e = inl (ap (λ o. or_else o x) e)
+row_choice false true d x y w z e = inr (inl (ap (λ o. or_else o y) e))
+row_choice false false true x y w z e = inr (inr (ap (λ o. or_else o w) e))
+row_choice false false false x y w z e = absurd (none_some e)
+
+first_stands : (ls : List Lit) (a : Lit) (others c : Clause) → Among ls a → a ∷ others ≡ c → SomeStands ls c
+first_stands ls a others c h e = (a, subst (λ z. Among z a) e (0, refl), h)
 
 second_stands : (ls : List Lit) (a b : Lit) (c : Clause) → Among ls b → a ∷ b ∷ [] ≡ c → SomeStands ls c
 second_stands ls a b c h e = (b, subst (λ z. Among z b) e (1, refl), h)
@@ -153,23 +157,28 @@ module _ (all : List Lit) where
   apart_eq : (sign : Bool) (e : Equation) → IsTakenApart all (record { positive = sign; formula = equation e })
   apart_eq sign e r c h = absurd (none_some (sym (row_eq r (constant e.left) (constant e.right)) ∙ h))
 
-  apart_or : (e : Equation) (es : List Equation) (g : Equation) → Among all (is_true (equation e)) → Among all (is_false (chain es g)) → IsTakenApart all (is_false (chain (e ∷ es) g))
-  apart_or e es g he hs r c h =
+  apart_or : (e : Equation) (es : List Equation) (g : Equation) → Among all (is_false (chain (e ∷ es) g)) → Among all (is_true (equation e)) → Among all (is_false (chain es g)) → IsTakenApart all (is_false (chain (e ∷ es) g))
+  apart_or e es g itself he hs r c h =
       let f = chain (e ∷ es) g in
       let four = is_true f ∷ is_true (equation e) ∷ [] in
       let five = is_true f ∷ is_false (chain es g) ∷ [] in
-      let rows : row r f ≡ cond (nat_eq r 4) (Some four) (cond (nat_eq r 5) (Some five) None) =
+      let parts = yes_of (Not (equation e)) ∷ yes_of (chain es g) ∷ [] in
+      let six = is_false f ∷ parts in
+      let rows : row r f ≡ cond (nat_eq r 4) (Some four) (cond (nat_eq r 5) (Some five) (cond (nat_eq r 6) (Some six) None)) =
       row_or r (Not (equation e)) (chain es g)
-      ∙ (λ i. cond (nat_eq r 4) (Some (is_true f ∷ no_not e i ∷ [])) (cond (nat_eq r 5) (Some (is_true f ∷ no_chain es g i ∷ [])) None)) in
+      ∙ (λ i. cond (nat_eq r 4) (Some (is_true f ∷ no_not e i ∷ [])) (cond (nat_eq r 5) (Some (is_true f ∷ no_chain es g i ∷ [])) (cond (nat_eq r 6) (Some six) None))) in
       ⊎_elim
       (λ x. second_stands all (is_true f) (is_true (equation e)) c he x)
+      (λ later. ⊎_elim
       (λ y. second_stands all (is_true f) (is_false (chain es g)) c hs y)
-      (row_choice (nat_eq r 4) (nat_eq r 5) four five c (sym rows ∙ h))
+      (λ w. first_stands all (is_false f) parts c itself w)
+      later)
+      (row_choice (nat_eq r 4) (nat_eq r 5) (nat_eq r 6) four five six c (sym rows ∙ h))
 
   apart_literals : (es : List Equation) (g : Equation) → ((i : ℕ) (l : Lit) → slice_get (state_literals es g) i ≡ Some l → Among all l) → AllByRecursion (IsTakenApart all) (state_literals es g)
   apart_literals [] g f = (apart_eq false g, tt)
   apart_literals (e ∷ es) g f = (
-    apart_or e es g (f 1 (is_true (equation e)) refl) (f 2 (is_false (chain es g)) (first_literal es g)),
+    apart_or e es g (f 0 (is_false (chain (e ∷ es) g)) refl) (f 1 (is_true (equation e)) refl) (f 2 (is_false (chain es g)) (first_literal es g)),
     (apart_eq true e, apart_literals es g (λ i. f (suc (suc i)))),
   )
 

@@ -1,6 +1,6 @@
 -- The goal of a derivation is true under each equality of terms: were it false, each line would state a clause that has a true literal, and the last one states the empty clause.
-use Rattle.std.specs.Prelude.{ℕ, zero, suc, ◌-◌, ◌<◌, Bool, true, false, cond, not, ◌||◌, List, [], ◌∷◌, ◌++◌, ◌≡◌, ◌⊎◌, map, reverse, length, get_or, nat_eq, slice_get, Option, Some, None}
-use Rattle.std.specs.List.{list_any, list_all}
+use Rattle.std.specs.Prelude.{ℕ, zero, suc, ◌-◌, ◌<◌, Bool, true, false, cond, not, ◌&&◌, ◌||◌, List, [], ◌∷◌, ◌++◌, ◌≡◌, ◌⊎◌, map, reverse, length, get_or, nat_eq, slice_get, Option, Some, None}
+use Rattle.std.specs.List.{AllByRecursion, list_any, list_all}
 use Rattle.std.proofs.Common.{refl, sym, ap, ◌∙◌, subst, true≢false, inl, inr, ⊎_elim, arith, append_assoc, append-nil}
 use Rattle.std.proofs.lemmas.Bool.{and_from, and_parts, or_left, or_right, not_from_false}
 use Rattle.std.proofs.lemmas.Option.{same_Some, slice_get_within, get_or_from_slice_get, slice_get_read}
@@ -10,13 +10,13 @@ use Rattle.ae_core.specs.Decided.{decided, Lit_discrete}
 use Rattle.ae_core.specs.Induction.{by_formulas}
 use Rattle.ae_core.specs.Sorts.{◌>>=◌, when, all_known}
 use Rattle.ae_core.specs.Lines.{Fact, equal, AllAllowed, Follows, by_hyp, by_refl, by_sym, by_trans, Among, fact_ok}
-use Rattle.ae_core.specs.Clauses.{Clause, literal, no_of, is_true, opposite, row, or_row, stands, has_true, is_or_stands, next_false, refutes}
+use Rattle.ae_core.specs.Clauses.{Clause, literal, yes_of, no_of, is_true, is_false, opposite, row, row_at, and_row, or_row, iff_row, xor_row, true_row, false_row, stands, has_true, is_or_stands, next_false, refutes}
 use Rattle.ae_core.specs.Derivations.{Ends, IsContradictory, goal_body, conclusion, stated_by, is_refuted, hinted, IsAllowed, AreAllowed, last_of}
 use Rattle.ae_core.proofs.Bridge.{all_follow}
-use Rattle.ae_core.proofs.Recursion.{fold_eq, fold_not, fold_or}
+use Rattle.ae_core.proofs.Recursion.{fold_true, fold_false, fold_eq, fold_not, fold_and, fold_or, fold_xor, fold_iff}
 use Rattle.ae_core.proofs.ClauseLaws.{literal_true, literal_false, literal_eq, literal_lt, literal_le, literal_pred, literal_not, literal_and, literal_or, literal_xor, literal_iff, literal_all, literal_ex, row_true, row_false, row_eq, row_lt, row_le, row_pred, row_not, row_and, row_or, row_xor, row_iff, row_all, row_ex}
 use Rattle.ae_core.specs.declared.terms.Term.{Term}
-use Rattle.ae_core.specs.declared.formulas.Formula.{Formula, Eq, Not, Or}
+use Rattle.ae_core.specs.declared.formulas.Formula.{Formula, True, False, Eq, Not, And, Or, Xor, Iff}
 use Rattle.ae_core.specs.declared.formulas.Lit.{Lit}
 use Rattle.ae_core.specs.declared.problems.Problem.{Problem}
 use Rattle.ae_core.specs.declared.problems.Signature.{Signature}
@@ -58,16 +58,15 @@ one_is_true true false = inr refl
 one_is_true false true = inr refl
 one_is_true false false = inl refl
 
--- the two rows of a disjunction, in the truth of its parts
-row_left : (a b : Bool) → (a || b) || (not a || false) ≡ true
-row_left true b = refl
-row_left false true = refl
-row_left false false = refl
+-- a function of two truth values that is always true
+abbrev IsTautology : (Bool → Bool → Bool) → Type 0
+IsTautology f = (f true true ≡ true) × (f true false ≡ true) × (f false true ≡ true) × (f false false ≡ true)
 
-row_right : (a b : Bool) → (a || b) || (not b || false) ≡ true
-row_right true b = refl
-row_right false true = refl
-row_right false false = refl
+tautology : (f : Bool → Bool → Bool) → IsTautology f → (a b : Bool) → f a b ≡ true
+tautology f t true true = t.0
+tautology f t true false = t.1
+tautology f t false true = t.2
+tautology f t false false = t.3
 
 decided_yes : {P : Type 0} (d : Dec P) → decided d ≡ true → P
 decided_yes (yes p) e = p
@@ -123,6 +122,26 @@ module _ (alike : Term → Term → Bool) where
   unfolding truth
   truth_not = fold_not Bool (Unit {0}) (truth_step alike) (λ q. tt)
 
+  truth_true : truth alike True ≡ true
+  unfolding truth
+  truth_true = fold_true Bool (Unit {0}) (truth_step alike) (λ q. tt)
+
+  truth_false : truth alike False ≡ false
+  unfolding truth
+  truth_false = fold_false Bool (Unit {0}) (truth_step alike) (λ q. tt)
+
+  truth_and : (a b : Formula) → truth alike (And a b) ≡ truth alike a && truth alike b
+  unfolding truth
+  truth_and = fold_and Bool (Unit {0}) (truth_step alike) (λ q. tt)
+
+  truth_xor : (a b : Formula) → truth alike (Xor a b) ≡ not (same_truth (truth alike a) (truth alike b))
+  unfolding truth
+  truth_xor = fold_xor Bool (Unit {0}) (truth_step alike) (λ q. tt)
+
+  truth_iff : (a b : Formula) → truth alike (Iff a b) ≡ same_truth (truth alike a) (truth alike b)
+  unfolding truth
+  truth_iff = fold_iff Bool (Unit {0}) (truth_step alike) (λ q. tt)
+
   truth_or : (a b : Formula) → truth alike (Or a b) ≡ truth alike a || truth alike b
   unfolding truth
   truth_or = fold_or Bool (Unit {0}) (truth_step alike) (λ q. tt)
@@ -149,12 +168,57 @@ module _ (alike : Term → Term → Bool) where
   same_clause : (d c : Clause) → Some d ≡ Some c → clause_true alike d ≡ true → clause_true alike c ≡ true
   same_clause d c e t = ap (clause_true alike) (sym (same_Some d c e)) ∙ t
 
+  -- clauses of a formula and one or two of its parts, in the truth of the parts
+  with_first : (op : Bool → Bool → Bool) (s t : Bool) (f a b : Formula) → truth alike f ≡ op (truth alike a) (truth alike b)
+      → IsTautology (λ x y. same_truth s (op x y) || (same_truth t x || false)) → clause_true alike (record { positive = s; formula = f } ∷ literal t a ∷ []) ≡ true
+  with_first op s t f a b e h =
+      (λ i. same_truth s (e i) || (literal_truth a t i || false)) ∙ tautology (λ x y. same_truth s (op x y) || (same_truth t x || false)) h (truth alike a) (truth alike b)
+
+  with_second : (op : Bool → Bool → Bool) (s t : Bool) (f a b : Formula) → truth alike f ≡ op (truth alike a) (truth alike b)
+      → IsTautology (λ x y. same_truth s (op x y) || (same_truth t y || false)) → clause_true alike (record { positive = s; formula = f } ∷ literal t b ∷ []) ≡ true
+  with_second op s t f a b e h =
+      (λ i. same_truth s (e i) || (literal_truth b t i || false)) ∙ tautology (λ x y. same_truth s (op x y) || (same_truth t y || false)) h (truth alike a) (truth alike b)
+
+  with_both : (op : Bool → Bool → Bool) (s t u : Bool) (f a b : Formula) → truth alike f ≡ op (truth alike a) (truth alike b)
+      → IsTautology (λ x y. same_truth s (op x y) || (same_truth t x || (same_truth u y || false)))
+      → clause_true alike (record { positive = s; formula = f } ∷ literal t a ∷ literal u b ∷ []) ≡ true
+  with_both op s t u f a b e h =
+      (λ i. same_truth s (e i) || (literal_truth a t i || (literal_truth b u i || false)))
+      ∙ tautology (λ x y. same_truth s (op x y) || (same_truth t x || (same_truth u y || false))) h (truth alike a) (truth alike b)
+
+  -- rows that are all true
+  abbrev AreTrueRows : List (ℕ × Clause) → Type 0
+  AreTrueRows rows = AllByRecursion (λ x. clause_true alike x.1 ≡ true) rows
+
+  one_of_rows : (r : ℕ) (rows : List (ℕ × Clause)) → AreTrueRows rows → (c : Clause) → row_at r rows ≡ Some c → clause_true alike c ≡ true
+  one_of_rows r [] h c e = absurd (none_some c e)
+  one_of_rows r (x ∷ xs) h c e = cond_some (nat_eq r x.0) (Some x.1) (row_at r xs) c e (λ k. same_clause x.1 c k h.0) (λ k. one_of_rows r xs h.1 c k)
+
+  and_rows_true : (r : ℕ) (a b : Formula) (c : Clause) → and_row r (And a b) a b ≡ Some c → clause_true alike c ≡ true
+  and_rows_true r a b c e =
+      let f = And a b in
+      one_of_rows r ((1, is_false f ∷ yes_of a ∷ []) ∷ (2, is_false f ∷ yes_of b ∷ []) ∷ (3, is_true f ∷ no_of a ∷ no_of b ∷ []) ∷ []) (with_first (λ x y. x && y) false true f a b (truth_and a b) (refl, refl, refl, refl), (with_second (λ x y. x && y) false true f a b (truth_and a b) (refl, refl, refl, refl), (with_both (λ x y. x && y) true false false f a b (truth_and a b) (refl, refl, refl, refl), tt))) c e
+
   or_rows_true : (r : ℕ) (a b : Formula) (c : Clause) → or_row r (Or a b) a b ≡ Some c → clause_true alike c ≡ true
   or_rows_true r a b c e =
-      let left : clause_true alike (is_true (Or a b) ∷ no_of a ∷ []) ≡ true = (λ i. truth_or a b i || (literal_truth a false i || false)) ∙ row_left (truth alike a) (truth alike b) in
-      let right : clause_true alike (is_true (Or a b) ∷ no_of b ∷ []) ≡ true = (λ i. truth_or a b i || (literal_truth b false i || false)) ∙ row_right (truth alike a) (truth alike b) in
-      cond_some (nat_eq r 4) (Some (is_true (Or a b) ∷ no_of a ∷ [])) (cond (nat_eq r 5) (Some (is_true (Or a b) ∷ no_of b ∷ [])) None) c e (λ h. same_clause _ c h left)
-      (λ later. cond_some (nat_eq r 5) (Some (is_true (Or a b) ∷ no_of b ∷ [])) None c later (λ h. same_clause _ c h right) (λ h. absurd (none_some c h)))
+      let f = Or a b in
+      one_of_rows r ((4, is_true f ∷ no_of a ∷ []) ∷ (5, is_true f ∷ no_of b ∷ []) ∷ (6, is_false f ∷ yes_of a ∷ yes_of b ∷ []) ∷ []) (with_first (λ x y. x || y) true false f a b (truth_or a b) (refl, refl, refl, refl), (with_second (λ x y. x || y) true false f a b (truth_or a b) (refl, refl, refl, refl), (with_both (λ x y. x || y) false true true f a b (truth_or a b) (refl, refl, refl, refl), tt))) c e
+
+  iff_rows_true : (r : ℕ) (a b : Formula) (c : Clause) → iff_row r (Iff a b) a b ≡ Some c → clause_true alike c ≡ true
+  iff_rows_true r a b c e =
+      let f = Iff a b in
+      one_of_rows r ((7, is_false f ∷ no_of a ∷ yes_of b ∷ []) ∷ (8, is_false f ∷ yes_of a ∷ no_of b ∷ []) ∷ (9, is_true f ∷ yes_of a ∷ yes_of b ∷ []) ∷ (10, is_true f ∷ no_of a ∷ no_of b ∷ []) ∷ []) (with_both same_truth false false true f a b (truth_iff a b) (refl, refl, refl, refl), (with_both same_truth false true false f a b (truth_iff a b) (refl, refl, refl, refl), (with_both same_truth true true true f a b (truth_iff a b) (refl, refl, refl, refl), (with_both same_truth true false false f a b (truth_iff a b) (refl, refl, refl, refl), tt)))) c e
+
+  xor_rows_true : (r : ℕ) (a b : Formula) (c : Clause) → xor_row r (Xor a b) a b ≡ Some c → clause_true alike c ≡ true
+  xor_rows_true r a b c e =
+      let f = Xor a b in
+      one_of_rows r ((11, is_false f ∷ yes_of a ∷ yes_of b ∷ []) ∷ (12, is_false f ∷ no_of a ∷ no_of b ∷ []) ∷ (13, is_true f ∷ no_of a ∷ yes_of b ∷ []) ∷ (14, is_true f ∷ yes_of a ∷ no_of b ∷ []) ∷ []) (with_both (λ x y. not (same_truth x y)) false true true f a b (truth_xor a b) (refl, refl, refl, refl), (with_both (λ x y. not (same_truth x y)) false false false f a b (truth_xor a b) (refl, refl, refl, refl), (with_both (λ x y. not (same_truth x y)) true false true f a b (truth_xor a b) (refl, refl, refl, refl), (with_both (λ x y. not (same_truth x y)) true true false f a b (truth_xor a b) (refl, refl, refl, refl), tt)))) c e
+
+  true_row_true : (r : ℕ) (c : Clause) → true_row r True ≡ Some c → clause_true alike c ≡ true
+  true_row_true r c e = one_of_rows r ((15, is_true True ∷ []) ∷ []) (or_left (truth alike True) false truth_true, tt) c e
+
+  false_row_true : (r : ℕ) (c : Clause) → false_row r False ≡ Some c → clause_true alike c ≡ true
+  false_row_true r c e = one_of_rows r ((16, is_false False ∷ []) ∷ []) (or_left (not (truth alike False)) false (ap not truth_false), tt) c e
 
   no_row : (o : Option Clause) (c : Clause) → o ≡ None → o ≡ Some c → clause_true alike c ≡ true
   no_row o c n e = absurd (none_some c (sym n ∙ e))
@@ -162,17 +226,17 @@ module _ (alike : Term → Term → Bool) where
   rows_true : (f : Formula) (r : ℕ) (c : Clause) → row r f ≡ Some c → clause_true alike c ≡ true
   rows_true =
       by_formulas (λ f. (r : ℕ) (c : Clause) → row r f ≡ Some c → clause_true alike c ≡ true) (λ q. Unit {0})
-      (λ r c. no_row _ c (row_true r))
-      (λ r c. no_row _ c (row_false r))
+      (λ r c e. true_row_true r c (sym (row_true r) ∙ e))
+      (λ r c e. false_row_true r c (sym (row_false r) ∙ e))
       (λ a b r c. no_row _ c (row_eq r a b))
       (λ a b r c. no_row _ c (row_lt r a b))
       (λ a b r c. no_row _ c (row_le r a b))
       (λ p ss us r c. no_row _ c (row_pred r p ss us))
       (λ a h r c. no_row _ c (row_not r a))
-      (λ a b h k r c. no_row _ c (row_and r a b))
+      (λ a b h k r c e. and_rows_true r a b c (sym (row_and r a b) ∙ e))
       (λ a b h k r c e. or_rows_true r a b c (sym (row_or r a b) ∙ e))
-      (λ a b h k r c. no_row _ c (row_xor r a b))
-      (λ a b h k r c. no_row _ c (row_iff r a b))
+      (λ a b h k r c e. xor_rows_true r a b c (sym (row_xor r a b) ∙ e))
+      (λ a b h k r c e. iff_rows_true r a b c (sym (row_iff r a b) ∙ e))
       (λ q h r c. no_row _ c (row_all r q))
       (λ q h r c. no_row _ c (row_ex r q))
       (λ q h. tt)

@@ -4,26 +4,41 @@ use Rattle.ae_core.specs.Clauses as spec
 use Rattle.ae_core.proofs.ClauseLaws as laws
 use Rattle.ae_calc.proofs.rows.row.Goals as goal
 
+pub returns-in-And : goal.returns-in-And
+returns-in-And c =
+    subst (λ g. IfOk c.and_row.result (λ x. x ≡ g))
+    ((λ i. spec.and_row c.args.number (c.in-And.is i) (c.get.ensures i) (c.get-in-And.ensures i)) ∙ sym (laws.row_and c.args.number c.in-And.a c.in-And.b) ∙ ap (spec.row c.args.number) (sym c.in-And.is))
+    c.and_row.ensures
+
 pub returns-in-Or : goal.returns-in-Or
 returns-in-Or c =
     subst (λ g. IfOk c.or_row.result (λ x. x ≡ g))
-    ((λ i. spec.or_row c.args.number (c.in-Or.is i) (c.get.ensures i) (c.get-in-Or.ensures i)) ∙ sym (laws.row_or c.args.number c.in-Or.a c.in-Or.b) ∙ ap (spec.row c.args.number) (sym c.in-Or.is))
+    ((λ i. spec.or_row c.args.number (c.in-Or.is i) (c.get-in-Or.ensures i) (c.get-in-Or-2.ensures i)) ∙ sym (laws.row_or c.args.number c.in-Or.a c.in-Or.b) ∙ ap (spec.row c.args.number) (sym c.in-Or.is))
     c.or_row.ensures
 
-pub returns-in-And : goal.returns-in-And
-returns-in-And c = sym (laws.row_and c.args.number c.in-And.field-0 c.in-And.field-1) ∙ ap (spec.row c.args.number) (sym c.in-And.is)
+pub returns-in-Iff : goal.returns-in-Iff
+returns-in-Iff c =
+    subst (λ g. IfOk c.iff_row.result (λ x. x ≡ g))
+    ((λ i. spec.iff_row c.args.number (c.in-Iff.is i) (c.get-in-Iff.ensures i) (c.get-in-Iff-2.ensures i)) ∙ sym (laws.row_iff c.args.number c.in-Iff.a c.in-Iff.b) ∙ ap (spec.row c.args.number) (sym c.in-Iff.is))
+    c.iff_row.ensures
 
 pub returns-in-Xor : goal.returns-in-Xor
-returns-in-Xor c = sym (laws.row_xor c.args.number c.in-Xor.field-0 c.in-Xor.field-1) ∙ ap (spec.row c.args.number) (sym c.in-Xor.is)
-
-pub returns-in-Iff : goal.returns-in-Iff
-returns-in-Iff c = sym (laws.row_iff c.args.number c.in-Iff.field-0 c.in-Iff.field-1) ∙ ap (spec.row c.args.number) (sym c.in-Iff.is)
+returns-in-Xor c =
+    subst (λ g. IfOk c.xor_row.result (λ x. x ≡ g))
+    ((λ i. spec.xor_row c.args.number (c.in-Xor.is i) (c.get-in-Xor.ensures i) (c.get-in-Xor-2.ensures i)) ∙ sym (laws.row_xor c.args.number c.in-Xor.a c.in-Xor.b) ∙ ap (spec.row c.args.number) (sym c.in-Xor.is))
+    c.xor_row.ensures
 
 pub returns-in-True : goal.returns-in-True
-returns-in-True c = sym (laws.row_true c.args.number) ∙ ap (spec.row c.args.number) (sym c.in-True.is)
+returns-in-True c =
+    subst (λ g. IfOk c.true_row.result (λ x. x ≡ g))
+    ((λ i. spec.true_row c.args.number (c.in-True.is i)) ∙ sym (laws.row_true c.args.number) ∙ ap (spec.row c.args.number) (sym c.in-True.is))
+    c.true_row.ensures
 
 pub returns-in-False : goal.returns-in-False
-returns-in-False c = sym (laws.row_false c.args.number) ∙ ap (spec.row c.args.number) (sym c.in-False.is)
+returns-in-False c =
+    subst (λ g. IfOk c.false_row.result (λ x. x ≡ g))
+    ((λ i. spec.false_row c.args.number (c.in-False.is i)) ∙ sym (laws.row_false c.args.number) ∙ ap (spec.row c.args.number) (sym c.in-False.is))
+    c.false_row.ensures
 
 pub returns-in-Eq : goal.returns-in-Eq
 returns-in-Eq c = sym (laws.row_eq c.args.number c.in-Eq.left c.in-Eq.right) ∙ ap (spec.row c.args.number) (sym c.in-Eq.is)
