@@ -1,0 +1,12 @@
+pub mod Rising
+pub mod Counts
+pub mod Comparing
+pub mod Descent
+pub mod Ranks
+pub mod Confluence
+pub mod NormalForms
+pub mod Reducing
+pub mod Merging
+pub mod Compares
+pub mod Parts
+pub mod Examples

@@ -1,0 +1,5 @@
+pub mod Multisets
+pub mod Ranks
+pub mod Rewriting
+pub mod Normal
+pub mod Example

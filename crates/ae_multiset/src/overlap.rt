@@ -1,0 +1,31 @@
+//! What two multisets share.
+ghost use Rattle.std.specs.Prelude.{IfOk};
+ghost use Rattle.std.specs.List.Sorted.{IsNonDecreasing};
+ghost use Rattle.ae_multiset.specs.Multisets.{IsSame, common};
+
+use std::alloc::{AllocError, Global};
+use std::cmp::Ordering;
+
+/// The greatest common part, in rising order.
+pub fn common(alloc: Global, left: &[usize], right: &[usize]) -> Result<Vec<usize>, AllocError>
+    requires left { IsNonDecreasing left.now }
+    requires right { IsNonDecreasing right.now }
+    ensures names { IfOk result (λ v. IsSame v.items (common left.now right.now)) }
+    ensures rises { IfOk result (λ v. IsNonDecreasing v.items) }
+{
+    let mut merged = Vec::new(alloc);
+    let mut i = 0;
+    let mut j = 0;
+    while i < left.len() && j < right.len() {
+        match left[i].cmp(&right[j]) {
+            Ordering::Less => i += 1,
+            Ordering::Equal => {
+                merged.push(left[i])?;
+                i += 1;
+                j += 1;
+            }
+            Ordering::Greater => j += 1,
+        }
+    }
+    Ok(merged)
+}
