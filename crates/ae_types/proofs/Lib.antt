@@ -1,0 +1,10 @@
+pub mod SortLaws
+pub mod GraphLaws
+pub mod FollowLaws
+pub mod JoinLaws
+pub mod EnterLaws
+pub mod LinkLaws
+pub mod LevelLaws
+pub mod WalkLaws
+pub mod UnifyLaws
+pub mod CycleLaws

@@ -1,0 +1,69 @@
+use Rattle.std.proofs.Common.{◌∷◌, [], ◌≡◌, ◌∙◌, ap, sym, subst, OnErr}
+use Rattle.ae_types.specs.declared.joins.Pair.{Pair}
+use Rattle.ae_types.specs.Enters.{Sheet, sheet, Grows}
+use Rattle.ae_types.specs.Bound.{bound, IsSound}
+use Rattle.ae_types.specs.Substitutions.{Respects, MakesEqual}
+use Rattle.ae_types.proofs.EnterLaws.{grows_trans, stands_more}
+use Rattle.ae_types.proofs.UnifyLaws.{grown_sound, bound_kept, joined_sound, equated, blamed_pair, on_err, sheets_same}
+use Rattle.ae_types.proofs.bindings.equate_in.Goals as goal
+
+pub returns-in_err-first-clause-sound : goal.returns-in_err-first-clause-sound
+returns-in_err-first-clause-sound c = grown_sound (sheet c.args.graph.now) (sheet c.enter.new.graph) c.requires.sound c.in_err-first.ensures.grows
+
+pub returns-in_err-first-clause-refused : goal.returns-in_err-first-clause-refused
+returns-in_err-first-clause-refused c = on_err c.from_residual.result _ (bound_kept (sheet c.args.graph.now) (sheet c.enter.new.graph) c.requires.sound c.in_err-first.ensures.grows)
+
+pub returns-in_err-second-clause-sound : goal.returns-in_err-second-clause-sound
+returns-in_err-second-clause-sound c =
+    grown_sound (sheet c.args.graph.now) (sheet c.enter-2.new.graph) c.requires.sound
+    (grows_trans (sheet c.args.graph.now) (sheet c.enter.new.graph) (sheet c.enter-2.new.graph) c.in_ok-first.ensures.grows c.in_err-second.ensures.grows)
+
+pub returns-in_err-second-clause-refused : goal.returns-in_err-second-clause-refused
+returns-in_err-second-clause-refused c =
+    on_err c.from_residual-in_err-second.result _
+    (bound_kept (sheet c.args.graph.now) (sheet c.enter-2.new.graph) c.requires.sound
+    (grows_trans (sheet c.args.graph.now) (sheet c.enter.new.graph) (sheet c.enter-2.new.graph) c.in_ok-first.ensures.grows c.in_err-second.ensures.grows))
+
+pub returns-in-Ok-clause-sound : goal.returns-in-Ok-clause-sound
+returns-in-Ok-clause-sound c =
+    let t = sheet c.enter-2.new.graph in
+    let g = grows_trans (sheet c.args.graph.now) (sheet c.enter.new.graph) t c.in_ok-first.ensures.grows c.in_ok-second.ensures.grows in
+    let e = c.in-Ok.ensures in
+    subst IsSound (sheets_same t (sheet c.join.new.graph) e.nodes e.names)
+    (joined_sound t (grown_sound (sheet c.args.graph.now) t c.requires.sound g) c.join.new.graph.classes (record { left = c.in_ok-first.first; right = c.in_ok-second.second } ∷ []) e.closed e.settled)
+
+pub returns-in-Ok-clause-respected : goal.returns-in-Ok-clause-respected
+returns-in-Ok-clause-respected c = λ f.
+    (let t = sheet c.enter-2.new.graph in
+    let g = grows_trans (sheet c.args.graph.now) (sheet c.enter.new.graph) t c.in_ok-first.ensures.grows c.in_ok-second.ensures.grows in
+    let e = c.in-Ok.ensures in
+    subst (λ x. (Respects f (bound x) → Respects f (bound (sheet c.args.graph.now)) × MakesEqual f c.args.left.now c.args.right.now)
+    × (Respects f (bound (sheet c.args.graph.now)) × MakesEqual f c.args.left.now c.args.right.now → Respects f (bound x)))
+    (sheets_same t (sheet c.join.new.graph) e.nodes e.names)
+    (equated (sheet c.args.graph.now) t c.requires.sound g c.args.left.now c.args.right.now c.in_ok-first.first c.in_ok-second.second
+    (stands_more (sheet c.enter.new.graph) t c.args.left.now c.in_ok-first.first c.in_ok-first.ensures.grows.well c.in_ok-second.ensures.grows c.in_ok-first.ensures.ok) c.in_ok-second.ensures.ok
+    c.join.new.graph.classes e.closed e.settled f))
+
+pub returns-in-Err-clause-sound : goal.returns-in-Err-clause-sound
+returns-in-Err-clause-sound c =
+    let t = sheet c.enter-2.new.graph in
+    let g = grows_trans (sheet c.args.graph.now) (sheet c.enter.new.graph) t c.in_ok-first.ensures.grows c.in_ok-second.ensures.grows in
+    let e = c.in-Err.ensures in
+    subst IsSound (ap (λ xs. record { nodes = t.nodes; classes = xs; names = t.names }) (sym e.err) ∙ sheets_same t (sheet c.join.new.graph) e.nodes e.names)
+    (grown_sound (sheet c.args.graph.now) t c.requires.sound g)
+
+pub returns-in-Err-clause-refused : goal.returns-in-Err-clause-refused
+returns-in-Err-clause-refused c = λ n.
+    (let t = sheet c.enter-2.new.graph in
+    let g = grows_trans (sheet c.args.graph.now) (sheet c.enter.new.graph) t c.in_ok-first.ensures.grows c.in_ok-second.ensures.grows in
+    let e = c.in-Err.ensures in
+    subst (λ x. bound x n ≡ bound (sheet c.args.graph.now) n) (ap (λ xs. record { nodes = t.nodes; classes = xs; names = t.names }) (sym e.err) ∙ sheets_same t (sheet c.join.new.graph) e.nodes e.names)
+    (bound_kept (sheet c.args.graph.now) t c.requires.sound g n))
+
+pub returns-in-Err-clause-blamed : goal.returns-in-Err-clause-blamed
+returns-in-Err-clause-blamed c =
+    let t = sheet c.enter-2.new.graph in
+    let g = grows_trans (sheet c.args.graph.now) (sheet c.enter.new.graph) t c.in_ok-first.ensures.grows c.in_ok-second.ensures.grows in
+    blamed_pair (sheet c.args.graph.now) t c.requires.sound g c.args.left.now c.args.right.now c.in_ok-first.first c.in_ok-second.second
+    (stands_more (sheet c.enter.new.graph) t c.args.left.now c.in_ok-first.first c.in_ok-first.ensures.grows.well c.in_ok-second.ensures.grows c.in_ok-first.ensures.ok) c.in_ok-second.ensures.ok
+    c.in-Err.clash c.in-Err.ensures.blamed

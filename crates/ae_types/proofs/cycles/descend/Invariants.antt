@@ -1,0 +1,13 @@
+use Rattle.std.proofs.Common.{length}
+use Rattle.ae_types.specs.Graphs.{slots_of}
+use Rattle.ae_types.specs.Walks.{Walking, KeepsSeen, left}
+use Rattle.ae_types.proofs.cycles.descend.Given as goal
+
+abbrev pub invariant-loop-frame : goal.invariant-loop-frame
+invariant-loop-frame l = record {
+  walking : Walking (slots_of l.nodes l.classes) l.walk;
+  keeps : KeepsSeen l.fn.walk.marks l.walk.marks;
+}
+
+abbrev pub decreases-loop-frame : goal.decreases-loop-frame
+decreases-loop-frame l = left (slots_of l.nodes l.classes) l.walk

@@ -1,0 +1,31 @@
+use Rattle.std.proofs.Common.{rules, ◌≡◌, [], ◌∙◌, subst}
+use Rattle.ae_types.specs.Joins.{Closing}
+use Rattle.ae_types.proofs.JoinLaws.{closing, closing_shortened, last_pair, blamed}
+use Rattle.ae_types.proofs.joins.close.Goals as goal
+
+pub step-requires-clause-left : goal.step-requires-clause-left
+step-requires-clause-left c = (last_pair _ c.pop.new.self c.loop-pair.todo c.in-Some.pair c.in-Some.ensures c.loop-pair.invariant.closing.pairs).1
+
+pub step-requires-clause-right : goal.step-requires-clause-right
+step-requires-clause-right c = (last_pair _ c.pop.new.self c.loop-pair.todo c.in-Some.pair c.in-Some.ensures c.loop-pair.invariant.closing.pairs).2
+
+pub step-requires-clause-todo : goal.step-requires-clause-todo
+step-requires-clause-todo c = (last_pair _ c.pop.new.self c.loop-pair.todo c.in-Some.pair c.in-Some.ensures c.loop-pair.invariant.closing.pairs).0
+
+pub loop-pair-preserved : goal.loop-pair-preserved
+loop-pair-preserved c = record {
+  closing = closing c.args.nodes.now c.args.classes.now c.loop-pair.classes c.step.new.classes c.args.todo.now c.pop.new.self c.loop-pair.todo c.step.new.todo c.in-Some.pair
+      c.in-Some.ensures c.loop-pair.invariant.closing c.in-Ok.ensures.ok;
+  rewinds = c.in-Ok.ensures.rewinds ∙ c.loop-pair.invariant.rewinds;
+}
+
+pub returns-in-Err-clause-err : goal.returns-in-Err-clause-err
+returns-in-Err-clause-err c =
+    blamed c.args.nodes.now c.args.classes.now c.loop-pair.classes c.args.todo.now c.pop.new.self c.loop-pair.todo c.in-Some.pair c.in-Err.clash
+    c.in-Some.ensures c.loop-pair.invariant.closing c.in-Err.ensures.err
+
+pub returns-clause-ok : goal.returns-clause-ok
+returns-clause-ok c =
+    let e : c.loop-pair.todo ≡ [] = search rules in
+    subst (Closing c.args.nodes.now c.args.classes.now c.flatten.new.classes c.args.todo.now) e
+    (closing_shortened c.args.nodes.now c.args.classes.now c.loop-pair.classes c.flatten.new.classes c.args.todo.now c.loop-pair.todo c.loop-pair.invariant.closing c.flatten.ensures.shortened)

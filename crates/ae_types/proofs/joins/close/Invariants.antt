@@ -1,0 +1,13 @@
+use Rattle.std.proofs.Common.{◌≡◌, ◌+◌, length}
+use Rattle.ae_types.specs.Graphs.{slots_of, rewound}
+use Rattle.ae_types.specs.Joins.{weight, Closing}
+use Rattle.ae_types.proofs.joins.close.Given as goal
+
+abbrev pub invariant-loop-pair : goal.invariant-loop-pair
+invariant-loop-pair l = record {
+  closing : Closing l.nodes l.fn.classes l.classes l.fn.todo l.todo;
+  rewinds : rewound l.classes l.log ≡ rewound l.fn.classes l.fn.log;
+}
+
+abbrev pub decreases-loop-pair : goal.decreases-loop-pair
+decreases-loop-pair l = weight (slots_of l.nodes l.classes) + length l.todo
