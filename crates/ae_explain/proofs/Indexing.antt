@@ -1,0 +1,84 @@
+-- The index of a trail that grows.
+use Rattle.std.proofs.Common.{◌≡◌, ◌+◌, ◌<◌, ℕ, suc, Bool, true, false, cond, List, [], ◌∷◌, ◌++◌, length, length-append, refl, sym, ap, ◌∙◌, true≢false, Option, Some, None, arith, inl, inr}
+use Rattle.std.proofs.Math.ListN.{get_or-append}
+use Rattle.std.proofs.Math.Seq.{get_or-append_seam}
+use Rattle.std.proofs.lemmas.Bool.{cases_lt}
+use Rattle.std.specs.Option.{option_map, IfSome}
+use Rattle.std.specs.declared.cmp.Ordering.{Ordering}
+use Rattle.std.specs.declared.cmp.Ordering.TheVariants.{Less, Equal, Greater}
+use Rattle.std.specs.Ordering.{is_eq}
+use Rattle.ae_core.specs.Decided.{decided, Formula_discrete}
+use Rattle.ae_core.specs.Orders.{formula_order}
+use Rattle.ae_core.proofs.OrderLaws.{formula_exact}
+use Rattle.ae_core.specs.declared.formulas.Formula.{Formula}
+use Rattle.ae_explain.specs.declared.trail.Assigned.{Assigned}
+use Rattle.ae_explain.specs.Trail.{Apart, at, nothing, place_in}
+use Rattle.ae_explain.specs.Index.{IsIndex}
+use Rattle.ae_explain.proofs.Places.{no_if, none_some, found, there}
+
+not_equal : (o : Ordering) → (o ≡ Equal → ⊥) → is_eq o ≡ false
+not_equal Less n = refl
+not_equal Equal n = absurd (n refl)
+not_equal Greater n = refl
+
+-- the order's test of a key is equality
+same_test : (k f : Formula) → is_eq (formula_order k f) ≡ decided (Formula_discrete k f)
+same_test k f = elim (Formula_discrete k f) as (λ d. is_eq (formula_order k f) ≡ decided d) [
+  | yes e ↦ ap is_eq ((formula_exact k f).1 e)
+  | no n ↦ not_equal (formula_order k f) (λ e. n ((formula_exact k f).0 e))
+]
+
+no_first : (b : Bool) (o : Option ℕ) → cond b (Some 0) (option_map suc o) ≡ None → (b ≡ false) × (o ≡ None)
+no_first true o e = absurd (none_some 0 (sym e))
+no_first false None e = (refl, refl)
+no_first false (Some p) e = absurd (none_some (suc p) (sym e))
+
+shifted : (b : Bool) (n : ℕ) (o : Option ℕ) → option_map suc (cond b (Some n) o) ≡ cond b (Some (suc n)) (option_map suc o)
+shifted true n o = refl
+shifted false n o = refl
+
+-- where a formula stands once another one is put at the end
+pub at_end : (t : List Assigned) (a : Assigned) (f : Formula) → place_in t a.lit.formula ≡ None
+    → place_in (t ++ a ∷ []) f ≡ cond (decided (Formula_discrete a.lit.formula f)) (Some (length t)) (place_in t f)
+at_end [] a f h = refl
+at_end (b ∷ t) a f h =
+    let n = no_first (decided (Formula_discrete b.lit.formula a.lit.formula)) (place_in t a.lit.formula) h in
+    let ih = at_end t a f n.1 in
+    let other : b.lit.formula ≡ a.lit.formula → ⊥ = λ e. apart_if (Formula_discrete b.lit.formula a.lit.formula) n.0 e in
+    elim (Formula_discrete b.lit.formula f) as (λ d. cond (decided d) (Some 0) (option_map suc (place_in (t ++ a ∷ []) f))
+    ≡ cond (decided (Formula_discrete a.lit.formula f)) (Some (suc (length t))) (cond (decided d) (Some 0) (option_map suc (place_in t f)))) [
+      | yes e ↦ sym (ap (λ c. cond c (Some (suc (length t))) (Some 0)) (no_if (Formula_discrete a.lit.formula f) (λ q. other (e ∙ sym q))))
+      | no d ↦ ap (option_map suc) ih ∙ shifted (decided (Formula_discrete a.lit.formula f)) (length t) (place_in t f)
+    ]
+  where
+    apart_if : {P : Type 0} (d : Dec P) → decided d ≡ false → P → ⊥
+    apart_if (yes p) e q = true≢false e
+    apart_if (no m) e q = m q
+
+-- a formula that stood nowhere stands apart from the others
+still_apart : (t : List Assigned) (a : Assigned) → Apart t → place_in t a.lit.formula ≡ None → Apart (t ++ a ∷ [])
+still_apart t a apart h i j l m e =
+    let long : length (t ++ a ∷ []) ≡ length t + 1 = length-append t (a ∷ []) in
+    let early : i < length t = omega (arith, l, m, long) in
+    let first : at (t ++ a ∷ []) i ≡ at t i = get_or-append t (a ∷ []) nothing i early in
+    elim (cases_lt j (length t)) as (λ _. ⊥) [
+      | inl lt ↦
+          let second : at (t ++ a ∷ []) j ≡ at t j = get_or-append t (a ∷ []) nothing j lt in
+          apart i j l lt (ap (λ (x : Assigned). x.lit.formula) (sym first) ∙ (e ∙ ap (λ (x : Assigned). x.lit.formula) second))
+      | inr ge ↦
+          let here : j ≡ length t = omega (arith, m, long, ge) in
+          let second : at (t ++ a ∷ []) j ≡ a = ap (at (t ++ a ∷ [])) here ∙ get_or-append_seam t a [] nothing in
+          none_some i (sym h ∙ there t i a.lit.formula apart early (ap (λ (x : Assigned). x.lit.formula) (sym first) ∙ (e ∙ ap (λ (x : Assigned). x.lit.formula) second)))
+    ]
+
+-- the index with one more key
+pub grown : (t : List Assigned) (a : Assigned) (old new : Formula → Option ℕ) → IsIndex t old → place_in t a.lit.formula ≡ None
+    → ((f : Formula) → new f ≡ cond (is_eq (formula_order a.lit.formula f)) (Some (length t)) (old f)) → IsIndex (t ++ a ∷ []) new
+grown t a old new i h u = record {
+  each = λ f. u f ∙ (λ j. cond (same_test a.lit.formula f j) (Some (length t)) (i.each f j)) ∙ sym (at_end t a f h);
+  apart = still_apart t a i.apart h;
+}
+
+pub within_of : (t : List Assigned) (f : Formula) (o : Option ℕ) → o ≡ place_in t f → IfSome o (λ p. p < length t)
+within_of t f (Some p) e = (found t f p (sym e)).0
+within_of t f None e = tt

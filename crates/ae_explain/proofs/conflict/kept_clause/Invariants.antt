@@ -1,0 +1,13 @@
+use Rattle.std.proofs.Common.{◌≡◌, ◌≤◌, ◌++◌, map, length}
+use Rattle.ae_core.specs.Clauses.{opposite}
+use Rattle.ae_explain.specs.Marks.{lits_below}
+use Rattle.ae_explain.proofs.conflict.kept_clause.Given as goal
+
+abbrev pub invariant-loop-place : goal.invariant-loop-place
+invariant-loop-place l = record {
+  inside : l.place ≤ length l.trail;
+  same : l.clause ++ map opposite (lits_below l.trail l.marks l.place) ≡ map opposite (lits_below l.trail l.marks (length l.trail));
+}
+
+abbrev pub decreases-loop-place : goal.decreases-loop-place
+decreases-loop-place l = l.place
