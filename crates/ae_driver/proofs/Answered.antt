@@ -27,8 +27,18 @@ use Rattle.ae_driver.specs.StateTexts.{state_text}
 use Rattle.ae_driver.specs.StateChains.{constants_from, state_of}
 use Rattle.ae_driver.specs.StateBytes.{state_bytes, unknown_bytes}
 use Rattle.ae_driver.specs.States.{alike, IsConstant, IsCompleted, IsSaturated}
-use Rattle.ae_driver.specs.Output.{goal_name, IsValidPart, IsUnknownPart, IsPart, IsPartOf, by_refutation, by_values, AreParts, PartEnds, HasParts, GoalsEnd, TextEnds, IsDone, IsRefusedByForm, IsOutOfMemory, IsCutOff, IsOffered, IsRead, IsTooLong, writes_parts, writes_no_form, valid_bytes}
-use Rattle.ae_driver.specs.Form.{Reads}
+use Rattle.ae_driver.specs.Output.{goal_name, IsValidPart, IsUnknownPart, IsPart, IsPartOf, by_refutation, by_values, AreParts, PartEnds, HasParts, GoalsEnd, RefusalEnds, TextEnds, IsDone, IsFileOf, Reads, IsRefused, by_lexis, by_syntax, by_form, IsRefusedText, IsOutOfMemory, IsCutOff, IsOffered, IsRead, IsTooLong, writes_parts, writes_refusal, valid_bytes}
+use Rattle.ae_report.specs.declared.refusal.Refusal.{Refusal}
+use Rattle.ae_lex.proofs.Unique.{one_list, never_both as never_both_in_lexis}
+use Rattle.ae_syntax.proofs.FileLaws.{one_tree, never_both}
+use Rattle.ae_syntax.specs.declared.decls.File.{File}
+use Rattle.ae_syntax.specs.Files.{IsParsed, fault_place, lex_fault_place}
+use Rattle.ae_lex.specs.declared.kinds.LexFault.{LexFault}
+use Rattle.ae_lex.specs.declared.kinds.LexFault.TheVariants as lex
+use Rattle.ae_syntax.specs.declared.faults.SyntaxFault.{SyntaxFault}
+use Rattle.ae_syntax.specs.declared.faults.SyntaxFault.TheVariants as syntax
+use Rattle.ae_report.specs.Lines.{IsWithin, lex_refused_at, syntax_refused_at}
+use Rattle.ae_driver.specs.Form.{IsFormOf}
 use Rattle.ae_driver.specs.declared.program.Status.{Status}
 use Rattle.ae_driver.specs.declared.program.Status.TheVariants as status
 use Rattle.ae_io.specs.Moves.{Written, Lost, Untold, Told, Gets, GetsPrefix, Rose}
@@ -258,15 +268,15 @@ module _ (f : Form) (is : IsForm f) where
 pub done_is : (left : Option (List ℕ)) (text : List ℕ) (a c : Written) → IsRead left text → TextEnds text a c status.Done → IsDone left a c
 done_is left text a c r (bytes, legal, got) = record { text = text; read = r; bytes = bytes; answers = legal; written = got }
 
-pub refused_is : (left : Option (List ℕ)) (text : List ℕ) (a c : Written) → IsRead left text → TextEnds text a c status.Refused → IsRefusedByForm left a c
-refused_is left text a c r (none, got) = record { text = text; read = r; no_form = none; written = got }
+pub refused_is : (left : Option (List ℕ)) (text : List ℕ) (a c : Written) → IsRead left text → TextEnds text a c status.Refused → IsRefusedText left a c
+refused_is left text a c r (why, refused, (line, is_line, got)) = record { text = text; read = r; why = why; refused = refused; line = line; is_line = is_line; written = got }
 
 pub memory_is : (left : Option (List ℕ)) (text : List ℕ) (a c : Written) → IsRead left text → TextEnds text a c status.Memory → IsOutOfMemory left a c
 memory_is left text a c r (bytes, begun, got) = record { bytes = bytes; begun = ⊎_elim (λ e. inl e) (λ b. inr (text, r, b)) begun; written = got }
 
 pub cut_off_is : (left : Option (List ℕ)) (text : List ℕ) (a c : Written) → IsRead left text → TextEnds text a c status.WriteFault → IsCutOff left a c
 cut_off_is left text a c r (bytes, may, got) =
-    record { bytes = bytes; may = ⊎_elim (λ b. writes_parts text r b) (λ n. writes_no_form text r n.0 n.1) may; written = got }
+    record { bytes = bytes; may = ⊎_elim (λ b. writes_parts text r b) (λ n. writes_refusal text n.0 r n.1 n.2) may; written = got }
 
 pub no_memory_yet : (left : Option (List ℕ)) (a : Written) → IsOutOfMemory left a a
 no_memory_yet left a = record { bytes = []; begun = inl refl; written = gets_nothing a }
@@ -302,13 +312,47 @@ told_is : (left : Option (List ℕ)) (text told : List ℕ) → left ≡ Some to
 told_is None text told e h = absurd (none_some e)
 told_is (Some xs) text told e h = h ∙ ap (λ o. or_else o xs) e
 
+-- how a refusal ends a text's answer
+pub refusal_ends : (text : List ℕ) (why : Refusal) (a c : Written) (s : Status) → IsRefused text why → RefusalEnds text why a c s → TextEnds text a c s
+refusal_ends text why a c status.Refused r e = (why, r, e)
+refusal_ends text why a c status.WriteFault r e = (e.0, inr (why, r, e.1), e.2)
+refusal_ends text why a c status.Memory r e = ([], inl refl, e)
+refusal_ends text why a c status.Done r e = absurd e
+refusal_ends text why a c status.ReadFault r e = absurd e
+refusal_ends text why a c status.Usage r e = absurd e
+
+pub nothing_written : (text : List ℕ) (a : Written) → TextEnds text a a status.Memory
+nothing_written text a = ([], inl refl, gets_nothing a)
+
+pub lexis_place : (text : List ℕ) (f : LexFault) → lex_fault_place f ≤ length text → IsWithin text (lex_refused_at f)
+lexis_place text (lex.BadByte at) le = le
+lexis_place text (lex.OpenComment at) le = le
+lexis_place text (lex.WideLiteral at) le = le
+lexis_place text (lex.OutsideProfile at) le = le
+lexis_place text lex.Memory le = tt
+
+pub syntax_place : (text : List ℕ) (f : SyntaxFault) → fault_place f ≤ length text → IsWithin text (syntax_refused_at f)
+syntax_place text (syntax.Unexpected at) le = le
+syntax_place text (syntax.TooDeep at) le = le
+syntax_place text (syntax.OutsideProfile at) le = le
+syntax_place text syntax.Memory le = tt
+
+-- a text of the form isn't refused
+file_one : (text : List ℕ) (f g : File) → IsFileOf text f → IsFileOf text g → f ≡ g
+file_one text f g p q = one_tree p.tokens f g p.parsed (subst (λ ts. IsParsed ts g) (one_list text q.tokens p.tokens q.tokenized p.tokenized) q.parsed)
+
+not_refused : (text : List ℕ) (form : Form) (why : Refusal) → Reads text form → IsRefused text why → ⊥
+not_refused text form why r (by_lexis f h) = never_both_in_lexis text r.is_file.tokens f r.is_file.tokenized h
+not_refused text form why r (by_syntax ts f t h) = never_both text ts r.file f (subst (λ us. IsParsed us r.file) (one_list text r.is_file.tokens ts r.is_file.tokenized t) r.is_file.parsed) h
+not_refused text form why r (by_form file h none) = none form (subst (λ g. IsFormOf text g form) (file_one text r.file file r.is_file h) r.is_form)
+
 -- a text of the form is answered where no write fails
 pub complete_is : (left : Option (List ℕ)) (text : List ℕ) (a c : Written) (s : Status) (R : Type 0) → IsOffered left → IfSome left (λ xs. text ≡ xs) → TextEnds text a c s → (s ≡ status.WriteFault → R) → ¬ R
     → (s ≡ status.Done) ⊎ (s ≡ status.Memory)
 complete_is left text a c status.Done R o h e f n = inl refl
 complete_is left text a c status.Memory R o h e f n = inr refl
 complete_is left text a c status.WriteFault R o h e f n = absurd (n (f refl))
-complete_is left text a c status.Refused R o h e f n = absurd (e.0 o.form (subst (λ t. Reads t o.form) (sym (told_is left text o.text o.told h)) o.reads))
+complete_is left text a c status.Refused R o h (why, refused, rest) f n = absurd (not_refused text o.form why (subst (λ t. Reads t o.form) (sym (told_is left text o.text o.told h)) o.reads) refused)
 complete_is left text a c status.ReadFault R o h e f n = absurd e
 complete_is left text a c status.Usage R o h e f n = absurd e
 

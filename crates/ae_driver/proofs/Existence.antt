@@ -22,9 +22,9 @@ use Rattle.ae_driver.specs.Chains.{constant, assumed, problem}
 use Rattle.ae_driver.specs.Search.{OfConstants, Refutes, IsOpen, no_signature, any}
 use Rattle.ae_driver.specs.Values.{from, merged, values_after, numbers_of}
 use Rattle.ae_driver.specs.StateBytes.{unknown_bytes}
-use Rattle.ae_driver.specs.Output.{IsPart, by_refutation, by_values, AreParts, IsBegun, GoalsEnd, TextEnds, valid_bytes}
+use Rattle.ae_driver.specs.Output.{Reads, IsPart, by_refutation, by_values, AreParts, IsBegun, GoalsEnd, TextEnds, valid_bytes}
+use Rattle.ae_driver.proofs.Reading.{is_form}
 use Rattle.ae_core.specs.declared.problems.Problem.{Problem}
-use Rattle.ae_driver.specs.Form.{Reads}
 use Rattle.ae_io.specs.Moves.{Written}
 use Rattle.ae_driver.specs.declared.program.Status.{Status}
 use Rattle.ae_driver.specs.declared.program.Status.TheVariants as status
@@ -244,7 +244,7 @@ module _ (f : Form) (is : IsForm f) where
 
 begun : (text : List ℕ) (f : Form) (count : ℕ) (bytes : List ℕ) → Reads text f → count ≤ length f.goals → AreParts (problem f) 0 count bytes → IsBegun text bytes
 begun text f count bytes reads le parts =
-    let r = goes_on f reads.is_form count bytes le parts in
+    let r = goes_on f (is_form text reads.file f reads.is_form) count bytes le parts in
     record { form = f; reads = reads; count = count; at_most = le; parts = parts; rest = r.0; legal = record { form = f; reads = reads; parts = r.1 } }
 
 -- the goals of a form that a text has

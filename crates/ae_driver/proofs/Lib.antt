@@ -1,7 +1,3 @@
-pub mod Cutting
-pub mod Placing
-pub mod Sound
-pub mod Complete
 pub mod Reading
 pub mod Growing
 pub mod Propagates

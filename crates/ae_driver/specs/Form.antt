@@ -1,89 +1,92 @@
--- A text of the first form: the tokens of a form, and how a text is cut into tokens.
-use Rattle.std.specs.Prelude.{◌≡◌, ◌≢◌, ℕ, ◌≤◌, ◌<◌, Bool, true, false, not, ◌&&◌, ◌||◌, ◌⊎◌, nat_eq, nat_le, List, [], ◌∷◌, ◌++◌, length, slice_index_or, codes}
-use Rattle.std.specs.List.{list_any, list_all, flat_map, AllByRecursion, AllPairs}
-use Rattle.std.specs.Str.{bytes_eq}
+-- A text of the first form, told by its tree: a type, its constants, and goals that are chains of equations between them.
+use Rattle.std.specs.Prelude.{◌≡◌, ◌≢◌, ℕ, ◌≤◌, ◌<◌, false, List, [], ◌∷◌, length, slice_get, Some}
+use Rattle.std.specs.List.{AllByRecursion, AllPairs, slice_range}
+use Rattle.std.specs.Str.{IsUtf8}
+use Rattle.ae_syntax.specs.declared.spans.Span.{Span}
+use Rattle.ae_syntax.specs.declared.types.WrittenType.{WrittenType}
+use Rattle.ae_syntax.specs.declared.types.TypeForm as type_form
+use Rattle.ae_syntax.specs.declared.exprs.BinaryOp.TheVariants as op
+use Rattle.ae_syntax.specs.declared.exprs.Expr.{Expr}
+use Rattle.ae_syntax.specs.declared.exprs.Form as form
+use Rattle.ae_syntax.specs.declared.decls.SymbolResult.{SymbolResult}
+use Rattle.ae_syntax.specs.declared.decls.Decl.{Decl}
+use Rattle.ae_syntax.specs.declared.decls.DeclForm.TheVariants as decl
+use Rattle.ae_syntax.specs.declared.decls.File.{File}
 use Rattle.ae_driver.specs.declared.form.Equation.{Equation}
 use Rattle.ae_driver.specs.declared.form.Chain.{Chain}
 use Rattle.ae_driver.specs.declared.form.Form.{Form}
 
--- tab, line feed, form feed, carriage return and space
-abbrev pub is_blank : ℕ → Bool
-is_blank b = nat_eq b 9 || nat_eq b 10 || nat_eq b 12 || nat_eq b 13 || nat_eq b 32
+-- these bytes stand at a place of the text; they are UTF-8, as those of an identifier always are
+pub record Stands (text : List ℕ) (s : Span) (name : List ℕ) : Type 0 where
+  pub rises : s.from ≤ s.to
+  pub within : s.to ≤ length text
+  pub bytes : slice_range text s.from s.to ≡ name
+  pub utf8 : IsUtf8 name
 
--- a letter or `_`
-abbrev pub is_letter : ℕ → Bool
-is_letter b = (nat_le 65 b && nat_le b 90) || (nat_le 97 b && nat_le b 122) || nat_eq b 95
+-- two lists are related element by element
+abbrev pub Each : {A B : Type 0} → (A → B → Type 0) → List A → List B → Type 0
+Each R [] [] = Unit {0}
+Each R (x ∷ xs) (y ∷ ys) = R x y × Each R xs ys
+Each R _ _ = ⊥
 
--- what goes on with a word: a letter, `_`, a digit or `?`
-abbrev pub goes_on : ℕ → Bool
-goes_on b = is_letter b || (nat_le 48 b && nat_le b 57) || nat_eq b 63
+-- the expression is the constant of number k
+abbrev pub IsConstant : List ℕ → List (List ℕ) → Expr → ℕ → Type 0
+IsConstant text constants e k = (s : Span) × (name : List ℕ) × (e.form ≡ form.Apply s []) × Stands text s name × (slice_get constants k ≡ Some name)
 
-abbrev pub is_word : List ℕ → Bool
-is_word [] = false
-is_word (b ∷ bs) = is_letter b && list_all goes_on bs
+-- the expression is the equation of two constants
+abbrev pub IsEquation : List ℕ → List (List ℕ) → Expr → Equation → Type 0
+IsEquation text constants e q =
+    (l : Expr) × (r : Expr) × (e.form ≡ form.Binary op.Equal l r) × IsConstant text constants l q.left × IsConstant text constants r q.right
 
--- what follows doesn't go on with the word
-abbrev pub ends_word : List ℕ → Bool
-ends_word [] = true
-ends_word (b ∷ bs) = not (goes_on b)
+-- the expression is `h1 -> .. -> hn -> last`
+abbrev pub IsChain : List ℕ → List (List ℕ) → Expr → List Equation → Equation → Type 0
+IsChain text constants e [] last = IsEquation text constants e last
+IsChain text constants e (h ∷ hs) last =
+    (l : Expr) × (r : Expr) × (e.form ≡ form.Binary op.Implies l r) × IsEquation text constants l h × IsChain text constants r hs last
 
-abbrev pub IsSign : List ℕ → Type 0
-IsSign t = ((t ≡ codes ",") ⊎ (t ≡ codes ":")) ⊎ ((t ≡ codes "=") ⊎ (t ≡ codes "->"))
+-- `goal NAME : h1 -> .. -> hn -> last`, with at most 1,000 hypotheses
+abbrev pub IsGoalDecl : List ℕ → List (List ℕ) → Decl → Chain → Type 0
+IsGoalDecl text constants d g =
+    (s : Span) × (body : Expr) × (d.form ≡ decl.Goal s body) × Stands text s g.name × IsChain text constants body g.hyps g.last × (length g.hyps ≤ 1000)
 
--- a token, with what follows it in the text
-abbrev pub IsToken : List ℕ → List ℕ → Type 0
-IsToken t rest = ((is_word t ≡ true) × (ends_word rest ≡ true)) ⊎ IsSign t
+-- `type t`
+abbrev pub IsTypeDecl : List ℕ → Decl → List ℕ → Type 0
+IsTypeDecl text d name = (s : Span) × (d.form ≡ decl.Type [] s []) × Stands text s name
 
--- the text is cut into blanks and these tokens, in order and without a rest
-pub data IsCut : List ℕ → List (List ℕ) → Type 0 where
-  cut_end : IsCut [] []
-  cut_blank : (b : ℕ) (rest : List ℕ) (ts : List (List ℕ)) → is_blank b ≡ true → IsCut rest ts → IsCut (b ∷ rest) ts
-  cut_token : (t rest : List ℕ) (ts : List (List ℕ)) → IsToken t rest → IsCut rest ts → IsCut (t ++ rest) (t ∷ ts)
+-- the type of this name, without arguments
+abbrev pub IsTypeName : List ℕ → WrittenType → List ℕ → Type 0
+IsTypeName text w name = (s : Span) × (w.form ≡ type_form.Named s []) × Stands text s name
 
-unfoldable pub reserved : List (List ℕ)
-reserved = codes "ac" ∷ codes "and" ∷ codes "axiom" ∷ codes "bool" ∷ codes "bitv" ∷ codes "case_split" ∷ codes "check" ∷ codes "check_sat" ∷ codes "cut" ∷ codes "distinct"
-    ∷ codes "else" ∷ codes "end" ∷ codes "exists" ∷ codes "extends" ∷ codes "false" ∷ codes "forall" ∷ codes "function" ∷ codes "goal" ∷ codes "if" ∷ codes "in"
-    ∷ codes "int" ∷ codes "let" ∷ codes "logic" ∷ codes "match" ∷ codes "not" ∷ codes "of" ∷ codes "or" ∷ codes "predicate" ∷ codes "prop" ∷ codes "real"
-    ∷ codes "rewriting" ∷ codes "then" ∷ codes "theory" ∷ codes "true" ∷ codes "type" ∷ codes "unit" ∷ codes "void" ∷ codes "with" ∷ codes "xor" ∷ []
+-- the result of the constants is this type
+abbrev pub IsResult : List ℕ → SymbolResult → List ℕ → Type 0
+IsResult text r name = (w : WrittenType) × (r.sort ≡ Some w) × IsTypeName text w name
 
--- a word that isn't reserved
-unfoldable pub is_identifier : List ℕ → Bool
-is_identifier w = is_word w && not (list_any (bytes_eq w) reserved)
+-- `logic c1, .., cn : t`
+abbrev pub IsLogicDecl : List ℕ → Decl → List ℕ → List (List ℕ) → Type 0
+IsLogicDecl text d type_name constants =
+    (ss : List Span) × (r : SymbolResult) × (d.form ≡ decl.Logic false ss [] r) × IsResult text r type_name × Each (Stands text) ss constants
 
--- the constants, with commas between them
-abbrev pub listed : List (List ℕ) → List (List ℕ)
-listed [] = []
-listed (c ∷ cs) = c ∷ flat_map (λ d. codes "," ∷ d ∷ []) cs
+-- the file of a text is of the form, and this is what it says: a type, its constants with different names, and goals
+pub record IsFormOf (text : List ℕ) (file : File) (f : Form) : Type 0 where
+  pub first : Decl
+  pub second : Decl
+  pub others : List Decl
+  pub decls : file.decls ≡ first ∷ second ∷ others
+  pub declares_type : IsTypeDecl text first f.type_name
+  pub declares_constants : IsLogicDecl text second f.type_name f.constants
+  pub different : AllPairs ◌≢◌ f.constants
+  pub declares_goals : Each (IsGoalDecl text f.constants) others f.goals
 
--- the tokens of an equation between these constants
-abbrev pub equation_tokens : List (List ℕ) → Equation → List (List ℕ)
-equation_tokens constants e = slice_index_or constants e.left [] ∷ codes "=" ∷ slice_index_or constants e.right [] ∷ []
-
--- the tokens of a goal: an arrow follows each hypothesis
-abbrev pub goal_tokens : List (List ℕ) → Chain → List (List ℕ)
-goal_tokens constants g = codes "goal" ∷ g.name ∷ codes ":" ∷ (flat_map (λ e. equation_tokens constants e ++ codes "->" ∷ []) g.hyps ++ equation_tokens constants g.last)
-
-abbrev pub form_tokens : Form → List (List ℕ)
-form_tokens f = (codes "type" ∷ f.type_name ∷ codes "logic" ∷ listed f.constants) ++ codes ":" ∷ f.type_name ∷ flat_map (goal_tokens f.constants) f.goals
-
+-- ---- what follows for a form
 -- the places of both sides are below the number of constants
 abbrev pub IsWithin : ℕ → Equation → Type 0
 IsWithin n e = (e.left < n) × (e.right < n)
 
 pub record IsGoal (n : ℕ) (g : Chain) : Type 0 where
-  pub name : is_identifier g.name ≡ true
   pub hyps : AllByRecursion (IsWithin n) g.hyps
   pub last : IsWithin n g.last
   pub short : length g.hyps ≤ 1000
 
+-- each goal is between the constants
 pub record IsForm (f : Form) : Type 0 where
-  pub type_name : is_identifier f.type_name ≡ true
-  pub some : 0 < length f.constants
-  pub identifiers : AllByRecursion (λ c. is_identifier c ≡ true) f.constants
-  pub different : AllPairs ◌≢◌ f.constants
   pub goals : AllByRecursion (IsGoal (length f.constants)) f.goals
-
--- the text is of the form, and this is what it says
-pub record Reads (text : List ℕ) (f : Form) : Type 0 where
-  pub is_form : IsForm f
-  pub cut : IsCut text (form_tokens f)

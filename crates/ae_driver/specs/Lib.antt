@@ -1,5 +1,4 @@
 pub mod Form
-pub mod Stages
 pub mod Chains
 pub mod Texts
 pub mod Bytes

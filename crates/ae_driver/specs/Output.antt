@@ -7,13 +7,22 @@ use Rattle.ae_core.specs.declared.problems.Signature.{Signature}
 use Rattle.ae_core.specs.declared.problems.Problem.{Problem}
 use Rattle.ae_core.specs.declared.proofs.Proof.{Proof}
 use Rattle.ae_io.specs.Moves.{Written, Gets, GetsPrefix}
+use Rattle.ae_lex.specs.Lexis.{IsTokenized, IsFault}
+use Rattle.ae_lex.specs.declared.kinds.Token.{Token}
+use Rattle.ae_lex.specs.declared.kinds.LexFault.{LexFault}
+use Rattle.ae_syntax.specs.Files.{IsParsed, IsSyntaxFault}
+use Rattle.ae_syntax.specs.declared.decls.File.{File}
+use Rattle.ae_syntax.specs.declared.faults.SyntaxFault.{SyntaxFault}
+use Rattle.ae_report.specs.Lines.{IsRefusalLine}
+use Rattle.ae_report.specs.declared.refusal.Refusal.{Refusal}
+use Rattle.ae_report.specs.declared.refusal.Refusal.TheVariants as refusal
 use Rattle.ae_driver.specs.declared.form.Chain.{Chain}
 use Rattle.ae_driver.specs.declared.form.Form.{Form}
 use Rattle.ae_driver.specs.declared.search.Named.{Named}
 use Rattle.ae_driver.specs.declared.search.Refutation.{Refutation}
 use Rattle.ae_driver.specs.declared.program.Status.{Status}
 use Rattle.ae_driver.specs.declared.program.Status.TheVariants as status
-use Rattle.ae_driver.specs.Form.{Reads}
+use Rattle.ae_driver.specs.Form.{IsFormOf}
 use Rattle.ae_driver.specs.Chains.{problem}
 use Rattle.ae_driver.specs.Search.{Refutes, IsOpen}
 use Rattle.ae_driver.specs.Texts.{Names, proof_text}
@@ -60,6 +69,24 @@ abbrev pub AreParts : Problem → ℕ → ℕ → List ℕ → Type 0
 AreParts p k zero bytes = bytes ≡ []
 AreParts p k (suc n) bytes = (part : List ℕ) × (rest : List ℕ) × (bytes ≡ part ++ rest) × IsPart p k part × AreParts p (suc k) n rest
 
+-- the tree of a text: that of its tokens
+pub record IsFileOf (text : List ℕ) (file : File) : Type 0 where
+  pub tokens : List Token
+  pub tokenized : IsTokenized text tokens
+  pub parsed : IsParsed tokens file
+
+-- the text is of the first form, and this is what it says
+pub record Reads (text : List ℕ) (form : Form) : Type 0 where
+  pub file : File
+  pub is_file : IsFileOf text file
+  pub is_form : IsFormOf text file form
+
+-- why a text is refused: it has no tokens, or they are no file, or the file is not of the first form
+pub data IsRefused (text : List ℕ) : Refusal → Type 0 where
+  by_lexis : (f : LexFault) → IsFault text f → IsRefused text (refusal.Lex f)
+  by_syntax : (tokens : List Token) (f : SyntaxFault) → IsTokenized text tokens → IsSyntaxFault text tokens f → IsRefused text (refusal.Syntax f)
+  by_form : (file : File) → IsFileOf text file → ((form : Form) → IsFormOf text file form → ⊥) → IsRefused text refusal.NoForm
+
 -- a legal output for a text of the first form: one part for each goal, in order
 pub record IsLegalOutput (text bytes : List ℕ) : Type 0 where
   pub form : Form
@@ -75,10 +102,6 @@ pub record IsBegun (text bytes : List ℕ) : Type 0 where
   pub parts : AreParts (problem form) 0 count bytes
   pub rest : List ℕ
   pub legal : IsLegalOutput text (bytes ++ rest)
-
--- the text is not of the first form
-abbrev pub HasNoForm : List ℕ → Type 0
-HasNoForm text = (form : Form) → Reads text form → ⊥
 
 -- the source told this text, or told nothing
 abbrev pub MayBe : Option (List ℕ) → List ℕ → Type 0
@@ -99,12 +122,6 @@ IsTooLong (Some xs) = 16777216 < length xs
 abbrev pub usage_line : List ℕ
 usage_line = codes "usage: altac\n"
 
-abbrev pub too_long_line : List ℕ
-too_long_line = codes "refused input too long\n"
-
-abbrev pub no_form_line : List ℕ
-no_form_line = codes "refused form\n"
-
 -- done: the text is answered, and the sink got the answer behind what it held
 pub record IsDone (left : Option (List ℕ)) (old new : Written) : Type 0 where
   pub text : List ℕ
@@ -113,17 +130,22 @@ pub record IsDone (left : Option (List ℕ)) (old new : Written) : Type 0 where
   pub answers : IsLegalOutput text bytes
   pub written : Gets old new bytes
 
--- refused by form: the text has none, and the sink got that line
-pub record IsRefusedByForm (left : Option (List ℕ)) (old new : Written) : Type 0 where
+-- a text is refused: the sink got the line that says why, and where
+pub record IsRefusedText (left : Option (List ℕ)) (old new : Written) : Type 0 where
   pub text : List ℕ
   pub read : IsRead left text
-  pub no_form : HasNoForm text
-  pub written : Gets old new no_form_line
+  pub why : Refusal
+  pub refused : IsRefused text why
+  pub line : List ℕ
+  pub is_line : IsRefusalLine text why line
+  pub written : Gets old new line
 
 -- refused by length: the source had more left than the limit, and the sink got that line
 pub record IsRefusedByLength (left : Option (List ℕ)) (old new : Written) : Type 0 where
   pub too_long : IsTooLong left
-  pub written : Gets old new too_long_line
+  pub line : List ℕ
+  pub is_line : IsRefusalLine [] refusal.TooLong line
+  pub written : Gets old new line
 
 -- no memory: the sink got nothing, or the parts of the first goals of the text
 pub record IsOutOfMemory (left : Option (List ℕ)) (old new : Written) : Type 0 where
@@ -134,8 +156,8 @@ pub record IsOutOfMemory (left : Option (List ℕ)) (old new : Written) : Type 0
 -- what a run without words may be writing
 pub data MayWrite (left : Option (List ℕ)) (bytes : List ℕ) : Type 0 where
   writes_parts : (text : List ℕ) → IsRead left text → IsBegun text bytes → MayWrite left bytes
-  writes_no_form : (text : List ℕ) → IsRead left text → HasNoForm text → bytes ≡ no_form_line → MayWrite left bytes
-  writes_too_long : IsTooLong left → bytes ≡ too_long_line → MayWrite left bytes
+  writes_refusal : (text : List ℕ) (why : Refusal) → IsRead left text → IsRefused text why → IsRefusalLine text why bytes → MayWrite left bytes
+  writes_too_long : IsTooLong left → IsRefusalLine [] refusal.TooLong bytes → MayWrite left bytes
 
 -- a write failed: the sink got a part from the front of what was being written, and not all of it
 pub record IsCutOff (left : Option (List ℕ)) (old new : Written) : Type 0 where
@@ -186,10 +208,21 @@ GoalsEnd f old new status.WriteFault = (k : ℕ) × (k ≤ length f.goals) × Ha
 GoalsEnd f old new status.Memory = (k : ℕ) × (k ≤ length f.goals) × HasParts f k old new
 GoalsEnd f old new _ = ⊥
 
+-- how a line of refusal is written
+abbrev pub RefusalEnds : List ℕ → Refusal → Written → Written → Status → Type 0
+RefusalEnds text why old new status.Refused = (line : List ℕ) × IsRefusalLine text why line × Gets old new line
+RefusalEnds text why old new status.WriteFault = (line : List ℕ) × IsRefusalLine text why line × GetsPrefix old new line
+RefusalEnds text why old new status.Memory = Gets old new []
+RefusalEnds text why old new _ = ⊥
+
+-- what is written of a text that was read
+abbrev pub IsOfText : List ℕ → List ℕ → Type 0
+IsOfText text bytes = IsBegun text bytes ⊎ ((why : Refusal) × IsRefused text why × IsRefusalLine text why bytes)
+
 -- how a text that was read is answered
 abbrev pub TextEnds : List ℕ → Written → Written → Status → Type 0
 TextEnds text old new status.Done = (bytes : List ℕ) × IsLegalOutput text bytes × Gets old new bytes
-TextEnds text old new status.Refused = HasNoForm text × Gets old new no_form_line
-TextEnds text old new status.WriteFault = (bytes : List ℕ) × ((IsBegun text bytes) ⊎ (HasNoForm text × (bytes ≡ no_form_line))) × GetsPrefix old new bytes
+TextEnds text old new status.Refused = (why : Refusal) × IsRefused text why × RefusalEnds text why old new status.Refused
+TextEnds text old new status.WriteFault = (bytes : List ℕ) × IsOfText text bytes × GetsPrefix old new bytes
 TextEnds text old new status.Memory = (bytes : List ℕ) × ((bytes ≡ []) ⊎ IsBegun text bytes) × Gets old new bytes
 TextEnds text old new _ = ⊥

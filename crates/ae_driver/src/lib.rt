@@ -9,7 +9,6 @@ mod reader;
 mod search;
 mod state_text;
 mod text;
-mod tokens;
 
 pub use program::{INPUT_LIMIT, Status, run};
 

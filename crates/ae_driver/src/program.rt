@@ -3,18 +3,27 @@
 ghost use Rattle.std.specs.Prelude.{◌≡◌, ◌≢◌, ◌⊎◌, ◌≤◌, [], length, IfOk};
 ghost use Rattle.std.specs.Io.KnownBytes.{IsAtEnd};
 ghost use Rattle.ae_io.specs.Moves.{Rose, Gets, GetsPrefix};
+ghost use Rattle.ae_lex.specs.Lexis.{IsTokenized, IsFault};
+ghost use Rattle.ae_lex.specs.declared.kinds.LexFault.TheVariants.{Memory as NoMemoryForTokens};
+ghost use Rattle.ae_syntax.specs.Files.{IsSyntaxFault};
+ghost use Rattle.ae_syntax.specs.declared.faults.SyntaxFault.TheVariants.{Memory as NoMemoryForTree};
+ghost use Rattle.ae_report.specs.Lines.{IsWithin, refused_at};
 ghost use Rattle.ae_driver.specs.Form.{IsForm, IsGoal};
-ghost use Rattle.ae_driver.specs.Output.{IsDone, IsOffered, IsRefusedByForm, IsRefusedByLength, IsOutOfMemory, IsCutOff, IsPartOf, PartEnds, GoalsEnd, TextEnds, usage_line, valid_bytes};
+ghost use Rattle.ae_driver.specs.Output.{IsFileOf, IsDone, IsOffered, IsRefusedText, IsRefusedByLength, IsOutOfMemory, IsCutOff, IsPartOf, PartEnds, GoalsEnd, RefusalEnds, TextEnds, usage_line, valid_bytes};
 ghost use Rattle.ae_driver.specs.StateBytes.{unknown_bytes};
 ghost use Rattle.ae_driver.specs.declared.program.Status.TheVariants.{Done, Refused, ReadFault, WriteFault, Memory, Usage};
 
 use crate::form::{Chain, Form};
-use crate::reader::read_form;
+use crate::reader::form_of;
 use crate::search::{Named, Outcome, Refutation, settle};
 use crate::state_text::put_unknown;
 use crate::text::put_valid;
 use ae_core::words::Word;
 use ae_io::{ReadEnd, Sink, Source, read_all, write_all};
+use ae_lex::{LexFault, Token, tokens};
+use ae_report::{Refusal, refusal_text};
+use ae_syntax::decls::File;
+use ae_syntax::{SyntaxFault, parse};
 use std::alloc::{AllocError, Global};
 
 /// The most bytes that one input may have.
@@ -55,7 +64,7 @@ pub fn run<S: Source, K: Sink>(
     ensures done { result ≡ Done → IsDone (S.left source.old) (K.written sink.old) (K.written sink.new) }
     ensures end { result ≡ Done → IsAtEnd (S.left source.new) }
     ensures complete { words.now ≡ [] → IsOffered (S.left source.old) → ¬ (Rose (S.faults source.old) (S.faults source.new)) → ¬ (Rose (K.faults sink.old) (K.faults sink.new)) → (result ≡ Done) ⊎ (result ≡ Memory) }
-    ensures refused { result ≡ Refused → IsRefusedByForm (S.left source.old) (K.written sink.old) (K.written sink.new) ⊎ IsRefusedByLength (S.left source.old) (K.written sink.old) (K.written sink.new) }
+    ensures refused { result ≡ Refused → IsRefusedText (S.left source.old) (K.written sink.old) (K.written sink.new) ⊎ IsRefusedByLength (S.left source.old) (K.written sink.old) (K.written sink.new) }
     ensures usage { result ≡ Usage → words.now ≢ [] }
     ensures usage_line { result ≡ Usage → Gets (K.written sink.old) (K.written sink.new) usage_line }
     ensures words { words.now ≢ [] → (result ≡ Usage) ⊎ (result ≡ WriteFault) }
@@ -72,7 +81,7 @@ pub fn run<S: Source, K: Sink>(
     match read_all(alloc, source, INPUT_LIMIT) {
         Ok(text) => answer(alloc, text.as_slice(), sink),
         Err(ReadEnd::ReadFault) => Status::ReadFault,
-        Err(ReadEnd::TooLong) => tell(sink, b"refused input too long\n", Status::Refused),
+        Err(ReadEnd::TooLong) => refuse(alloc, &[], &Refusal::TooLong, sink),
         Err(ReadEnd::Memory) => Status::Memory,
     }
 }
@@ -91,14 +100,80 @@ fn tell<K: Sink>(sink: &mut K, line: &[u8], status: Status) -> Status
     }
 }
 
+// Writes the line by which a text is refused.
+fn refuse<K: Sink>(alloc: Global, text: &[u8], refusal: &Refusal, sink: &mut K) -> Status
+    requires { IsWithin text.now (refused_at refusal.now) }
+    ensures ends { RefusalEnds text.now refusal.now (K.written sink.old) (K.written sink.new) result }
+    ensures write_fault { result ≡ WriteFault → Rose (K.faults sink.old) (K.faults sink.new) }
+{
+    match refusal_text(alloc, text, refusal) {
+        Ok(line) => tell(sink, line.as_slice(), Status::Refused),
+        Err(_) => Status::Memory,
+    }
+}
+
+// Answers a text that has no tokens.
+fn answer_no_tokens<K: Sink>(alloc: Global, text: &[u8], fault: LexFault, sink: &mut K) -> Status
+    requires { fault ≢ NoMemoryForTokens → IsFault text.now fault }
+    ensures ends { TextEnds text.now (K.written sink.old) (K.written sink.new) result }
+    ensures write_fault { result ≡ WriteFault → Rose (K.faults sink.old) (K.faults sink.new) }
+{
+    match fault {
+        LexFault::Memory => Status::Memory,
+        _ => refuse(alloc, text, &Refusal::Lex(fault), sink),
+    }
+}
+
+// Answers a text whose tokens are no file.
+fn answer_no_file<K: Sink>(
+    alloc: Global,
+    text: &[u8],
+    tokens: &[Token],
+    fault: SyntaxFault,
+    sink: &mut K,
+) -> Status
+    requires { IsTokenized text.now tokens.now × (fault ≢ NoMemoryForTree → IsSyntaxFault text.now tokens.now fault) }
+    ensures ends { TextEnds text.now (K.written sink.old) (K.written sink.new) result }
+    ensures write_fault { result ≡ WriteFault → Rose (K.faults sink.old) (K.faults sink.new) }
+{
+    match fault {
+        SyntaxFault::Memory => Status::Memory,
+        _ => refuse(alloc, text, &Refusal::Syntax(fault), sink),
+    }
+}
+
 // Answers a text that was read whole.
 fn answer<K: Sink>(alloc: Global, text: &[u8], sink: &mut K) -> Status
     ensures ends { TextEnds text.now (K.written sink.old) (K.written sink.new) result }
     ensures write_fault { result ≡ WriteFault → Rose (K.faults sink.old) (K.faults sink.new) }
 {
-    match read_form(alloc, text) {
+    match tokens(alloc, text) {
+        Ok(tokens) => answer_tokens(alloc, text, tokens.as_slice(), sink),
+        Err(fault) => answer_no_tokens(alloc, text, fault, sink),
+    }
+}
+
+// Answers a text by its tokens.
+fn answer_tokens<K: Sink>(alloc: Global, text: &[u8], tokens: &[Token], sink: &mut K) -> Status
+    requires { IsTokenized text.now tokens.now }
+    ensures ends { TextEnds text.now (K.written sink.old) (K.written sink.new) result }
+    ensures write_fault { result ≡ WriteFault → Rose (K.faults sink.old) (K.faults sink.new) }
+{
+    match parse(alloc, text, tokens) {
+        Ok(file) => answer_file(alloc, text, &file, sink),
+        Err(fault) => answer_no_file(alloc, text, tokens, fault, sink),
+    }
+}
+
+// Answers a text by its tree.
+fn answer_file<K: Sink>(alloc: Global, text: &[u8], file: &File, sink: &mut K) -> Status
+    requires { IsFileOf text.now file.now }
+    ensures ends { TextEnds text.now (K.written sink.old) (K.written sink.new) result }
+    ensures write_fault { result ≡ WriteFault → Rose (K.faults sink.old) (K.faults sink.new) }
+{
+    match form_of(alloc, text, file) {
         Ok(Some(form)) => answer_goals(alloc, &form, sink),
-        Ok(None) => tell(sink, b"refused form\n", Status::Refused),
+        Ok(None) => refuse(alloc, text, &Refusal::NoForm, sink),
         Err(_) => Status::Memory,
     }
 }

@@ -1,397 +1,324 @@
-//! The reader of the first form: it goes over the tokens once.
+//! The reader of the first form: from the tree of a text to its type, constants and goals.
 
-ghost use Rattle.std.specs.Prelude.{◌≡◌, ℕ, nat_lt, ◌<◌, ◌≤◌, ◌++◌, ◌∷◌, [], List, length, Some, None, Bool, true, false, cond, IfOk, MatchOption};
-ghost use Rattle.std.specs.List.{list_any};
-ghost use Rattle.std.specs.Str.{bytes_eq};
-ghost use Rattle.ae_driver.specs.Form.{reserved, is_identifier, Reads};
+ghost use Rattle.std.specs.Prelude.{◌≡◌, ◌≢◌, ◌↔◌, ℕ, List, [], ◌∷◌, ◌++◌, slice_get, option_map, Some, IfOk, IsTrue, MatchOption};
+ghost use Rattle.std.specs.List.{AllPairs};
+ghost use Rattle.ae_driver.specs.Form.{Stands, Each, IsConstant, IsEquation, IsChain, IsGoalDecl, IsTypeDecl, IsTypeName, IsResult, IsLogicDecl, IsFormOf};
+ghost use Rattle.ae_syntax.specs.declared.exprs.Expr.{Expr};
+ghost use Rattle.ae_syntax.specs.declared.exprs.Form.{Binary};
+ghost use Rattle.ae_syntax.specs.declared.decls.Decl.{Decl};
+ghost use Rattle.ae_driver.specs.declared.form.Equation.{Equation};
+ghost use Rattle.ae_driver.specs.declared.form.Chain.{Chain};
 ghost use Rattle.ae_driver.specs.declared.form.Form.{Form};
-ghost use Rattle.ae_driver.specs.Stages.{place, expected, constant, after_constant, left, right, after_equation, opened, with_goal, named, step, finished, run, form_of};
-ghost use Rattle.ae_driver.specs.declared.reader.Stage.TheVariants as stage;
 
 use crate::form::{Chain, Equation, Form};
-use crate::tokens::{is_word, tokens};
 use ae_core::lists::List;
 use ae_core::words::Word;
+use ae_syntax::decls::{Decl, DeclForm, File, SymbolResult};
+use ae_syntax::exprs::{BinaryOp, Expr, Form as ExprForm};
+use ae_syntax::spans::Span;
+use ae_syntax::types::{TypeForm, WrittenType};
 use std::alloc::{AllocError, Global};
 
-/// A goal of which the last equation isn't read.
-#[derive(Drop)]
-struct Opened {
-    name: Word,
-    hyps: List<Equation>,
-}
-
-/// What is read of a text, and so what may come next.
-#[derive(Drop)]
-enum Stage {
-    /// Nothing; `type` comes next.
-    Start,
-    /// `type`; the type's name comes next.
-    Type,
-    /// The type's name; `logic` comes next.
-    TypeName(Word),
-    /// `logic` or a comma; a constant comes next.
-    Logic(Form),
-    /// A constant; a comma or the colon comes next.
-    Constant(Form),
-    /// The colon after the constants; the type's name comes next.
-    ConstantsColon(Form),
-    /// The declarations; `goal` or the end comes next.
-    Declarations(Form),
-    /// `goal`; its name comes next.
-    Goal(Form),
-    /// A goal's name; a colon comes next.
-    GoalName(Form, Opened),
-    /// The colon or `->`; the left side of an equation comes next.
-    Arrow(Form, Opened),
-    /// The left side; `=` comes next.
-    Left(Form, Opened, usize),
-    /// `=`; the right side comes next.
-    Equals(Form, Opened, usize),
-    /// The right side; `->`, `goal` or the end comes next.
-    Right(Form, Chain),
-}
-
-fn is_token(word: &Word, token: &str) -> bool
-    ensures { result ≡ bytes_eq word.now token.now }
+// The bytes at a place, as text.
+fn str_at(text: &[u8], place: Span) -> Option<&str>
+    ensures { MatchOption result ((name : List ℕ) → Stands text.now place name → ⊥) (λ name. Stands text.now place name.now) }
 {
-    word.as_str() == token
+    let bytes = text.get(place.from..place.to)?;
+    str::from_utf8(bytes).ok()
 }
 
-// The place of a constant.
-fn place(constants: &[Word], word: &Word) -> Option<usize>
-    ensures { result ≡ place 0 constants.now word.now }
+// Whether a name stands at a place.
+fn is_at(text: &[u8], place: Span, name: &str) -> bool
+    ensures { IsTrue result ↔ Stands text.now place name.now }
+{
+    match str_at(text, place) {
+        Some(found) => found == name,
+        None => false,
+    }
+}
+
+// The name at a place.
+fn name_at(alloc: Global, text: &[u8], place: Span) -> Result<Option<Word>, AllocError>
+    ensures { IfOk result (λ found. MatchOption found ((name : List ℕ) → Stands text.now place name → ⊥) (λ name. Stands text.now place name)) }
+{
+    let Some(name) = str_at(text, place) else {
+        return Ok(None);
+    };
+    Ok(Some(Word::from_string(String::from_str(alloc, name)?)))
+}
+
+// The first place of a name among the constants.
+fn place(constants: &[Word], name: &str) -> Option<usize>
+    ensures { MatchOption result ((k : ℕ) → slice_get constants.now k ≡ Some name.now → ⊥) (λ k. slice_get constants.now k ≡ Some name.now) }
 {
     for (i, constant) in constants.iter().enumerate() {
-        if is_token(constant, word.as_str()) {
+        if constant.as_str() == name {
             return Some(i);
         }
     }
     None
 }
 
-const RESERVED: [&str; 39] = [
-    "ac",
-    "and",
-    "axiom",
-    "bool",
-    "bitv",
-    "case_split",
-    "check",
-    "check_sat",
-    "cut",
-    "distinct",
-    "else",
-    "end",
-    "exists",
-    "extends",
-    "false",
-    "forall",
-    "function",
-    "goal",
-    "if",
-    "in",
-    "int",
-    "let",
-    "logic",
-    "match",
-    "not",
-    "of",
-    "or",
-    "predicate",
-    "prop",
-    "real",
-    "rewriting",
-    "then",
-    "theory",
-    "true",
-    "type",
-    "unit",
-    "void",
-    "with",
-    "xor",
-];
-
-fn is_among(word: &Word, tokens: &[&str]) -> bool
-    ensures { result ≡ list_any (λ t. bytes_eq word.now t.now) tokens.now }
+// The number of the constant that an expression is.
+fn constant(text: &[u8], constants: &[Word], expr: &Expr) -> Option<usize>
+    ensures { MatchOption result ((k : ℕ) → IsConstant text.now constants.now expr.now k → ⊥) (λ k. IsConstant text.now constants.now expr.now k) }
 {
-    tokens.iter().any(|token| is_token(word, token))
-}
-
-fn is_reserved(word: &Word) -> bool
-    ensures { result ≡ list_any (bytes_eq word.now) reserved }
-{
-    is_among(word, &RESERVED)
-}
-
-fn is_identifier(word: &Word) -> bool
-    ensures { result ≡ is_identifier word.now }
-{
-    is_word(word.as_str().as_bytes()) && !is_reserved(word)
-}
-
-// An identifier, or nothing.
-fn identifier(alloc: Global, word: &Word) -> Result<Option<Word>, AllocError>
-    ensures { IfOk result (λ name. MatchOption name (is_identifier word.now ≡ false) (λ name. (is_identifier word.now ≡ true) × (name ≡ word.now))) }
-{
-    if !is_identifier(word) {
-        return Ok(None);
-    }
-    Ok(Some(word.copy(alloc)?))
-}
-
-fn expected(word: &Word, token: &str, next: Stage) -> Option<Stage>
-    ensures { result ≡ expected word.now token.now next }
-{
-    if is_token(word, token) {
-        Some(next)
-    } else {
-        None
+    match expr.form.get() {
+        ExprForm::Apply { name, args } => {
+            if !args.is_empty() {
+                return None;
+            }
+            place(constants, str_at(text, *name)?)
+        }
+        _ => None,
     }
 }
 
-fn constant(alloc: Global, form: Form, word: &Word) -> Result<Option<Stage>, AllocError>
-    ensures { IfOk result (λ next. next ≡ constant form word.now) }
+// The two sides of an expression with this operator.
+fn sides(expr: &Expr, wanted: BinaryOp) -> Option<(&Expr, &Expr)>
+    ensures { MatchOption result ((l r : Expr) → expr.now.form ≡ Binary wanted l r → ⊥) (λ p. expr.now.form ≡ Binary wanted p.0.now p.1.now) }
 {
-    let mut form = form;
-    let Some(name) = identifier(alloc, word)? else {
+    match expr.form.get() {
+        ExprForm::Binary { op, left, right } => {
+            if *op != wanted {
+                return None;
+            }
+            Some((left, right))
+        }
+        _ => None,
+    }
+}
+
+// The equation of two constants that an expression is.
+fn equation(text: &[u8], constants: &[Word], expr: &Expr) -> Option<Equation>
+    ensures { MatchOption result ((q : Equation) → IsEquation text.now constants.now expr.now q → ⊥) (λ q. IsEquation text.now constants.now expr.now q) }
+{
+    let Some((from, to)) = sides(expr, BinaryOp::Equal) else {
+        return None;
+    };
+    let Some(left) = constant(text, constants, from) else {
+        return None;
+    };
+    let Some(right) = constant(text, constants, to) else {
+        return None;
+    };
+    Some(Equation { left, right })
+}
+
+// Hypotheses with one more.
+fn with_last(hyps: List<Equation>, hyp: Equation) -> Result<List<Equation>, AllocError>
+    ensures { IfOk result (λ more. more ≡ hyps ++ hyp ∷ []) }
+{
+    let mut hyps = hyps;
+    hyps.push(hyp)?;
+    Ok(hyps)
+}
+
+// Hypotheses with the last equation behind them, where there is one.
+fn alone(last: Option<Equation>, hyps: List<Equation>) -> Option<(List<Equation>, Equation)>
+    ensures { result ≡ option_map (λ q. (hyps, q)) last }
+{
+    match last {
+        Some(last) => Some((hyps, last)),
+        None => None,
+    }
+}
+
+// The hypotheses of a chain, behind those that are there, and its last equation.
+fn chain(
+    text: &[u8],
+    constants: &[Word],
+    expr: &Expr,
+    hyps: List<Equation>,
+) -> Result<Option<(List<Equation>, Equation)>, AllocError>
+    ensures { IfOk result (λ found. MatchOption found ((hs : List Equation) (q : Equation) → IsChain text.now constants.now expr.now hs q → ⊥) (λ p. (hs : List Equation) × (p.0 ≡ hyps ++ hs) × IsChain text.now constants.now expr.now hs p.1)) }
+{
+    let Some((left, right)) = sides(expr, BinaryOp::Implies) else {
+        return Ok(alone(equation(text, constants, expr), hyps));
+    };
+    let Some(hyp) = equation(text, constants, left) else {
         return Ok(None);
     };
-    if let Some(_) = place(form.constants.as_slice(), word) {
+    let longer = with_last(hyps, hyp)?;
+    chain(text, constants, right, longer)
+}
+
+/// The most hypotheses of a goal.
+const MOST_HYPOTHESES: usize = 1000;
+
+// The goal that a declaration is.
+fn goal(
+    alloc: Global,
+    text: &[u8],
+    constants: &[Word],
+    decl: &Decl,
+) -> Result<Option<Chain>, AllocError>
+    ensures { IfOk result (λ found. MatchOption found ((g : Chain) → IsGoalDecl text.now constants.now decl.now g → ⊥) (λ g. IsGoalDecl text.now constants.now decl.now g)) }
+{
+    let DeclForm::Goal { name, body } = &decl.form else {
+        return Ok(None);
+    };
+    let Some(name) = name_at(alloc, text, *name)? else {
+        return Ok(None);
+    };
+    let Some((hyps, last)) = chain(text, constants, body, List::new(alloc))? else {
+        return Ok(None);
+    };
+    if hyps.len() > MOST_HYPOTHESES {
         return Ok(None);
     }
-    form.constants.push(name)?;
-    Ok(Some(Stage::Constant(form)))
+    Ok(Some(Chain { name, hyps, last }))
 }
 
-fn after_constant(form: Form, word: &Word) -> Option<Stage>
-    ensures { result ≡ after_constant form word.now }
+// The goals that declarations are.
+fn goals(
+    alloc: Global,
+    text: &[u8],
+    constants: &[Word],
+    decls: &[Decl],
+) -> Result<Option<List<Chain>>, AllocError>
+    ensures { IfOk result (λ found. MatchOption found ((gs : List Chain) → Each (IsGoalDecl text.now constants.now) decls.now gs → ⊥) (λ gs. Each (IsGoalDecl text.now constants.now) decls.now gs)) }
 {
-    if is_token(word, ",") {
-        Some(Stage::Logic(form))
-    } else {
-        expected(word, ":", Stage::ConstantsColon(form))
+    let mut found = List::new(alloc);
+    for decl in decls {
+        let Some(goal) = goal(alloc, text, constants, decl)? else {
+            return Ok(None);
+        };
+        found.push(goal)?;
+    }
+    Ok(Some(found))
+}
+
+// The name at a place, where it isn't among those that were found.
+fn new_name(
+    alloc: Global,
+    text: &[u8],
+    at: &Span,
+    found: &[Word],
+) -> Result<Option<Word>, AllocError>
+    ensures { IfOk result (λ o. MatchOption o ((name : List ℕ) → Stands text.now at.now name → (k : ℕ) × (slice_get found.now k ≡ Some name)) (λ name. Stands text.now at.now name × ((k : ℕ) → slice_get found.now k ≡ Some name → ⊥))) }
+{
+    let Some(name) = name_at(alloc, text, *at)? else {
+        return Ok(None);
+    };
+    match place(found, name.as_str()) {
+        Some(_) => Ok(None),
+        None => Ok(Some(name)),
     }
 }
 
-fn left(form: Form, goal: Opened, word: &Word) -> Option<Stage>
-    ensures { result ≡ left form goal word.now }
+// The names at these places, where they are different.
+fn names(alloc: Global, text: &[u8], places: &[Span]) -> Result<Option<List<Word>>, AllocError>
+    ensures { IfOk result (λ found. MatchOption found ((ns : List (List ℕ)) → Each (Stands text.now) places.now ns → AllPairs ◌≢◌ ns → ⊥) (λ ns. Each (Stands text.now) places.now ns × AllPairs ◌≢◌ ns)) }
 {
-    match place(form.constants.as_slice(), word) {
-        Some(left) => Some(Stage::Left(form, goal, left)),
-        None => None,
+    let mut found = List::new(alloc);
+    for at in places {
+        let Some(name) = new_name(alloc, text, at, found.as_slice())? else {
+            return Ok(None);
+        };
+        found.push(name)?;
+    }
+    Ok(Some(found))
+}
+
+// The name of the type that a declaration `type t` declares.
+fn type_name(alloc: Global, text: &[u8], decl: &Decl) -> Result<Option<Word>, AllocError>
+    ensures { IfOk result (λ found. MatchOption found ((name : List ℕ) → IsTypeDecl text.now decl.now name → ⊥) (λ name. IsTypeDecl text.now decl.now name)) }
+{
+    let DeclForm::Type {
+        params,
+        name,
+        fields,
+    } = &decl.form
+    else {
+        return Ok(None);
+    };
+    if !params.is_empty() || !fields.is_empty() {
+        return Ok(None);
+    }
+    name_at(alloc, text, *name)
+}
+
+// Whether a type is the one of this name, without arguments.
+fn is_type_name(text: &[u8], sort: &WrittenType, type_name: &str) -> bool
+    ensures { IsTrue result ↔ IsTypeName text.now sort.now type_name.now }
+{
+    match &sort.form {
+        TypeForm::Named { name, args } => args.is_empty() && is_at(text, *name, type_name),
+        _ => false,
     }
 }
 
-fn right(form: Form, goal: Opened, left: usize, word: &Word) -> Option<Stage>
-    ensures { result ≡ right form goal left word.now }
+// Whether symbols have this type.
+fn has_result(text: &[u8], result_: &SymbolResult, type_name: &str) -> bool
+    ensures { IsTrue result ↔ IsResult text.now result_.now type_name.now }
 {
-    match place(form.constants.as_slice(), word) {
-        Some(right) => {
-            let Opened { name, hyps } = goal;
-            let last = Equation { left, right };
-            Some(Stage::Right(form, Chain { name, hyps, last }))
-        }
-        None => None,
+    match &result_.sort {
+        None => false,
+        Some(sort) => is_type_name(text, sort, type_name),
     }
 }
 
-fn after_equation(form: Form, goal: Chain, word: &Word) -> Result<Option<Stage>, AllocError>
-    ensures { IfOk result (λ next. next ≡ after_equation form goal word.now) }
+// The different constants that a declaration `logic c1, .., cn : t` declares.
+fn constants(
+    alloc: Global,
+    text: &[u8],
+    decl: &Decl,
+    type_name: &str,
+) -> Result<Option<List<Word>>, AllocError>
+    ensures { IfOk result (λ found. MatchOption found ((cs : List (List ℕ)) → IsLogicDecl text.now decl.now type_name.now cs → AllPairs ◌≢◌ cs → ⊥) (λ cs. IsLogicDecl text.now decl.now type_name.now cs × AllPairs ◌≢◌ cs)) }
 {
-    if is_token(word, "->") {
-        return another_equation(form, goal);
+    let DeclForm::Logic {
+        ac,
+        names: places,
+        args,
+        result: result_,
+    } = &decl.form
+    else {
+        return Ok(None);
+    };
+    if *ac {
+        return Ok(None);
     }
-    if is_token(word, "goal") {
-        let form = with_goal(form, goal)?;
-        return Ok(Some(Stage::Goal(form)));
+    if !args.is_empty() {
+        return Ok(None);
+    }
+    if has_result(text, result_, type_name) {
+        return names(alloc, text, places.as_slice());
     }
     Ok(None)
 }
 
-// The goal with its last equation among the hypotheses, where it may have one more.
-fn another_equation(form: Form, goal: Chain) -> Result<Option<Stage>, AllocError>
-    ensures { IfOk result (λ next. next ≡ cond (nat_lt (length goal.hyps) 1000) (Some (stage.Arrow form (opened goal))) None) }
+// The first two declarations of a file, and the others.
+fn split(file: &File) -> Option<(&Decl, &Decl, &[Decl])>
+    ensures { MatchOption result ((first second : Decl) (others : List Decl) → file.now.decls ≡ first ∷ second ∷ others → ⊥) (λ p. file.now.decls ≡ p.0.now ∷ p.1.now ∷ p.2.now) }
 {
-    let Chain {
-        name,
-        mut hyps,
-        last,
-    } = goal;
-    if hyps.len() >= 1000 {
-        return Ok(None);
+    let decls = file.decls.as_slice();
+    if decls.len() < 2 {
+        return None;
     }
-    hyps.push(last)?;
-    Ok(Some(Stage::Arrow(form, Opened { name, hyps })))
+    Some((&decls[0], &decls[1], &decls[2..]))
 }
 
-fn with_goal(form: Form, goal: Chain) -> Result<Form, AllocError>
-    ensures { IfOk result (λ more. more ≡ with_goal form goal) }
+/// The form of a file, where it has one. An `Err` is want of memory.
+pub fn form_of(alloc: Global, text: &[u8], file: &File) -> Result<Option<Form>, AllocError>
+    ensures { IfOk result (λ found. MatchOption found ((f : Form) → IsFormOf text.now file.now f → ⊥) (λ f. IsFormOf text.now file.now f)) }
 {
-    let mut form = form;
-    form.goals.push(goal)?;
-    Ok(form)
-}
-
-fn type_name(alloc: Global, word: &Word) -> Result<Option<Stage>, AllocError>
-    ensures { IfOk result (λ next. next ≡ step stage.Type word.now) }
-{
-    Ok(identifier(alloc, word)?.map(|name| Stage::TypeName(name)))
-}
-
-fn goal_name(alloc: Global, form: Form, word: &Word) -> Result<Option<Stage>, AllocError>
-    ensures { IfOk result (λ next. next ≡ step (stage.Goal form) word.now) }
-{
-    let Some(name) = identifier(alloc, word)? else {
+    let Some((first, second, others)) = split(file) else {
         return Ok(None);
     };
-    let hyps = List::new(alloc);
-    Ok(Some(Stage::GoalName(form, Opened { name, hyps })))
-}
-
-fn after_type_name(alloc: Global, name: Word, word: &Word) -> Option<Stage>
-    ensures { result ≡ step (stage.TypeName name) word.now }
-{
-    let form = Form {
-        type_name: name,
-        constants: List::new(alloc),
-        goals: List::new(alloc),
-    };
-    expected(word, "logic", Stage::Logic(form))
-}
-
-fn after_colon(form: Form, word: &Word) -> Option<Stage>
-    ensures { result ≡ step (stage.ConstantsColon form) word.now }
-{
-    if is_token(word, form.type_name.as_str()) {
-        Some(Stage::Declarations(form))
-    } else {
-        None
-    }
-}
-
-// The stage after one more token.
-fn step(alloc: Global, stage: Stage, word: &Word) -> Result<Option<Stage>, AllocError>
-    ensures { IfOk result (λ next. next ≡ step stage word.now) }
-{
-    match stage {
-        Stage::Start => Ok(expected(word, "type", Stage::Type)),
-        Stage::Type => type_name(alloc, word),
-        Stage::TypeName(name) => Ok(after_type_name(alloc, name, word)),
-        Stage::Logic(form) => constant(alloc, form, word),
-        Stage::Constant(form) => Ok(after_constant(form, word)),
-        Stage::ConstantsColon(form) => Ok(after_colon(form, word)),
-        Stage::Declarations(form) => Ok(expected(word, "goal", Stage::Goal(form))),
-        Stage::Goal(form) => goal_name(alloc, form, word),
-        Stage::GoalName(form, goal) => Ok(expected(word, ":", Stage::Arrow(form, goal))),
-        Stage::Arrow(form, goal) => Ok(left(form, goal, word)),
-        Stage::Left(form, goal, left) => {
-            Ok(expected(word, "=", Stage::Equals(form, goal, left)))
-        }
-        Stage::Equals(form, goal, left) => Ok(right(form, goal, left, word)),
-        Stage::Right(form, goal) => after_equation(form, goal, word),
-    }
-}
-
-// The form, where the text may end here.
-fn finished(stage: Stage) -> Result<Option<Form>, AllocError>
-    ensures { IfOk result (λ form. form ≡ finished stage) }
-{
-    match stage {
-        Stage::Declarations(form) => Ok(Some(form)),
-        Stage::Right(form, goal) => Ok(Some(with_goal(form, goal)?)),
-        _ => Ok(None),
-    }
-}
-
-fn form_of(alloc: Global, words: &[Word]) -> Result<Option<Form>, AllocError>
-    ensures { IfOk result (λ form. form ≡ form_of words.now) }
-{
-    let mut stage = Stage::Start;
-    for word in words {
-        let Some(next) = step(alloc, stage, word)? else {
-            return Ok(None);
-        };
-        stage = next;
-    }
-    finished(stage)
-}
-
-/// The form of a text, where it has one. An `Err` is want of memory.
-pub fn read_form(alloc: Global, text: &[u8]) -> Result<Option<Form>, AllocError>
-    ensures { IfOk result (λ found. MatchOption found ((form : Form) → Reads text.now form → ⊥) (λ form. Reads text.now form)) }
-{
-    let Some(words) = tokens(alloc, text)? else {
+    let Some(type_name) = type_name(alloc, text, first)? else {
         return Ok(None);
     };
-    form_of(alloc, words.as_slice())
-}
-
-/// A text has at most one form.
-pub fn one_form()
-    ensures { (text : List ℕ) (form other : Form) → Reads text form → Reads text other → form ≡ other }
-{}
-
-#[cfg(test)]
-mod tests {
-    use super::*;
-    use std::test::Fail;
-
-    fn is_form(alloc: Global, text: &[u8]) -> Result<bool, AllocError> {
-        Ok(read_form(alloc, text)?.is_some())
-    }
-
-    #[test]
-    fn transitivity(rt: HostRuntime) -> Result<(), Fail> {
-        let text = b"type t\nlogic a, b, c, d, e : t\ngoal g : a = b -> b = c -> a = c\n";
-        let form = read_form(rt.alloc(), text)?.ok_or("no form")?;
-        assert_eq!(rt; form.type_name.as_str(), "t");
-        assert_eq!(rt; form.constants.len(), 5);
-        let goal = form.goals.get(0).ok_or("no goal")?;
-        assert_eq!(rt; goal.name.as_str(), "g");
-        let hyps = [
-            Equation { left: 0, right: 1 },
-            Equation { left: 1, right: 2 },
-        ];
-        assert!(rt; goal.hyps.as_slice() == hyps.as_slice());
-        assert!(rt; goal.last == Equation { left: 0, right: 2 });
-        Ok(())
-    }
-
-    #[test]
-    fn texts(rt: HostRuntime) -> Result<(), Fail> {
-        let cases: [(&str, bool); 9] = [
-            ("type t logic a : t goal g : a = a", true),
-            ("type t logic a : t", true),
-            ("type t logic t : t goal g : t = t goal g : t = t", true),
-            ("type t logic a : t (* c *) goal g : a = a", false),
-            ("type t logic a : t goal g : (a = a)", false),
-            ("type t logic a : t goal g : a = b", false),
-            ("type t type u logic a : t goal g : a = a", false),
-            ("type t logic : t", false),
-            ("type t logic a : t goal g : a = a ->", false),
-        ];
-        for (text, wanted) in cases {
-            let answer = is_form(rt.alloc(), text.as_bytes())?;
-            assert_eq!(rt; answer, wanted, "at {text}");
-        }
-        Ok(())
-    }
-
-    fn chain(alloc: Global, arrows: usize) -> Result<String, AllocError> {
-        let mut text = String::from_str(alloc, "type t logic a : t goal g : a = a")?;
-        for _ in 0..arrows {
-            text.push_str(" -> a = a")?;
-        }
-        Ok(text)
-    }
-
-    #[test]
-    fn lengths(rt: HostRuntime) -> Result<(), Fail> {
-        let longest = chain(rt.alloc(), 1000)?;
-        assert!(rt; is_form(rt.alloc(), longest.as_str().as_bytes())?);
-        let longer = chain(rt.alloc(), 1001)?;
-        assert!(rt; !is_form(rt.alloc(), longer.as_str().as_bytes())?);
-        Ok(())
-    }
+    let Some(constants) = constants(alloc, text, second, type_name.as_str())? else {
+        return Ok(None);
+    };
+    let Some(goals) = goals(alloc, text, constants.as_slice(), others)? else {
+        return Ok(None);
+    };
+    Ok(Some(Form {
+        type_name,
+        constants,
+        goals,
+    }))
 }

@@ -205,6 +205,40 @@ fn refused_texts(rt: HostRuntime) -> Result<(), Fail> {
     Ok(())
 }
 
+#[test]
+fn the_first_fault(rt: HostRuntime) -> Result<(), Fail> {
+    let cases: [(&str, &str); 8] = [
+        ("goal g : a =", "refused 1:13 unexpected\n"),
+        ("(* a (* b *)", "refused 1:1 open comment\n"),
+        (
+            "goal g : 170141183460469231731687303715884105728 = 0",
+            "refused 1:10 wide literal\n",
+        ),
+        ("theory T", "refused 1:1 outside profile\n"),
+        ("logic c : int $", "refused 1:15 bad byte\n"),
+        ("type t\nlogic : t", "refused 2:7 unexpected\n"),
+        ("type t\nlogic a : t\ngoal g : (a = a)", "refused form\n"),
+        ("type t type u logic a : t", "refused form\n"),
+    ];
+    for (text, line) in cases {
+        let ended = answers(
+            rt.alloc(),
+            text.as_bytes(),
+            Status::Refused,
+            line.as_bytes(),
+        )?;
+        assert!(rt; ended, "at {text}");
+    }
+    Ok(())
+}
+
+#[test]
+fn comments_between_tokens(rt: HostRuntime) -> Result<(), Fail> {
+    let text = b"type t (* a (* type *) *) logic(**)a : t goal g : a =(* = *)a";
+    assert!(rt; answers(rt.alloc(), text, Status::Done, ITSELF_PART)?);
+    Ok(())
+}
+
 // Whether a word gives the usage line, with nothing read.
 fn is_word_refused(alloc: Global) -> Result<bool, AllocError> {
     let mut words = Vec::new(alloc);

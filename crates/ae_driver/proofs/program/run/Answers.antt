@@ -1,5 +1,6 @@
-use Rattle.std.proofs.Common.{Err, inr, ap, subst}
-use Rattle.ae_driver.specs.Output.{TextEnds}
+use Rattle.std.proofs.Common.{Err, inr, ap, subst, []}
+use Rattle.ae_driver.specs.Output.{TextEnds, RefusalEnds}
+use Rattle.ae_report.specs.declared.refusal.Refusal.TheVariants as refusal
 use Rattle.ae_driver.proofs.Answered.{cut_off_is, is_read, is_too_long, complete_is, not_too_long}
 use Rattle.ae_driver.proofs.program.run.Goals as goal
 
@@ -26,7 +27,13 @@ returns-in-Err-TooLong-clause-complete g c =
 
 pub returns-in-Err-TooLong-clause-refused : goal.returns-in-Err-TooLong-clause-refused
 returns-in-Err-TooLong-clause-refused g c =
-    λ ended. inr (record {
+    let a = g.K.Sink.written c.args.sink.now in
+    let e = g.K.Sink.written c.refuse.new.sink in
+    λ ended.
+    let told = subst (λ s. RefusalEnds [] refusal.TooLong a e s) ended c.refuse.ensures.ends in
+    inr (record {
       too_long = is_too_long (g.S.Source.left c.args.source.now) (c.in-Err-TooLong.ensures.longer (ap Err c.in-Err-TooLong.field-0-is));
-      written = c.tell-in-Err-TooLong.ensures.told ended;
+      line = told.0;
+      is_line = told.1;
+      written = told.2;
     })

@@ -1,24 +1,39 @@
-use Rattle.std.proofs.Common.{◌≡◌, ℕ, ◌<◌, List, [], length, get_or, Option, sym, ap, ◌∙◌}
-use Rattle.std.proofs.lemmas.List.{get_or_read}
-use Rattle.ae_driver.specs.declared.reader.Stage.{Stage}
-use Rattle.ae_driver.specs.Stages.{step}
-use Rattle.ae_driver.proofs.Placing.{run_goes, run_stops, run_ends}
+use Rattle.std.proofs.Common.{rules, subst, ◌≢◌, ℕ, List}
+use Rattle.std.specs.List.{AllPairs}
+use Rattle.ae_driver.specs.Form.{Each, IsGoalDecl, IsTypeDecl, IsLogicDecl}
+use Rattle.ae_driver.specs.declared.form.Chain.{Chain}
+use Rattle.ae_driver.proofs.Reading.{no_type, no_logic, no_goals, form_is, when_none, when_some}
 use Rattle.ae_driver.proofs.reader.form_of.Goals as goal
 
-read : (ts : List (List ℕ)) (i : ℕ) (s : Stage) (x : List ℕ) (o n : Option Stage) → i < length ts → x ≡ get_or ts i x → o ≡ step s x → o ≡ n → step s (get_or ts i []) ≡ n
-read ts i s x o n h e f k = ap (step s) (sym (get_or_read ts i x h e [])) ∙ sym f ∙ k
+pub returns-in_default-2 : goal.returns-in_default-2
+returns-in_default-2 c =
+    no_type c.args.text.now c.args.file.now c.in-Some.first.now c.in-Some.second.now c.in-Some.others.now c.in-Some.ensures (search (rules, c.in_ok-type_name.ensures, c.in_default-2.is))
 
-pub returns-in_default : goal.returns-in_default
-returns-in_default c =
-    run_stops c.args.words.now c.loop-word.word-index c.loop-word.stage c.loop-word-test.true
-    (read c.args.words.now c.loop-word.word-index c.loop-word.stage c.word-item.result _ _ c.loop-word-test.true c.word-item.is c.in_ok-next.ensures c.in_default.is) c.loop-word.invariant
+pub returns-in_default-3 : goal.returns-in_default-3
+returns-in_default-3 c =
+    let name = c.in-Some-2.type_name in
+    let first : IsTypeDecl c.args.text.now c.in-Some.first.now name = search (rules, c.in_ok-type_name.ensures, c.in-Some-2.is) in
+    let none : (cs : List (List ℕ)) → IsLogicDecl c.args.text.now c.in-Some.second.now name cs → AllPairs ◌≢◌ cs → ⊥ = subst (λ n. (cs : List (List ℕ)) → IsLogicDecl c.args.text.now c.in-Some.second.now n cs → AllPairs ◌≢◌ cs → ⊥) c.as_str.ensures (when_none c.in_ok-constants.field-0 _ _ c.in_default-3.is c.in_ok-constants.ensures) in
+    no_logic c.args.text.now c.args.file.now c.in-Some.first.now c.in-Some.second.now c.in-Some.others.now c.in-Some.ensures name first none
 
-pub loop-word-preserved : goal.loop-word-preserved
-loop-word-preserved c =
-    run_goes c.args.words.now c.loop-word.word-index c.loop-word.stage c.in-Some.next c.loop-word-test.true
-    (read c.args.words.now c.loop-word.word-index c.loop-word.stage c.word-item.result _ _ c.loop-word-test.true c.word-item.is c.in_ok-next.ensures c.in-Some.is) c.loop-word.invariant
+pub returns-in_default-4 : goal.returns-in_default-4
+returns-in_default-4 c =
+    let name = c.in-Some-2.type_name in
+    let cs = c.in-Some-3.constants in
+    let first : IsTypeDecl c.args.text.now c.in-Some.first.now name = search (rules, c.in_ok-type_name.ensures, c.in-Some-2.is) in
+    let second : IsLogicDecl c.args.text.now c.in-Some.second.now name cs × AllPairs ◌≢◌ cs =
+    subst (λ n. IsLogicDecl c.args.text.now c.in-Some.second.now n cs × AllPairs ◌≢◌ cs) c.as_str.ensures (when_some c.in_ok-constants.field-0 cs _ _ c.in-Some-3.is c.in_ok-constants.ensures) in
+    let none : (gs : List Chain) → Each (IsGoalDecl c.args.text.now cs) c.in-Some.others.now gs → ⊥ =
+    subst (λ zs. (gs : List Chain) → Each (IsGoalDecl c.args.text.now zs) c.in-Some.others.now gs → ⊥) c.as_slice.ensures (when_none c.in_ok-goals.field-0 _ _ c.in_default-4.is c.in_ok-goals.ensures) in
+    no_goals c.args.text.now c.args.file.now c.in-Some.first.now c.in-Some.second.now c.in-Some.others.now c.in-Some.ensures name cs first second.0 none
 
 pub returns : goal.returns
 returns c =
-    let e = run_ends c.args.words.now c.loop-word.word-index c.loop-word.stage c.loop-word-test.false c.loop-word.invariant in
-    rw e at c.finished.ensures
+    let name = c.in-Some-2.type_name in
+    let cs = c.in-Some-3.constants in
+    let first : IsTypeDecl c.args.text.now c.in-Some.first.now name = search (rules, c.in_ok-type_name.ensures, c.in-Some-2.is) in
+    let second : IsLogicDecl c.args.text.now c.in-Some.second.now name cs × AllPairs ◌≢◌ cs =
+    subst (λ n. IsLogicDecl c.args.text.now c.in-Some.second.now n cs × AllPairs ◌≢◌ cs) c.as_str.ensures (when_some c.in_ok-constants.field-0 cs _ _ c.in-Some-3.is c.in_ok-constants.ensures) in
+    let third : Each (IsGoalDecl c.args.text.now cs) c.in-Some.others.now c.in-Some-4.goals =
+    subst (λ zs. Each (IsGoalDecl c.args.text.now zs) c.in-Some.others.now c.in-Some-4.goals) c.as_slice.ensures (when_some c.in_ok-goals.field-0 c.in-Some-4.goals _ _ c.in-Some-4.is c.in_ok-goals.ensures) in
+    form_is c.args.text.now c.args.file.now c.in-Some.first.now c.in-Some.second.now c.in-Some.others.now c.in-Some.ensures name cs c.in-Some-4.goals first second.0 second.1 third

@@ -1,0 +1,6 @@
+use Rattle.std.proofs.Common.{take}
+use Rattle.ae_driver.specs.Form.{Each, IsGoalDecl}
+use Rattle.ae_driver.proofs.reader.goals.Given as goal
+
+abbrev pub invariant-loop-decl : goal.invariant-loop-decl
+invariant-loop-decl l = Each (IsGoalDecl l.text l.constants) (take l.decl-index l.decls) l.found
