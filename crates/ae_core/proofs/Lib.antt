@@ -5,4 +5,10 @@ pub mod Written
 pub mod Recursion
 pub mod TreeLaws
 pub mod OrderLaws
+pub mod Respects
+pub mod Congruence
+pub mod Propagation
+pub mod PuttingLaws
+pub mod Blocks
 pub mod LinearLaws
+pub mod Stated

@@ -7,8 +7,9 @@ use Rattle.ae_math.specs.Forms.{Form, number, single, plus, scale, minus, is_zer
 use Rattle.ae_math.proofs.FractionLaws.{same_frac, add_neg_q, zero_add_q, mul_zero_q, neg_mul_q, one_mul_q, same_from_zero_q, cancel_q}
 use Rattle.ae_math.proofs.FormLaws.{value-same, value-plus, value-scale}
 use Rattle.ae_core.specs.Decided.{Term_discrete}
-use Rattle.ae_core.specs.Lines.{Fact, equal}
-use Rattle.ae_core.specs.Linear.{product, quotient, applied, form_step, linear_form, whole, gap, total, IsLinear, AllHold, Combines}
+use Rattle.ae_core.specs.Lines.{Fact, equal, whole, gap, total}
+use Rattle.ae_core.specs.Linear.{times, applied, form_step, form}
+use Rattle.ae_core.specs.Combinations.{IsLinear, AllHold, Combines}
 use Rattle.ae_core.specs.declared.terms.Sort.{Sort}
 use Rattle.ae_core.specs.declared.terms.Head.{Head}
 use Rattle.ae_core.specs.declared.terms.Head.TheVariants as head
@@ -21,56 +22,56 @@ firsts : (f : Term → Form Term) (ts : List Term) → map {A = Term × Form Ter
 firsts f [] = refl
 firsts f (t ∷ ts) = ap (λ us. t ∷ us) (firsts f ts)
 
-pub linear_form-Apply : (h : Head) (ss : List Sort) (ts : List Term) → linear_form (Apply h ss ts) ≡ applied (Apply h ss ts) h (map (λ t. (t, linear_form t)) ts)
-unfolding linear_form
-linear_form-Apply h ss ts =
-    ap linear_form (sym (rolls-Apply h ss ts)) ∙ para-roll-Term (Form Term) form_step (layer.Apply h ss ts)
-    ∙ ap (λ us. applied (Apply h ss us) h (map (λ t. (t, linear_form t)) ts)) (firsts linear_form ts)
+pub form-Apply : (h : Head) (ss : List Sort) (ts : List Term) → form (Apply h ss ts) ≡ applied (Apply h ss ts) h (map (λ t. (t, form t)) ts)
+unfolding form
+form-Apply h ss ts =
+    ap form (sym (rolls-Apply h ss ts)) ∙ para-roll-Term (Form Term) form_step (layer.Apply h ss ts)
+    ∙ ap (λ us. applied (Apply h ss us) h (map (λ t. (t, form t)) ts)) (firsts form ts)
 
-pub linear_form-Bound : (n : ℕ) → linear_form (Bound n) ≡ single (Bound n)
-unfolding linear_form
-linear_form-Bound n = ap linear_form (sym (rolls-Bound n)) ∙ para-roll-Term (Form Term) form_step (layer.Bound n)
+pub form-Bound : (n : ℕ) → form (Bound n) ≡ single (Bound n)
+unfolding form
+form-Bound n = ap form (sym (rolls-Bound n)) ∙ para-roll-Term (Form Term) form_step (layer.Bound n)
 
-pub linear_form-Num : (top bottom : ℤ) (real : Bool) → linear_form (Num top bottom real) ≡ number (ratio top bottom)
-unfolding linear_form
-linear_form-Num a b r = ap linear_form (sym (rolls-Num a b r)) ∙ para-roll-Term (Form Term) form_step (layer.Num a b r)
+pub form-Num : (top bottom : ℤ) (real : Bool) → form (Num top bottom real) ≡ number (ratio top bottom)
+unfolding form
+form-Num a b r = ap form (sym (rolls-Num a b r)) ∙ para-roll-Term (Form Term) form_step (layer.Num a b r)
 
-pub linear_form-Fresh : (n : ℕ) (s : Sort) → linear_form (Fresh n s) ≡ single (Fresh n s)
-unfolding linear_form
-linear_form-Fresh n s = ap linear_form (sym (rolls-Fresh n s)) ∙ para-roll-Term (Form Term) form_step (layer.Fresh n s)
+pub form-Fresh : (n : ℕ) (s : Sort) → form (Fresh n s) ≡ single (Fresh n s)
+unfolding form
+form-Fresh n s = ap form (sym (rolls-Fresh n s)) ∙ para-roll-Term (Form Term) form_step (layer.Fresh n s)
 
-pub opaque_symbol : (f : ℕ) (ss : List Sort) (ts : List Term) → linear_form (Apply (head.Symbol f) ss ts) ≡ single (Apply (head.Symbol f) ss ts)
-opaque_symbol f ss ts = linear_form-Apply (head.Symbol f) ss ts
+pub opaque_symbol : (f : ℕ) (ss : List Sort) (ts : List Term) → form (Apply (head.Symbol f) ss ts) ≡ single (Apply (head.Symbol f) ss ts)
+opaque_symbol f ss ts = form-Apply (head.Symbol f) ss ts
 
-pub int_sum : (ss : List Sort) (a b : Term) → linear_form (Apply (head.Int op.Add) ss (a ∷ b ∷ [])) ≡ plus (linear_form a) (linear_form b)
-int_sum ss a b = linear_form-Apply (head.Int op.Add) ss (a ∷ b ∷ [])
+pub int_sum : (ss : List Sort) (a b : Term) → form (Apply (head.Int op.Add) ss (a ∷ b ∷ [])) ≡ plus (form a) (form b)
+int_sum ss a b = form-Apply (head.Int op.Add) ss (a ∷ b ∷ [])
 
-pub real_sum : (ss : List Sort) (a b : Term) → linear_form (Apply (head.Real op.Add) ss (a ∷ b ∷ [])) ≡ plus (linear_form a) (linear_form b)
-real_sum ss a b = linear_form-Apply (head.Real op.Add) ss (a ∷ b ∷ [])
+pub real_sum : (ss : List Sort) (a b : Term) → form (Apply (head.Real op.Add) ss (a ∷ b ∷ [])) ≡ plus (form a) (form b)
+real_sum ss a b = form-Apply (head.Real op.Add) ss (a ∷ b ∷ [])
 
-pub int_difference : (ss : List Sort) (a b : Term) → linear_form (Apply (head.Int op.Sub) ss (a ∷ b ∷ [])) ≡ minus (linear_form a) (linear_form b)
-int_difference ss a b = linear_form-Apply (head.Int op.Sub) ss (a ∷ b ∷ [])
+pub int_difference : (ss : List Sort) (a b : Term) → form (Apply (head.Int op.Sub) ss (a ∷ b ∷ [])) ≡ minus (form a) (form b)
+int_difference ss a b = form-Apply (head.Int op.Sub) ss (a ∷ b ∷ [])
 
-pub real_difference : (ss : List Sort) (a b : Term) → linear_form (Apply (head.Real op.Sub) ss (a ∷ b ∷ [])) ≡ minus (linear_form a) (linear_form b)
-real_difference ss a b = linear_form-Apply (head.Real op.Sub) ss (a ∷ b ∷ [])
+pub real_difference : (ss : List Sort) (a b : Term) → form (Apply (head.Real op.Sub) ss (a ∷ b ∷ [])) ≡ minus (form a) (form b)
+real_difference ss a b = form-Apply (head.Real op.Sub) ss (a ∷ b ∷ [])
 
-pub int_negation : (ss : List Sort) (a : Term) → linear_form (Apply (head.Int op.Neg) ss (a ∷ [])) ≡ scale (neg_ℚ one_ℚ) (linear_form a)
-int_negation ss a = linear_form-Apply (head.Int op.Neg) ss (a ∷ [])
+pub int_negation : (ss : List Sort) (a : Term) → form (Apply (head.Int op.Neg) ss (a ∷ [])) ≡ scale (neg_ℚ one_ℚ) (form a)
+int_negation ss a = form-Apply (head.Int op.Neg) ss (a ∷ [])
 
-pub real_negation : (ss : List Sort) (a : Term) → linear_form (Apply (head.Real op.Neg) ss (a ∷ [])) ≡ scale (neg_ℚ one_ℚ) (linear_form a)
-real_negation ss a = linear_form-Apply (head.Real op.Neg) ss (a ∷ [])
+pub real_negation : (ss : List Sort) (a : Term) → form (Apply (head.Real op.Neg) ss (a ∷ [])) ≡ scale (neg_ℚ one_ℚ) (form a)
+real_negation ss a = form-Apply (head.Real op.Neg) ss (a ∷ [])
 
-pub int_product : (ss : List Sort) (a b : Term) → linear_form (Apply (head.Int op.Mul) ss (a ∷ b ∷ [])) ≡ product (Apply (head.Int op.Mul) ss (a ∷ b ∷ [])) (linear_form a) (linear_form b)
-int_product ss a b = linear_form-Apply (head.Int op.Mul) ss (a ∷ b ∷ [])
+pub int_product : (ss : List Sort) (a b : Term) → form (Apply (head.Int op.Mul) ss (a ∷ b ∷ [])) ≡ times (Apply (head.Int op.Mul) ss (a ∷ b ∷ [])) (form a) (form b)
+int_product ss a b = form-Apply (head.Int op.Mul) ss (a ∷ b ∷ [])
 
-pub real_product : (ss : List Sort) (a b : Term) → linear_form (Apply (head.Real op.Mul) ss (a ∷ b ∷ [])) ≡ product (Apply (head.Real op.Mul) ss (a ∷ b ∷ [])) (linear_form a) (linear_form b)
-real_product ss a b = linear_form-Apply (head.Real op.Mul) ss (a ∷ b ∷ [])
+pub real_product : (ss : List Sort) (a b : Term) → form (Apply (head.Real op.Mul) ss (a ∷ b ∷ [])) ≡ times (Apply (head.Real op.Mul) ss (a ∷ b ∷ [])) (form a) (form b)
+real_product ss a b = form-Apply (head.Real op.Mul) ss (a ∷ b ∷ [])
 
 pub real_quotient : (ss : List Sort) (a : Term) (top bottom : ℤ) (real : Bool) → is_zero (ratio top bottom) ≡ false
-    → linear_form (Apply (head.Real op.Div) ss (a ∷ Num top bottom real ∷ [])) ≡ scale (inverse_ℚ (ratio top bottom)) (linear_form a)
+    → form (Apply (head.Real op.Div) ss (a ∷ Num top bottom real ∷ [])) ≡ scale (inverse_ℚ (ratio top bottom)) (form a)
 real_quotient ss a top bottom real n =
-    linear_form-Apply (head.Real op.Div) ss (a ∷ Num top bottom real ∷ [])
-    ∙ ap (λ z. cond z (single (Apply (head.Real op.Div) ss (a ∷ Num top bottom real ∷ []))) (scale (inverse_ℚ (ratio top bottom)) (linear_form a))) n
+    form-Apply (head.Real op.Div) ss (a ∷ Num top bottom real ∷ [])
+    ∙ ap (λ z. cond z (single (Apply (head.Real op.Div) ss (a ∷ Num top bottom real ∷ []))) (scale (inverse_ℚ (ratio top bottom)) (form a))) n
 
 -- ---- a combination of equations that hold is an equation that holds
 minus_one : (x : ℚ) → neg_ℚ one_ℚ *ℚ x ≡ neg_ℚ x
@@ -83,8 +84,8 @@ whole_zero z e = cancel z (pos 0) 0 (same_frac z (pos 0) 0 0 e)
 module _ (L : Term → ℚ) (u : ℚ) (linear : IsLinear L u) where
   gap_value : (f : Fact) → value L u (gap f) ≡ L f.right +ℚ neg_ℚ (L f.left)
   gap_value f =
-      value-plus L u (linear_form f.right) (scale (neg_ℚ one_ℚ) (linear_form f.left))
-      ∙ (λ i. sym (linear f.right) i +ℚ (value-scale L u (neg_ℚ one_ℚ) (linear_form f.left) ∙ minus_one (value L u (linear_form f.left)) ∙ ap neg_ℚ (sym (linear f.left))) i)
+      value-plus L u (form f.right) (scale (neg_ℚ one_ℚ) (form f.left))
+      ∙ (λ i. sym (linear f.right) i +ℚ (value-scale L u (neg_ℚ one_ℚ) (form f.left) ∙ minus_one (value L u (form f.left)) ∙ ap neg_ℚ (sym (linear f.left))) i)
 
   gap_zero : (f : Fact) → L f.left ≡ L f.right → value L u (gap f) ≡ zero_ℚ
   gap_zero f h = gap_value f ∙ ap (λ x. L f.right +ℚ neg_ℚ x) h ∙ add_neg_q (L f.right)

@@ -1,8 +1,9 @@
 -- Equality of the values of a type that has a code is decided.
-use mathlib.Core.Path.{◌≡◌, refl, ap}
+use mathlib.Core.Path.{refl, ap}
 use native.Mathlib.Decide.{ℕ_discrete}
 use mathlib.Core.Bool.{Bool, true, false}
 use mathlib.Core.List.{List}
+pub use Rattle.ae_math.specs.Choices.{pick, pick_yes, pick_no}
 use base.Stored.{Gv, gnil, gnum, gcons, Coded, coded_list}
 use Rattle.ae_core.specs.declared.terms.Sort.{Sort}
 use Rattle.ae_core.specs.declared.terms.Term.{Term}
@@ -55,16 +56,3 @@ Lit_discrete = decide lit_contract.the_row.coded
 abbrev pub decided : {P : Type 0} → Dec P → Bool
 decided (yes p) = true
 decided (no n) = false
-
--- one of two, by a decision
-abbrev pub pick : {P A : Type 0} → Dec P → A → A → A
-pick (yes p) a b = a
-pick (no n) a b = b
-
-pub pick_yes : {P A : Type 0} (d : Dec P) (a b : A) → P → pick d a b ≡ a
-pick_yes (yes p) a b q = refl
-pick_yes (no n) a b q = absurd (n q)
-
-pub pick_no : {P A : Type 0} (d : Dec P) (a b : A) → ¬ P → pick d a b ≡ b
-pick_no (yes p) a b m = absurd (m p)
-pick_no (no n) a b m = refl

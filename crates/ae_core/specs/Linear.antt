@@ -1,68 +1,78 @@
--- The linear form of a numeric term: its value as a sum of fractions times opaque terms, and a fraction.
--- Sums, differences, negations, products with a constant factor, and quotients of reals by a nonzero numeral are computed; every other term is opaque.
-use Rattle.std.specs.Prelude.{ℤ, pos, Bool, cond, List, [], ◌∷◌, ◌≡◌, ◌≢◌, map}
-use Rattle.std.specs.List.{AllByRecursion}
-use Rattle.ae_math.specs.Fractions.{ℚ, zero_ℚ, one_ℚ, neg_ℚ, inverse_ℚ, ratio}
-use Rattle.ae_math.specs.Forms.{Form, number, single, plus, scale, minus, is_zero, is_constant, SameForm, value}
+-- The linear form of a numeric term: its value as a sum of fractions times opaque subterms, and a fraction.
+-- Sums, differences, negations, products with a constant factor, and quotients of `real` by a numeral other than 0 are computed; every other term is opaque.
+use Rattle.std.specs.Prelude.{Bool, true, false, cond, ◌&&◌, ◌||◌, List, [], ◌∷◌, map}
+use Rattle.std.specs.List.{list_all}
+use Rattle.ae_math.specs.Fractions.{ℚ, one_ℚ, neg_ℚ, inverse_ℚ, ratio}
+use Rattle.ae_math.specs.Forms.{Form, number, single, plus, scale, minus, is_zero, factor, is_constant, SameForm}
 use Rattle.ae_core.specs.Decided.{Term_discrete}
-use Rattle.ae_core.specs.Lines.{Fact, equal}
 use Rattle.ae_core.specs.declared.terms.Term.{Term, Term-F, Bound, Num, Fresh, Apply, para-Term}
 use Rattle.ae_core.specs.declared.terms.Term.TheOpen as layer
 use Rattle.ae_core.specs.declared.terms.Head.{Head}
 use Rattle.ae_core.specs.declared.terms.Head.TheVariants as head
 use Rattle.ae_core.specs.declared.terms.Op.TheVariants as op
 
+-- a form whose keys are opaque terms
+abbrev pub Linear : Type 0
+Linear = Form Term
+
+-- the factor of an opaque term, 0 where the form doesn't have it
+abbrev pub factor_of : Linear → Term → ℚ
+factor_of = factor Term_discrete
+
+-- it has no opaque part
+abbrev pub is_number : Linear → Bool
+is_number = is_constant Term_discrete
+
+-- the same factors and the same constant
+abbrev pub IsSame : Linear → Linear → Type 0
+IsSame = SameForm Term_discrete
+
 -- a product is linear where a factor is constant
-abbrev pub product : Term → Form Term → Form Term → Form Term
-product whole f g = cond (is_constant Term_discrete f) (scale f.constant g) (cond (is_constant Term_discrete g) (scale g.constant f) (single whole))
+abbrev pub times : Term → Linear → Linear → Linear
+times whole f g = cond (is_number f) (scale f.constant g) (cond (is_number g) (scale g.constant f) (single whole))
 
 -- a quotient is linear where it is by a numeral other than 0
-abbrev pub quotient : Term → Form Term → Term → Form Term
-quotient whole f (Num top bottom real) = cond (is_zero (ratio top bottom)) (single whole) (scale (inverse_ℚ (ratio top bottom)) f)
-quotient whole f _ = single whole
+abbrev pub over : Term → Linear → Term → Linear
+over whole f (Num a b real) = cond (is_zero (ratio a b)) (single whole) (scale (inverse_ℚ (ratio a b)) f)
+over whole f _ = single whole
 
-abbrev pub applied : Term → Head → List (Term × Form Term) → Form Term
+-- an application to arguments, each with its form
+abbrev pub applied : Term → Head → List (Term × Linear) → Linear
 applied whole (head.Int op.Add) (a ∷ b ∷ []) = plus a.1 b.1
 applied whole (head.Int op.Sub) (a ∷ b ∷ []) = minus a.1 b.1
 applied whole (head.Int op.Neg) (a ∷ []) = scale (neg_ℚ one_ℚ) a.1
-applied whole (head.Int op.Mul) (a ∷ b ∷ []) = product whole a.1 b.1
+applied whole (head.Int op.Mul) (a ∷ b ∷ []) = times whole a.1 b.1
 applied whole (head.Real op.Add) (a ∷ b ∷ []) = plus a.1 b.1
 applied whole (head.Real op.Sub) (a ∷ b ∷ []) = minus a.1 b.1
 applied whole (head.Real op.Neg) (a ∷ []) = scale (neg_ℚ one_ℚ) a.1
-applied whole (head.Real op.Mul) (a ∷ b ∷ []) = product whole a.1 b.1
-applied whole (head.Real op.Div) (a ∷ b ∷ []) = quotient whole a.1 b.0
+applied whole (head.Real op.Mul) (a ∷ b ∷ []) = times whole a.1 b.1
+applied whole (head.Real op.Div) (a ∷ b ∷ []) = over whole a.1 b.0
 applied whole _ _ = single whole
 
-abbrev pub form_step : Term-F (Term × Form Term) → Form Term
+abbrev pub form_step : Term-F (Term × Linear) → Linear
 form_step (layer.Bound n) = single (Bound n)
-form_step (layer.Num top bottom real) = number (ratio top bottom)
+form_step (layer.Num a b real) = number (ratio a b)
 form_step (layer.Fresh n s) = single (Fresh n s)
 form_step (layer.Apply h ss args) = applied (Apply h ss (map (λ a. a.0) args)) h args
 
-unfoldable pub linear_form : Term → Form Term
-linear_form = para-Term (Form Term) form_step
+-- the linear form of a term
+unfoldable pub form : Term → Linear
+form = para-Term Linear form_step
 
--- ---- combinations of facts
-abbrev pub whole : ℤ → ℚ
-whole z = ratio z (pos 1)
+-- ---- plain terms: each product has a constant factor, and each divisor on `real` is a numeral
+abbrev pub is_numeral : Term → Bool
+is_numeral (Num a b real) = true
+is_numeral _ = false
 
--- the right side minus the left side
-abbrev pub gap : Fact → Form Term
-gap f = minus (linear_form f.right) (linear_form f.left)
+abbrev pub plain_here : Head → List Term → Bool
+plain_here (head.Int op.Mul) (a ∷ b ∷ []) = is_number (form a) || is_number (form b)
+plain_here (head.Real op.Mul) (a ∷ b ∷ []) = is_number (form a) || is_number (form b)
+plain_here (head.Real op.Div) (a ∷ b ∷ []) = is_numeral b
+plain_here _ _ = true
 
--- the sum of numbers times gaps
-abbrev pub total : List (ℤ × Fact) → Form Term
-total [] = number zero_ℚ
-total (f ∷ fs) = plus (scale (whole f.0) (gap f.1)) (total fs)
+abbrev pub plain_step : Term-F (Term × Bool) → Bool
+plain_step (layer.Apply h ss us) = plain_here h (map (λ u. u.0) us) && list_all (λ u. u.1) us
+plain_step _ = true
 
--- the values of terms are those of their linear forms
-abbrev pub IsLinear : (Term → ℚ) → ℚ → Type 0
-IsLinear L u = (t : Term) → L t ≡ value L u (linear_form t)
-
--- each fact's sides have equal values
-abbrev pub AllHold : (Term → ℚ) → List (ℤ × Fact) → Type 0
-AllHold L fs = AllByRecursion (λ f. L (f.1).left ≡ L (f.1).right) fs
-
--- a number times the difference of two terms is a combination of facts
-abbrev pub Combines : ℤ → Term → Term → List (ℤ × Fact) → Type 0
-Combines d s t fs = SameForm Term_discrete (scale (whole d) (gap (equal s t))) (total fs)
+unfoldable pub is_plain : Term → Bool
+is_plain = para-Term Bool plain_step

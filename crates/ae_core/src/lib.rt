@@ -4,10 +4,12 @@
 pub mod copies;
 pub mod formulas;
 pub mod laws;
+pub mod linear_laws;
 pub mod lists;
 pub mod orders;
 pub mod problems;
 pub mod proofs;
+pub mod putting;
 pub mod sorts;
 pub mod terms;
 #[cfg(test)]

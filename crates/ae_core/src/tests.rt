@@ -1,8 +1,10 @@
-//! The orders and the copies on a few values. What is expected is read off the ranks of the definition.
-use crate::copies::{copy_formula, copy_term};
-use crate::formulas::{Formula, same_formula};
+//! The orders, the copies and what puts sorts and terms on a few values. What is expected is read off the ranks of the
+//! definition, or written by hand.
+use crate::copies::{copy_formula, copy_sort, copy_term};
+use crate::formulas::{Formula, Quant, same_formula};
 use crate::lists::{Boxed, List};
 use crate::orders::{compare_formulas, compare_terms};
+use crate::putting::{instance, substitute};
 use crate::terms::{Head, Op, Sort, Term, same_term};
 use std::alloc::{AllocError, Global};
 use std::test::Fail;
@@ -121,5 +123,94 @@ fn orders_formulas(rt: HostRuntime) -> Result<(), Fail> {
             );
         }
     }
+    Ok(())
+}
+
+fn one_sort(alloc: Global, sort: &Sort) -> Result<List<Sort>, AllocError> {
+    let mut sorts = List::new(alloc);
+    sorts.push(copy_sort(alloc, sort)?)?;
+    Ok(sorts)
+}
+
+fn one_term(alloc: Global, term: Term) -> Result<List<Term>, AllocError> {
+    let mut terms = List::new(alloc);
+    terms.push(term)?;
+    Ok(terms)
+}
+
+/// `forall x : s [f [s] x]. p [s] x`, where f is symbol 1 and p is symbol 2.
+fn for_all(alloc: Global, sort: &Sort) -> Result<Formula, AllocError> {
+    let pattern = applied(
+        Head::Symbol(1),
+        one_sort(alloc, sort)?,
+        one_term(alloc, Term::Bound(0))?,
+    );
+    let mut triggers = List::new(alloc);
+    triggers.push(one_term(alloc, pattern)?)?;
+    let body = Formula::Pred {
+        symbol: 2,
+        sorts: one_sort(alloc, sort)?,
+        args: one_term(alloc, Term::Bound(0))?,
+    };
+    Ok(Formula::All(Quant {
+        sorts: one_sort(alloc, sort)?,
+        triggers,
+        body: Boxed::new(alloc, body)?,
+    }))
+}
+
+/// `exists z : int. z = left - right`.
+fn some_difference(alloc: Global, left: Term, right: Term) -> Result<Formula, AllocError> {
+    let mut args = List::new(alloc);
+    args.push(left)?;
+    args.push(right)?;
+    let body = Formula::Eq {
+        left: Term::Bound(0),
+        right: applied(Head::Int(Op::Sub), List::new(alloc), args),
+    };
+    Ok(Formula::Ex(Quant {
+        sorts: one_sort(alloc, &Sort::Int)?,
+        triggers: List::new(alloc),
+        body: Boxed::new(alloc, body)?,
+    }))
+}
+
+#[test]
+fn puts_sorts(rt: HostRuntime) -> Result<(), Fail> {
+    let sorts = one_sort(rt.alloc(), &Sort::Int)?;
+    let general = for_all(rt.alloc(), &Sort::Var(0))?;
+    let found = instance(rt.alloc(), &general, sorts.as_slice())?;
+    assert!(rt;
+        same_formula(&found, &for_all(rt.alloc(), &Sort::Int)?),
+        "instance at int"
+    );
+    let kept = instance(
+        rt.alloc(),
+        &for_all(rt.alloc(), &Sort::Rigid(0))?,
+        sorts.as_slice(),
+    )?;
+    assert!(rt;
+        same_formula(&kept, &for_all(rt.alloc(), &Sort::Rigid(0))?),
+        "a goal's variable"
+    );
+    Ok(())
+}
+
+/// In `forall x y : int. exists z : int. z = x - y` the variable x has the distance 2 in the body, and y 1.
+#[test]
+fn puts_terms_under_inner_blocks(rt: HostRuntime) -> Result<(), Fail> {
+    let mut sorts = one_sort(rt.alloc(), &Sort::Int)?;
+    sorts.push(Sort::Int)?;
+    let body = some_difference(rt.alloc(), Term::Bound(2), Term::Bound(1))?;
+    let quant = Quant {
+        sorts,
+        triggers: List::new(rt.alloc()),
+        body: Boxed::new(rt.alloc(), body)?,
+    };
+    let mut terms = one_term(rt.alloc(), numeral(3, 1, false))?;
+    terms.push(numeral(5, 1, false))?;
+    let found = substitute(rt.alloc(), &quant, terms.as_slice())?;
+    let wanted = some_difference(rt.alloc(), numeral(3, 1, false), numeral(5, 1, false))?;
+    assert!(rt; same_formula(&found, &wanted), "3 for x and 5 for y");
     Ok(())
 }

@@ -1,10 +1,10 @@
 use Rattle.ae_math.proofs.FormLaws.{value-same}
 use Rattle.ae_core.specs.Decided.{Term_discrete}
-use Rattle.ae_core.proofs.LinearLaws.{linear_form-Num, linear_form-Fresh, opaque_symbol, int_sum, real_sum, int_difference, real_difference, int_negation, real_negation, int_product, real_product, real_quotient, lin_respects}
-use Rattle.ae_core.proofs.laws.linear_forms_are_computed.Goals as goal
+use Rattle.ae_core.proofs.LinearLaws.{form-Num, form-Fresh, opaque_symbol, int_sum, real_sum, int_difference, real_difference, int_negation, real_negation, int_product, real_product, real_quotient, lin_respects}
+use Rattle.ae_core.proofs.linear_laws.linear_forms_are_computed.Goals as goal
 
 pub returns-clause-numerals : goal.returns-clause-numerals
-returns-clause-numerals c = linear_form-Num
+returns-clause-numerals c = form-Num
 
 pub returns-clause-int_sums : goal.returns-clause-int_sums
 returns-clause-int_sums c = int_sum
@@ -40,7 +40,7 @@ pub returns-clause-combinations : goal.returns-clause-combinations
 returns-clause-combinations c = lin_respects
 
 pub returns-clause-fresh_constants : goal.returns-clause-fresh_constants
-returns-clause-fresh_constants c = linear_form-Fresh
+returns-clause-fresh_constants c = form-Fresh
 
 pub returns-clause-symbols : goal.returns-clause-symbols
 returns-clause-symbols c = opaque_symbol
