@@ -7,3 +7,4 @@ pub mod WholeLaws
 pub mod KeyLaws
 pub mod MeaningLaws
 pub mod UniqueLaws
+pub mod LowestLaws

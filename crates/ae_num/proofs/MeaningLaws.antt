@@ -22,7 +22,7 @@ use Rattle.ae_num.proofs.SumLaws.{combined_factor, no_key}
 use Rattle.ae_num.proofs.KeyLaws.{eq_yes, eq_no, factor_others, factor_others_there}
 
 -- ---- ratios
-ratio_zero : (d : ℤ) → ratio (pos 0) d ≡ zero_ℚ
+pub ratio_zero : (d : ℤ) → ratio (pos 0) d ≡ zero_ℚ
 unfolding zero_ℚ
 ratio_zero (pos zero) = refl
 ratio_zero (pos (suc n)) = frac_same (pos 0) (pos 0) n 0 (omega (arith, ints))

@@ -11,7 +11,8 @@ use Rattle.ae_math.proofs.Divisors.{divided as times_back, abs_times, divisor_po
 use Rattle.ae_num.specs.declared.forms.Part.{Part}
 use Rattle.ae_num.specs.declared.forms.Lin.{Lin}
 use Rattle.ae_num.specs.Forms.{factor_of, AllAbove, IsRising, IsNormal, DividesAll, IsCommonDivisor, sizes}
-use Rattle.ae_num.specs.Reduction.{divided_part, divided, Reduced}
+use Rattle.ae_num.specs.Forms.{divided_part, divided}
+use Rattle.ae_num.specs.Reduction.{Reduced}
 
 abbrev Factors : List Part → List ℕ
 Factors ps = map (λ p. unsigned_abs p.factor) ps
@@ -132,6 +133,15 @@ one_normal l e = subst IsNormal (sym e) (record {
   rising = tt;
   nonzero = tt;
   lowest = ((dvd_refl 1, (dvd_refl 1, tt)), λ d h. h.0);
+  within = (omega arith, (omega arith, tt));
+})
+
+pub zero_normal : (l : Lin) → l ≡ record { den = pos 1; parts = []; constant = pos 0 } → IsNormal l
+zero_normal l e = subst IsNormal (sym e) (record {
+  positive = omega (arith, ints);
+  rising = tt;
+  nonzero = tt;
+  lowest = ((dvd_refl 1, (dvd-zero 1, tt)), λ d h. h.0);
   within = (omega arith, (omega arith, tt));
 })
 

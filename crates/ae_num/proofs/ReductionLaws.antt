@@ -14,7 +14,7 @@ use mir.Val.{SFits, of_z, to_z}
 use Rattle.ae_num.specs.declared.forms.Part.{Part}
 use Rattle.ae_num.specs.Forms.{IsCommonDivisor}
 
-fits_in : (z : ℤ) → unsigned_abs z < 2 ^ 127 → SFits w128 z
+pub fits_in : (z : ℤ) → unsigned_abs z < 2 ^ 127 → SFits w128 z
 fits_in (pos n) h = record { sfits = h }
 fits_in (negsuc n) h = record { sfits = omega arith }
 
@@ -98,3 +98,10 @@ take_all [] zero h = refl
 take_all [] (suc i) h = refl
 take_all (p ∷ ps) zero h = absurd (omega arith)
 take_all (p ∷ ps) (suc i) h = ap (λ t. p ∷ t) (take_all ps i (omega arith))
+
+pub division_ok : (x d : ℤ) → unsigned_abs x < 2 ^ 127 → unsigned_abs d < 2 ^ 127 → pos 0 <ℤ d → (0 < of_z w128 d) × SFits w128 (int_div (to_z w128 (of_z w128 x)) (to_z w128 (of_z w128 d)))
+division_ok x d s t p = (some d p, subst (SFits w128) (λ i. int_div (sym (read_back x s) i) (sym (read_back d t) i)) (quotient_fits x d (fits_in x s) p))
+  where
+    some : (d : ℤ) → pos 0 <ℤ d → 0 < of_z w128 d
+    some (pos n) p = omega (arith, ints)
+    some (negsuc n) p = absurd (omega (arith, ints))

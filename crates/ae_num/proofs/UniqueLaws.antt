@@ -48,7 +48,7 @@ tails p q ps qs e a b h k = by_test (nat_eq p.key k) refl
     by_test false s =
         ap (λ t. cond t p.factor (factor_of ps k)) (sym s) ∙ h k ∙ ap (λ t. cond t q.factor (factor_of qs k)) (ap (λ j. nat_eq j k) (sym e) ∙ s)
 
-same_parts : (ps qs : List Part) → IsRising ps → IsRising qs → NonZero ps → NonZero qs → ((k : ℕ) → factor_of ps k ≡ factor_of qs k) → ps ≡ qs
+pub same_parts : (ps qs : List Part) → IsRising ps → IsRising qs → NonZero ps → NonZero qs → ((k : ℕ) → factor_of ps k ≡ factor_of qs k) → ps ≡ qs
 same_parts [] [] r s m n h = refl
 same_parts [] (q ∷ qs) r s m n h = absurd (n.0 (sym (factor_head q qs) ∙ sym (h q.key)))
 same_parts (p ∷ ps) [] r s m n h = absurd (m.0 (sym (factor_head p ps) ∙ h p.key))
@@ -78,7 +78,7 @@ cancel_size a b (negsuc m) p e = absurd (omega (arith, ints))
 cancel_size a b (pos (suc m)) p e = cancel a b m e
 
 -- ---- the denominators
-all_divide : (d : ℕ) (ps : List Part) → IsRising ps → ((k : ℕ) → d ∣ unsigned_abs (factor_of ps k)) → DividesAll d (map (λ p. unsigned_abs p.factor) ps)
+pub all_divide : (d : ℕ) (ps : List Part) → IsRising ps → ((k : ℕ) → d ∣ unsigned_abs (factor_of ps k)) → DividesAll d (map (λ p. unsigned_abs p.factor) ps)
 all_divide d [] r h = tt
 all_divide d (p ∷ ps) r h = (subst (λ z. d ∣ unsigned_abs z) (factor_head p ps) (h p.key), all_divide d ps r.1 (λ k. by_test k (nat_eq p.key k) refl))
   where

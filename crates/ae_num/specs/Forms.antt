@@ -1,6 +1,9 @@
 -- What a linear form over names with one denominator means, its normal form, and the products and sums that a step on such forms states.
-use Rattle.std.specs.Prelude.{ℕ, ℤ, pos, ◌*ℤ◌, ◌+ℤ◌, ◌<ℤ◌, ◌≢◌, ◌<◌, ◌^◌, Bool, false, ◌||◌, nat_eq, nat_lt, nat_le, cond, List, [], ◌∷◌, ◌++◌, map, Option, Some, None, unsigned_abs}
-use Rattle.std.specs.List.{flat_map, AllByRecursion}
+use Rattle.std.specs.Prelude.{ℕ, zero, suc, ℤ, pos, ◌*ℤ◌, ◌+ℤ◌, ◌<ℤ◌, ◌≢◌, ◌<◌, ◌^◌, ◌%◌, Bool, false, ◌||◌, nat_eq, nat_lt, nat_le, cond, List, [], ◌∷◌, ◌++◌, map, Option, Some, None, unsigned_abs}
+use Rattle.std.specs.List.{flat_map, list_all, AllByRecursion}
+use Rattle.std.specs.Int.RustNames.{int_div}
+use lib.IntN.{ℤ_discrete}
+use Rattle.ae_math.specs.Choices.{pick}
 use Rattle.std.specs.Int.{◌∣◌}
 use native.Mathlib.Decide.{ℕ_discrete}
 use Rattle.ae_math.specs.Fractions.{ratio}
@@ -54,6 +57,32 @@ pub record IsNormal (l : Lin) : Type 0 where
   pub lowest : IsCommonDivisor (sizes l.den l.parts l.constant) 1
   pub within : AllByRecursion (λ n. n < 2 ^ 127) (sizes l.den l.parts l.constant)
 
+-- ---- normal forms of sums and multiples, of whole numbers of any size
+-- it divides each of the numbers
+abbrev pub divides_each : ℕ → List ℕ → Bool
+divides_each d ns = list_all (λ n. nat_eq (n % d) 0) ns
+
+-- the greatest number up to n that divides each of the numbers
+unfoldable pub greatest_divisor : ℕ → List ℕ → ℕ
+greatest_divisor zero ns = 0
+greatest_divisor (suc n) ns = cond (divides_each (suc n) ns) (suc n) (greatest_divisor n ns)
+
+abbrev pub divided_part : ℤ → Part → Part
+divided_part g p = record { key = p.key; factor = int_div p.factor g }
+
+-- all numbers divided by one
+abbrev pub divided : ℤ → Lin → Lin
+divided g l = record { den = int_div l.den g; parts = map (divided_part g) l.parts; constant = int_div l.constant g }
+
+-- all numbers divided by their greatest common divisor
+abbrev pub lowest : Lin → Lin
+lowest l = divided (pos (greatest_divisor (unsigned_abs l.den) (sizes l.den l.parts l.constant))) l
+
+-- the keys with their factors, without those whose factor is 0
+abbrev pub parts_of : (ℕ → ℤ) → List ℕ → List Part
+parts_of f [] = []
+parts_of f (y ∷ ys) = pick (ℤ_discrete (f y) (pos 0)) (parts_of f ys) (record { key = y; factor = f y } ∷ parts_of f ys)
+
 -- ---- stated products and sums
 -- a product or a sum of two whole numbers of any size
 pub data Step : Type 0 where
@@ -91,6 +120,20 @@ with_keys (p ∷ ps) ys = with_key p.key (with_keys ps ys)
 -- the keys of two lists of parts, rising
 abbrev pub keys_of : List Part → List Part → List ℕ
 keys_of ps qs = with_keys ps (map (λ q. q.key) qs)
+
+-- the sum of two forms
+abbrev pub sum_of : Lin → Lin → Lin
+sum_of p q =
+    lowest (record {
+      den = p.den *ℤ q.den;
+      parts = parts_of (λ y. factor_of p.parts y *ℤ q.den +ℤ factor_of q.parts y *ℤ p.den) (keys_of p.parts q.parts);
+      constant = p.constant *ℤ q.den +ℤ q.constant *ℤ p.den;
+    })
+
+-- a form times top / bottom
+abbrev pub multiple_of : ℤ → ℤ → Lin → Lin
+multiple_of top bottom p =
+    lowest (record { den = p.den *ℤ bottom; parts = parts_of (λ y. factor_of p.parts y *ℤ top) (keys_of p.parts []); constant = p.constant *ℤ top })
 
 abbrev pub plus_steps : Lin → Lin → List Step
 plus_steps p q =

@@ -1,17 +1,9 @@
 -- A form with all its numbers divided by one.
 use Rattle.std.specs.Prelude.{ℕ, ℤ, pos, ◌<◌, ◌*ℤ◌, ◌≡◌, List, ◌∷◌, ◌++◌, map}
-use Rattle.std.specs.Int.RustNames.{int_div}
-use Rattle.ae_num.specs.declared.forms.Part.{Part}
 use Rattle.ae_num.specs.declared.forms.Lin.{Lin}
 use Rattle.ae_num.specs.declared.sums.Combination.{Combination}
 use Rattle.ae_num.specs.Forms.{Step, Product, factor_of}
 use Rattle.ae_num.specs.Pairs.{pairs_of, combined, outcome_of, steps_of, all_steps}
-
-abbrev pub divided_part : ℤ → Part → Part
-divided_part g p = record { key = p.key; factor = int_div p.factor g }
-
-abbrev pub divided : ℤ → Lin → Lin
-divided g l = record { den = int_div l.den g; parts = map (divided_part g) l.parts; constant = int_div l.constant g }
 
 -- the second form is the first with all numbers divided by one
 pub record Reduced (w f : Lin) : Type 0 where

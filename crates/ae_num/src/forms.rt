@@ -2,13 +2,14 @@
 
 ghost use Rattle.std.specs.Prelude.{◌≡◌, None, Some, pos, true, false, [], ◌∷◌, ◌++◌, ◌<ℤ◌, ◌*ℤ◌, IfOk, OnOk, IfErr, IfSome, IfNone};
 ghost use Rattle.ae_math.specs.Fractions.{ratio};
-ghost use Rattle.ae_math.specs.Forms.{plus as sum_of_forms, scale as multiple, substitute};
-ghost use Rattle.ae_num.specs.Forms.{meaning, SameMeaning, IsNormal, IsRising, Product, first_wide, IfWide, plus_steps, scale_steps, subst_steps, has_key, factor_of, others};
+ghost use Rattle.ae_math.specs.Forms.{plus as sum_of_forms, scale as multiple, number, substitute};
+ghost use Rattle.ae_num.specs.Forms.{meaning, SameMeaning, IsNormal, IsRising, Product, first_wide, IfWide, plus_steps, scale_steps, subst_steps, has_key, factor_of, others, lowest, sum_of, multiple_of};
 ghost use Rattle.ae_num.specs.Reduction.{whole_of, whole_steps, Reduced};
 ghost use Rattle.ae_num.specs.declared.sums.Combination.TheVariants.{Sum, Substitution, Multiple};
+ghost use Rattle.ae_num.specs.Limits.{IsWithin};
 ghost use native.Mathlib.Decide.{ℕ_discrete};
 
-use crate::numbers::{NumFail, Wide, mul};
+use crate::numbers::{NumFail, Wide, gcd, mul};
 use crate::pairs::{Pair, paired};
 use crate::reduction::reduced;
 use crate::sums::{Combination, combine, combine_all};
@@ -93,6 +94,36 @@ fn whole(alloc: Global, left: &Lin, right: &Lin, rule: Combination) -> Result<Li
     })
 }
 
+/// The form 0.
+#[tactic(auto, using(crate::proofs::NormalLaws::zero_normal))]
+pub fn zero(alloc: Global) -> Lin
+    ensures form { result ≡ record { den = pos 1; parts = []; constant = pos 0 } }
+    ensures normal { IsNormal result }
+{
+    Lin {
+        den: 1,
+        parts: Items::new(alloc),
+        constant: 0,
+    }
+}
+
+/// The number `top / bottom`, in the normal form.
+pub fn fraction(alloc: Global, top: i128, bottom: i128) -> Lin
+    requires bottom { pos 0 <ℤ bottom }
+    requires top_within { IsWithin top }
+    requires bottom_within { IsWithin bottom }
+    ensures form { result ≡ lowest (record { den = bottom; parts = []; constant = top }) }
+    ensures normal { IsNormal result }
+    ensures meaning { SameMeaning (meaning result) (number (ratio top bottom)) }
+{
+    let divisor = gcd(bottom, top);
+    Lin {
+        den: bottom / divisor,
+        parts: Items::new(alloc),
+        constant: top / divisor,
+    }
+}
+
 /// The form 1.
 #[tactic(auto, using(crate::proofs::NormalLaws::one_normal))]
 pub fn one(alloc: Global) -> Lin
@@ -128,6 +159,7 @@ fn made(alloc: Global, left: &Lin, right: &Lin, rule: Combination) -> Result<Lin
     requires left_den { pos 0 <ℤ left.now.den }
     requires right_den { pos 0 <ℤ right.now.den }
     ensures exact { IfOk result (λ form. Reduced (whole_of rule left.now right.now) form) }
+    ensures form { IfOk result (λ form. form ≡ lowest (whole_of rule left.now right.now)) }
     ensures normal { IfOk result (λ form. IsNormal form) }
     ensures fits { OnOk result (first_wide (whole_steps rule left.now right.now) ≡ None) }
     ensures wide { IfErr result (λ fail. IfWide fail (λ wide. first_wide (whole_steps rule left.now right.now) ≡ Some wide)) }
@@ -145,6 +177,7 @@ pub fn plus(alloc: Global, left: &Lin, right: &Lin) -> Result<Lin, NumFail>
     requires left { IsNormal left.now }
     requires right { IsNormal right.now }
     ensures exact { IfOk result (λ sum. SameMeaning (meaning sum) (sum_of_forms (meaning left.now) (meaning right.now))) }
+    ensures form { IfOk result (λ sum. sum ≡ sum_of left.now right.now) }
     ensures normal { IfOk result (λ sum. IsNormal sum) }
     ensures fits { OnOk result (first_wide (plus_steps left.now right.now) ≡ None) }
     ensures wide { IfErr result (λ fail. IfWide fail (λ wide. first_wide (plus_steps left.now right.now) ≡ Some wide)) }
@@ -170,6 +203,7 @@ pub fn scale(alloc: Global, top: i128, bottom: i128, of: &Lin) -> Result<Lin, Nu
     requires bottom { pos 0 <ℤ bottom }
     requires of { IsNormal of.now }
     ensures exact { IfOk result (λ product. SameMeaning (meaning product) (multiple (ratio top bottom) (meaning of.now))) }
+    ensures form { IfOk result (λ product. product ≡ multiple_of top bottom of.now) }
     ensures normal { IfOk result (λ product. IsNormal product) }
     ensures fits { OnOk result (first_wide (scale_steps top bottom of.now) ≡ None) }
     ensures wide { IfErr result (λ fail. IfWide fail (λ wide. first_wide (scale_steps top bottom of.now) ≡ Some wide)) }

@@ -2,8 +2,8 @@
 
 ghost use Rattle.std.specs.Prelude.{◌≡◌, ◌≢◌, pos, ◌<◌, ◌^◌, ◌<ℤ◌, ◌≤ℤ◌, unsigned_abs, IfOk};
 ghost use Rattle.std.specs.List.{AllByRecursion};
-ghost use Rattle.ae_num.specs.Forms.{sizes, IsCommonDivisor, IsRising, IsNormal};
-ghost use Rattle.ae_num.specs.Reduction.{divided, Reduced};
+ghost use Rattle.ae_num.specs.Forms.{sizes, IsCommonDivisor, IsRising, IsNormal, divided, lowest};
+ghost use Rattle.ae_num.specs.Reduction.{Reduced};
 
 use crate::forms::{Lin, Part};
 use crate::numbers::gcd;
@@ -49,6 +49,7 @@ pub fn reduced(alloc: Global, whole: &Lin) -> Result<Lin, AllocError>
     requires nonzero { AllByRecursion (λ p. p.factor ≢ pos 0) whole.now.parts }
     requires within { AllByRecursion (λ n. n < 2 ^ 127) (sizes whole.now.den whole.now.parts whole.now.constant) }
     ensures exact { IfOk result (λ form. Reduced whole.now form) }
+    ensures form { IfOk result (λ form. form ≡ lowest whole.now) }
     ensures normal { IfOk result (λ form. IsNormal form) }
 {
     divide(alloc, whole, common_divisor(whole))

@@ -1,8 +1,8 @@
 use Rattle.std.specs.Prelude.{◌≡◌, Some}
-use Rattle.std.proofs.Common.{subst}
+use Rattle.std.proofs.Common.{subst, ap, ◌∙◌}
 use Rattle.ae_num.specs.declared.numbers.Wide.{Wide}
 use Rattle.ae_num.specs.declared.forms.Lin.{Lin}
-use Rattle.ae_num.specs.Forms.{first_wide}
+use Rattle.ae_num.specs.Forms.{first_wide, lowest}
 use Rattle.ae_num.specs.Reduction.{Reduced, whole_steps}
 use Rattle.ae_num.proofs.StepLaws.{same_err}
 use Rattle.ae_num.proofs.WholeLaws.{whole_rising, whole_nonzero, whole_small, whole_positive}
@@ -26,3 +26,6 @@ reduced-requires-clause-within c = whole_small c.args.rule c.args.left.now c.arg
 
 pub returns-clause-exact : goal.returns-clause-exact
 returns-clause-exact c = subst (λ (w : Lin). Reduced w c.in_ok-reduced.field-0) c.in_ok-form.ensures.exact c.in_ok-reduced.ensures.exact
+
+pub returns-clause-form : goal.returns-clause-form
+returns-clause-form c = c.in_ok-reduced.ensures.form ∙ ap lowest c.in_ok-form.ensures.exact

@@ -2,7 +2,7 @@ use Rattle.std.proofs.Common.{◌≤◌, ◌∙◌, ap, subst, length, map, rule
 use Rattle.std.proofs.lemmas.Int.{to_z-of_z}
 use mir.Syntax.{w128}
 use mir.Val.{SFits}
-use Rattle.ae_num.specs.Reduction.{divided_part}
+use Rattle.ae_num.specs.Forms.{divided_part}
 use Rattle.ae_num.proofs.ReductionLaws.{quotient_read, take_all}
 use Rattle.ae_num.proofs.reduction.divide.Goals as goal
 

@@ -1,5 +1,5 @@
 use Rattle.std.proofs.Common.{◌≡◌, take, map}
-use Rattle.ae_num.specs.Reduction.{divided_part}
+use Rattle.ae_num.specs.Forms.{divided_part}
 use Rattle.ae_num.proofs.reduction.divide.Given as goal
 
 abbrev pub invariant-loop-part : goal.invariant-loop-part
