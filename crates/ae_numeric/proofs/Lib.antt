@@ -1,0 +1,16 @@
+pub mod AllowedLaws
+pub mod Computations
+pub mod ComputedLaws
+pub mod DenialLaws
+pub mod EndingLaws
+pub mod FitLaws
+pub mod FloorLaws
+pub mod KeyedLaws
+pub mod Meanings
+pub mod NamedLaws
+pub mod RoundingLaws
+pub mod RoundingLines
+pub mod RoundingSteps
+pub mod RuleLaws
+pub mod SizeLaws
+pub mod SumLaws

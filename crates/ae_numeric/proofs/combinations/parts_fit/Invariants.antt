@@ -1,0 +1,7 @@
+use Rattle.std.proofs.Common.{◌≡◌, true, take}
+use Rattle.std.specs.List.{list_all}
+use Rattle.ae_numeric.specs.Sums as spec
+use Rattle.ae_numeric.proofs.combinations.parts_fit.Given as goal
+
+abbrev pub invariant-loop-part : goal.invariant-loop-part
+invariant-loop-part l = list_all (spec.part_fits l.signature l.sort l.relation l.earlier) (take l.part-index l.parts) ≡ true
