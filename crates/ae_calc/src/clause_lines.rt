@@ -1,9 +1,17 @@
 //! Clause lines: what each states, and whether it is allowed after earlier ones.
-ghost use Rattle.std.specs.Prelude.{◌≡◌, ◌↔◌, IfOk, IsTrue, map};
-ghost use Rattle.ae_core.specs.Sorts.{all_known};
+ghost use Rattle.std.specs.Prelude.{◌≡◌, ◌↔◌, ◌&&◌, IfOk, IfErr, OnOk, IsTrue};
+ghost use Rattle.std.specs.List.{list_all};
 ghost use Rattle.ae_core.specs.Derivations as spec;
-ghost use Rattle.ae_core.specs.declared.proofs.ClauseLine.TheVariants.{Goal};
+ghost use Rattle.ae_core.specs.Instances as stated;
+ghost use Rattle.ae_core.specs.Sorts as sorted;
+ghost use Rattle.ae_core.specs.declared.proofs.ClauseLine.TheVariants.{Hyp, Goal};
+ghost use Rattle.ae_num.specs.Forms.{IfWide};
+ghost use Rattle.ae_calc.specs.Widths.{IsWithin, IsFirstWide};
+ghost use Rattle.ae_calc.specs.Beside.{AreStepsWithin, AreStepsFirstWide};
 
+use crate::enumerations::{exhaustion, trichotomy};
+use crate::fresh::are_new;
+use crate::instances::{fresh_clause, hypothesis, hypothesis_clause, instance_clause};
 use crate::lines::block_allowed;
 use crate::literals::{literal, opposites};
 use crate::propagation::refutes;
@@ -13,7 +21,9 @@ use ae_core::formulas::{Clause, Formula, Lit};
 use ae_core::lists::{List, at};
 use ae_core::problems::{Item, Problem, Signature};
 use ae_core::proofs::ClauseLine;
-use ae_core::sorts::formula_ok;
+use ae_core::sorts::{are_closed_sorts, formula_ok, sort_of};
+use ae_core::terms::{Sort, Term};
+use ae_num::numbers::NumFail;
 use std::alloc::{AllocError, Global};
 
 /// Whether each formula of a clause is closed and well sorted.
@@ -49,7 +59,7 @@ pub fn goal_clause(
     }
 }
 
-/// The clause that a line states, for the goal at place `goal` among the items. There is none where a number or a form in it doesn't fit, and for each kind of line that is never allowed.
+/// The clause that a line states, for the goal at place `goal` among the items. There is none where a number, a sort or an arity in it doesn't fit the problem.
 pub fn conclusion(
     alloc: Global,
     problem: &Problem,
@@ -58,15 +68,24 @@ pub fn conclusion(
 ) -> Result<Option<Clause>, AllocError>
     ensures { IfOk result (λ c. c ≡ spec.conclusion problem.now goal line.now) }
 {
+    let signature = &problem.signature;
     match line {
+        ClauseLine::Hyp { axiom, sorts } => {
+            hypothesis_clause(alloc, problem, goal, *axiom, sorts.as_slice())
+        }
         ClauseLine::Goal => goal_clause(alloc, problem, goal),
         ClauseLine::Def {
             row: number,
             formula,
         } => row(alloc, *number, formula),
+        ClauseLine::Inst { formula, terms } => {
+            instance_clause(alloc, signature, formula, terms.as_slice())
+        }
+        ClauseLine::Fresh { formula, first } => fresh_clause(alloc, formula, *first),
+        ClauseLine::Exh { term } => exhaustion(alloc, signature, term),
+        ClauseLine::Tri { left, right } => trichotomy(alloc, signature, left, right),
         ClauseLine::Block(block) => Ok(Some(opposites(alloc, block.deriv.hyps.as_slice())?)),
         ClauseLine::Rup { clause, .. } => Ok(Some(copy_clause(alloc, clause.as_slice())?)),
-        _ => Ok(None),
     }
 }
 
@@ -83,7 +102,58 @@ pub fn goal_ok(alloc: Global, problem: &Problem, goal: usize) -> Result<bool, Al
     }
 }
 
-/// Whether each formula that a line states is closed and well sorted.
+/// Whether the sorts put are closed, and the axiom with them is there, closed and well sorted.
+fn hypothesis_ok(
+    alloc: Global,
+    problem: &Problem,
+    goal: usize,
+    place: usize,
+    sorts: &[Sort],
+) -> Result<bool, AllocError>
+    ensures { IfOk result (λ b. b ≡ spec.line_ok problem.now goal (Hyp place sorts.now)) }
+{
+    if !are_closed_sorts(&problem.signature, sorts) {
+        return Ok(false);
+    }
+    match hypothesis(alloc, problem, goal, place, sorts)? {
+        None => Ok(false),
+        Some(formula) => formula_ok(alloc, &problem.signature, &formula),
+    }
+}
+
+/// Whether a term is closed and well sorted.
+fn term_ok(alloc: Global, signature: &Signature, term: &Term) -> Result<bool, AllocError>
+    ensures { IfOk result (λ b. b ≡ sorted.term_ok signature.now term.now) }
+{
+    Ok(sort_of(alloc, signature, term)?.is_some())
+}
+
+/// Whether each of the terms is closed and well sorted.
+fn terms_ok(alloc: Global, signature: &Signature, terms: &[Term]) -> Result<bool, AllocError>
+    ensures { IfOk result (λ b. b ≡ list_all (sorted.term_ok signature.now) terms.now) }
+{
+    for term in terms {
+        if !term_ok(alloc, signature, term)? {
+            return Ok(false);
+        }
+    }
+    Ok(true)
+}
+
+/// Whether a term is closed and well sorted, and so is what an enumeration's line states of it.
+fn exhaustion_ok(alloc: Global, signature: &Signature, term: &Term) -> Result<bool, AllocError>
+    ensures { IfOk result (λ b. b ≡ (sorted.term_ok signature.now term.now && spec.clause_stands signature.now (stated.exhaustion signature.now term.now))) }
+{
+    if !term_ok(alloc, signature, term)? {
+        return Ok(false);
+    }
+    match exhaustion(alloc, signature, term)? {
+        None => Ok(false),
+        Some(clause) => clause_ok(alloc, signature, clause.as_slice()),
+    }
+}
+
+/// Whether each formula, term and sort that a line states is closed and well sorted.
 pub fn line_ok(
     alloc: Global,
     problem: &Problem,
@@ -94,11 +164,21 @@ pub fn line_ok(
 {
     let signature = &problem.signature;
     match line {
+        ClauseLine::Hyp { axiom, sorts } => {
+            hypothesis_ok(alloc, problem, goal, *axiom, sorts.as_slice())
+        }
         ClauseLine::Goal => goal_ok(alloc, problem, goal),
         ClauseLine::Def { formula, .. } => formula_ok(alloc, signature, formula),
+        ClauseLine::Inst { formula, terms } => Ok(
+            formula_ok(alloc, signature, formula)? && terms_ok(alloc, signature, terms.as_slice())?,
+        ),
+        ClauseLine::Fresh { formula, .. } => formula_ok(alloc, signature, formula),
+        ClauseLine::Exh { term } => exhaustion_ok(alloc, signature, term),
+        ClauseLine::Tri { left, right } => {
+            Ok(term_ok(alloc, signature, left)? && term_ok(alloc, signature, right)?)
+        }
         ClauseLine::Block(block) => clause_ok(alloc, signature, block.deriv.hyps.as_slice()),
         ClauseLine::Rup { clause, .. } => clause_ok(alloc, signature, clause.as_slice()),
-        _ => Ok(false),
     }
 }
 
@@ -171,39 +251,48 @@ pub fn is_refuted(
     }
 }
 
-/// What a line asks beside a clause and good sorts: a block that is allowed, or hints that refute.
+/// What a line asks beside a clause and good sorts: new constants, a block that is allowed, or hints that refute.
 pub fn meets(
     alloc: Global,
     problem: &Problem,
     goal: usize,
     earlier: &[ClauseLine],
     line: &ClauseLine,
-) -> Result<bool, AllocError>
-    ensures { IfOk result (λ b. IsTrue b ↔ spec.Meets problem.now goal earlier.now line.now) }
+) -> Result<bool, NumFail>
+    ensures exact { IfOk result (λ b. IsTrue b ↔ spec.Meets problem.now goal earlier.now line.now) }
+    ensures fits { OnOk result (AreStepsWithin problem.now line.now) }
+    ensures wide { IfErr result (λ fail. IfWide fail (λ w. AreStepsFirstWide problem.now line.now w)) }
 {
     match line {
         ClauseLine::Block(block) => block_allowed(alloc, &problem.signature, block),
-        ClauseLine::Rup { clause, hints } => is_refuted(
+        ClauseLine::Fresh { formula, first } => {
+            Ok(are_new(alloc, problem, goal, earlier, *first, formula)?)
+        }
+        ClauseLine::Rup { clause, hints } => Ok(is_refuted(
             alloc,
             problem,
             goal,
             earlier,
             clause.as_slice(),
             hints.as_slice(),
-        ),
+        )?),
         _ => Ok(true),
     }
 }
 
 /// Whether a clause line is allowed after earlier ones, for the goal at place `goal` among the items.
+///
+/// `Wide` comes exactly where a product or sum that the line states leaves the limits, with the first such pair.
 pub fn allowed(
     alloc: Global,
     problem: &Problem,
     goal: usize,
     earlier: &[ClauseLine],
     line: &ClauseLine,
-) -> Result<bool, AllocError>
-    ensures { IfOk result (λ b. IsTrue b ↔ spec.IsAllowed problem.now goal earlier.now line.now) }
+) -> Result<bool, NumFail>
+    ensures exact { IfOk result (λ b. IsTrue b ↔ spec.IsAllowed problem.now goal earlier.now line.now) }
+    ensures fits { OnOk result (IsWithin problem.now line.now) }
+    ensures wide { IfErr result (λ fail. IfWide fail (λ w. IsFirstWide problem.now line.now w)) }
 {
     if !line_ok(alloc, problem, goal, line)? {
         return Ok(false);

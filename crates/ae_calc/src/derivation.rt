@@ -1,22 +1,27 @@
 //! Whether a proof derives its goal.
-ghost use Rattle.std.specs.Prelude.{◌↔◌, [], IfOk, IsTrue};
+ghost use Rattle.std.specs.Prelude.{◌↔◌, [], IfOk, IfErr, OnOk, IsTrue};
 ghost use Rattle.ae_core.specs.Derivations.{AreAllowed, Derives};
+ghost use Rattle.ae_num.specs.Forms.{IfWide};
 ghost use Rattle.ae_calc.specs.Ending.{EndsEmpty};
+ghost use Rattle.ae_calc.specs.Widths.{IsProofWithin, IsProofWide};
 
 use crate::clause_lines::{allowed, conclusion};
 use ae_core::problems::Problem;
 use ae_core::proofs::{ClauseLine, Proof};
+use ae_num::numbers::NumFail;
 use std::alloc::{AllocError, Global};
 
 /// Whether each clause line is allowed after those before it.
-#[tactic(auto, using(crate::proofs::Steps::clause_lines_more, crate::proofs::Steps::clause_lines_stop))]
+#[tactic(auto, using(crate::proofs::Steps::clause_lines_more, crate::proofs::Steps::clause_lines_stop, crate::proofs::Proving::within_more, crate::proofs::Proving::within_stop, crate::proofs::Proving::wide_at))]
 pub fn are_allowed(
     alloc: Global,
     problem: &Problem,
     goal: usize,
     lines: &[ClauseLine],
-) -> Result<bool, AllocError>
-    ensures { IfOk result (λ b. IsTrue b ↔ AreAllowed problem.now goal [] lines.now) }
+) -> Result<bool, NumFail>
+    ensures exact { IfOk result (λ b. IsTrue b ↔ AreAllowed problem.now goal [] lines.now) }
+    ensures fits { OnOk result (IsProofWithin problem.now goal [] lines.now) }
+    ensures wide { IfErr result (λ fail. IfWide fail (λ w. IsProofWide problem.now goal [] lines.now w)) }
 {
     for i in 0..lines.len() {
         if !allowed(alloc, problem, goal, &lines[..i], &lines[i])? {
@@ -46,17 +51,21 @@ pub fn ends_empty(
 }
 
 /// Whether a proof derives the goal at place `goal` among the items of a problem: each line is allowed after those before it, and the last one states the empty clause.
+///
+/// `Wide` comes exactly where a product or sum leaves the limits that a line states before which all are allowed, with the first such pair.
 pub fn derives(
     alloc: Global,
     problem: &Problem,
     goal: usize,
     proof: &Proof,
-) -> Result<bool, AllocError>
-    ensures { IfOk result (λ b. IsTrue b ↔ Derives problem.now goal proof.now) }
+) -> Result<bool, NumFail>
+    ensures exact { IfOk result (λ b. IsTrue b ↔ Derives problem.now goal proof.now) }
+    ensures fits { OnOk result (IsProofWithin problem.now goal [] proof.now.lines) }
+    ensures wide { IfErr result (λ fail. IfWide fail (λ w. IsProofWide problem.now goal [] proof.now.lines w)) }
 {
     let lines = proof.lines.as_slice();
     if !are_allowed(alloc, problem, goal, lines)? {
         return Ok(false);
     }
-    ends_empty(alloc, problem, goal, lines)
+    Ok(ends_empty(alloc, problem, goal, lines)?)
 }

@@ -1,6 +1,10 @@
 use Rattle.std.proofs.Common.{[], take}
 use Rattle.ae_core.specs.Derivations.{AreAllowed}
+use Rattle.ae_calc.specs.Widths.{IsProofWithin}
 use Rattle.ae_calc.proofs.derivation.are_allowed.Given as goal
 
 abbrev pub invariant-loop-i : goal.invariant-loop-i
-invariant-loop-i l = AreAllowed l.problem l.goal [] (take l.i l.lines)
+invariant-loop-i l = record {
+  allowed : AreAllowed l.problem l.goal [] (take l.i l.lines);
+  within : IsProofWithin l.problem l.goal [] (take l.i l.lines);
+}

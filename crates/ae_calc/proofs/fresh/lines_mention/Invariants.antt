@@ -1,0 +1,7 @@
+use Rattle.std.proofs.Common.{◌≡◌, false, take}
+use Rattle.std.specs.List.{list_any}
+use Rattle.ae_calc.specs.Mentions as spec
+use Rattle.ae_calc.proofs.fresh.lines_mention.Given as goal
+
+abbrev pub invariant-loop-line : goal.invariant-loop-line
+invariant-loop-line l = list_any (spec.line_mentions l.problem l.goal l.first l.sorts) (take l.line-index l.lines) ≡ false
