@@ -1,16 +1,17 @@
 -- A refuted chain is a valid goal of its form's problem.
 use Rattle.std.specs.Prelude.{ℕ, zero, suc, ◌+◌, ◌<◌, ◌≤◌, ◌⊎◌, true, List, [], ◌∷◌, ◌++◌, ◌≡◌, map, length, get_or, take, slice_get, ◌≢◌, Option, Some, None, IfSome, Result, Ok, Err, IfOk}
 use Rattle.std.specs.List.{AllByRecursion}
-use Rattle.std.proofs.Common.{refl, sym, ap, ◌∙◌, subst, arith, true≢false, inl, inr, ⊎_elim, append_assoc, append-nil, length-append}
+use Rattle.std.proofs.Common.{refl, sym, ap, ◌∙◌, subst, arith, inl, inr, ⊎_elim, append_assoc, append-nil, length-append}
 use Rattle.ae_core.specs.Decided.{Sorts_discrete}
 use Rattle.ae_core.specs.Sorts.{◌>>=◌, or_else, only, known, sort_of, term_ok, is_closed_sort, put_sort, symbol_sort}
 use Rattle.ae_core.specs.Clauses.{no_of}
-use Rattle.ae_core.specs.Derivations.{goal_body}
+use Rattle.ae_core.specs.Derivations.{Derives, goal_body}
 use Rattle.ae_core.proofs.SortLaws.{sort_in_apply, put_named}
 use Rattle.ae_core.specs.declared.terms.Term.{Term}
 use Rattle.ae_core.specs.declared.terms.Head.TheVariants.{Symbol}
 use Rattle.ae_core.specs.declared.formulas.Formula.{Formula}
 use Rattle.ae_core.specs.declared.problems.Problem.{Problem}
+use Rattle.ae_core.specs.declared.proofs.Proof.{Proof}
 use Rattle.ae_core.specs.declared.problems.Item.TheVariants.{Axiom, Goal}
 use Rattle.ae_driver.specs.declared.form.Chain.{Chain}
 use Rattle.ae_driver.specs.declared.form.Form.{Form}
@@ -45,19 +46,14 @@ use Rattle.ae_io.specs.Moves.{Written, Lost, Untold, Told, Gets, GetsPrefix, Ros
 use Rattle.ae_io.proofs.Moves.{gets_then}
 use Rattle.ae_driver.proofs.Propagates.{decided_true}
 use Rattle.ae_driver.proofs.ChainProof.{derives, no_chain}
-use Rattle.ae_driver.proofs.Soundness.{sound}
+use Rattle.ae_driver.proofs.Soundness.{get_map, body_is, sound}
 use Rattle.ae_driver.proofs.TextProof.{text_proof}
 use Rattle.ae_driver.proofs.StateTextProof.{text_state}
 use Rattle.ae_driver.proofs.ValueFacts.{IsValues, Same, values_are, hypotheses_same}
-use Rattle.ae_driver.proofs.Saturated.{constant_inj, all_among, first_literal, alike_equality, consistent, equal_sides, apart_sides, goal_is_false, all_named, all_apart}
+use Rattle.ae_driver.proofs.Saturated.{constant_inj, all_among, first_literal, consistent, equal_sides, apart_sides, goal_is_false, all_named, all_apart}
 
 none_some : {Y : Type 0} {y : Y} → ◌≡◌ {A = Option Y} None (Some y) → ⊥
 none_some e = cc
-
-get_map : {X Y : Type 0} (f : X → Y) (xs : List X) (k : ℕ) (x : X) → slice_get xs k ≡ Some x → slice_get (map f xs) k ≡ Some (f x)
-get_map f [] k x e = absurd (none_some e)
-get_map f (y ∷ ys) zero x e = ap (λ o. o >>= λ z. Some (f z)) e
-get_map f (y ∷ ys) (suc k) x e = get_map f ys k x e
 
 all_at : {X : Type 0} (P : X → Type 0) (xs : List X) (k : ℕ) (x : X) → AllByRecursion P xs → slice_get xs k ≡ Some x → P x
 all_at P [] k x a e = absurd (none_some e)
@@ -86,14 +82,11 @@ module _ (f : Form) where
       ∙ ap (λ o. o >>= symbol_sort [] []) (get_map symbol_entry f.constants c n.0 n.1)
       ∙ symbol_fits n.0
 
-  body_is : (k : ℕ) (g : Chain) → slice_get f.goals k ≡ Some g → goal_body (problem f) k ≡ Some (chain g.hyps g.last)
-  body_is k g e = ap (λ o. o >>= λ i. elim i [ Axiom n v b ↦ None | Goal n v b ↦ Some b ]) (get_map goal_item f.goals k g e)
-
   name_is : (k : ℕ) (g : Chain) → slice_get f.goals k ≡ Some g → goal_name (problem f) k ≡ Some g.name
   name_is k g e = ap (λ o. o >>= λ i. elim i [ Axiom n v b ↦ None | Goal n v b ↦ Some n ]) (get_map goal_item f.goals k g e)
 
   body_of : (k : ℕ) (g : Chain) (b : Formula) → slice_get f.goals k ≡ Some g → goal_body (problem f) k ≡ Some b → chain g.hyps g.last ≡ b
-  body_of k g b e h = ap (λ o. or_else o (chain g.hyps g.last)) (sym (body_is k g e) ∙ h)
+  body_of k g b e h = ap (λ o. or_else o (chain g.hyps g.last)) (sym (body_is f k g e) ∙ h)
 
   -- the items are goals, so no axiom is among them
   no_axiom : (gs : List Chain) (i : ℕ) (name : List ℕ) (b : Formula) → slice_get (map goal_item gs) i ≡ Some (Axiom name 0 b) → ⊥
@@ -113,7 +106,7 @@ module _ (f : Form) where
         name = g.name;
         is_name = name_is k g e;
         proof = chain_proof g.hyps g.last (block_of g.hyps r);
-        derives = derives (problem f) k (length f.constants) the_type g.hyps g.last constants_fit (body_is k g e) r ok.hyps ok.last h;
+        derives = derives (problem f) k (length f.constants) the_type g.hyps g.last constants_fit (body_is f k g e) r ok.hyps ok.last h;
         text = proof_bytes f.constants g.hyps g.last r;
         is_text = ap (λ n. proof_text n (chain_proof g.hyps g.last (block_of g.hyps r))) (names_are f.constants) ∙ text_proof f.constants g.hyps g.last r ok.hyps ok.last h;
         written = refl;
@@ -193,6 +186,14 @@ module _ (f : Form) where
         goal_false = λ b h. ap (truth (alike (record { names = constants_from 0 n; values = numbers_of vs }))) (sym (body_of k g b e h)) ∙ goal_is_false n g.hyps g.last (numbers_of vs) ok.hyps ok.last values same open_values.apart;
       }
 
+  -- these values of constants are as the hypotheses say, and tell the sides of the last equation apart
+  none_derive : (k : ℕ) (g : Chain) (vs : List Named) → IsForm f → slice_get f.goals k ≡ Some g → IsOpen (length f.constants) g.hyps g.last vs → (proof : Proof) → Derives (problem f) k proof → ⊥
+  none_derive k g vs is e open_values proof derives =
+      let n = length f.constants in
+      let ok : IsGoal n g = all_at (IsGoal n) f.goals k g is.goals e in
+      let same : AllByRecursion (Same (numbers_of vs)) g.hyps = subst (λ z. AllByRecursion (Same z) g.hyps) (sym open_values.numbers) (hypotheses_same n g.hyps ok.hyps) in
+      open_values.apart (sound f k g proof (λ c. get_or (numbers_of vs) c 0) derives e same)
+
   unknown_part : (k : ℕ) (g : Chain) (vs : List Named) → IsForm f → slice_get f.goals k ≡ Some g → IsOpen (length f.constants) g.hyps g.last vs
       → IsUnknownPart (problem f) k (unknown_bytes f.constants g vs)
   unknown_part k g vs is e open_values =
@@ -205,7 +206,7 @@ module _ (f : Form) where
         is_name = name_is k g e;
         state = state;
         saturated = sat;
-        none_derives = λ proof d. true≢false (sym (sound (alike state.system) (alike_equality state.system) (problem f) k proof (chain g.hyps g.last) d (body_is k g e)) ∙ sat.goal_false (chain g.hyps g.last) (body_is k g e));
+        none_derives = λ proof d. none_derive k g vs is e open_values proof d;
         text = state_bytes f.constants g.hyps g.last vs;
         is_text = ap (λ m. state_text m state) (names_are f.constants) ∙ text_state f.constants g.hyps g.last vs ok.hyps ok.last;
         written = refl;

@@ -20,7 +20,7 @@ use Rattle.ae_core.specs.declared.proofs.ClauseLine.TheVariants.{Goal, Def, Bloc
 use Rattle.ae_driver.specs.declared.form.Equation.{Equation}
 use Rattle.ae_driver.specs.Chains.{constant, equation, chain, assumed, defs, hints, chain_proof}
 use Rattle.ae_driver.specs.Form.{IsWithin}
-use Rattle.ae_driver.specs.Search.{OfConstants, Refutes, block_of, no_signature, any}
+use Rattle.ae_driver.specs.Search.{IsStep, OfConstants, Refutes, block_of, no_signature, any}
 use Rattle.ae_driver.specs.declared.search.Refutation.{Refutation}
 use Rattle.ae_driver.proofs.Growing.{get_seam, last_assumed}
 use Rattle.ae_driver.proofs.Propagates.{four, five, denied, hinted_clauses, propagates_all, decided_true, both_true}
@@ -46,21 +46,21 @@ opposite_assumed [] g = refl
 opposite_assumed (e ∷ es) g = ap (λ ls. is_false (equation e) ∷ ls) (opposite_assumed es g)
 
 -- the rules that are used look at no signature
-allowed_any : (sig : Signature) (hyps : List Lit) (earlier : List EqLine) (l : EqLine) → Allowed no_signature hyps earlier l → Allowed sig hyps earlier l
-allowed_any sig hyps earlier (EqHyp s t i) a = a
-allowed_any sig hyps earlier (EqRefl s t) a = a
-allowed_any sig hyps earlier (EqSym s t k) a = a
-allowed_any sig hyps earlier (EqTrans s t j k) a = a
-allowed_any sig hyps earlier (EqCong s t ks) a = absurd a
-allowed_any sig hyps earlier (EqAc s t) a = absurd a
-allowed_any sig hyps earlier (EqLin s t d ps) a = absurd a
-allowed_any sig hyps earlier (EqField s t) a = absurd a
-allowed_any sig hyps earlier (EqFields s t ks) a = absurd a
-allowed_any sig hyps earlier (LeHyp s t i) a = absurd a
-allowed_any sig hyps earlier (LtHyp s t i) a = absurd a
-allowed_any sig hyps earlier (LeSum s t d ps) a = absurd a
-allowed_any sig hyps earlier (LtSum s t d ps) a = absurd a
-allowed_any sig hyps earlier (LeRound s t k) a = absurd a
+allowed_any : (sig : Signature) (hyps : List Lit) (earlier : List EqLine) (l : EqLine) → IsStep l → Allowed no_signature hyps earlier l → Allowed sig hyps earlier l
+allowed_any sig hyps earlier (EqHyp s t i) b a = a
+allowed_any sig hyps earlier (EqRefl s t) b a = a
+allowed_any sig hyps earlier (EqSym s t k) b a = a
+allowed_any sig hyps earlier (EqTrans s t j k) b a = a
+allowed_any sig hyps earlier (EqCong s t ks) b a = absurd b
+allowed_any sig hyps earlier (EqAc s t) b a = absurd b
+allowed_any sig hyps earlier (EqLin s t d ps) b a = absurd b
+allowed_any sig hyps earlier (EqField s t) b a = absurd b
+allowed_any sig hyps earlier (EqFields s t ks) b a = absurd b
+allowed_any sig hyps earlier (LeHyp s t i) b a = absurd b
+allowed_any sig hyps earlier (LtHyp s t i) b a = absurd b
+allowed_any sig hyps earlier (LeSum s t d ps) b a = absurd b
+allowed_any sig hyps earlier (LtSum s t d ps) b a = absurd b
+allowed_any sig hyps earlier (LeRound s t k) b a = absurd b
 
 length_defs : (es : List Equation) (g : Equation) → length (defs es g) ≡ length es + length es
 length_defs [] g = refl
@@ -91,7 +91,7 @@ module _ (p : Problem) (k : ℕ) (n : ℕ) (s : Sort) (es : List Equation) (g : 
 
   lines_fit : (hyps : List Lit) (earlier ls : List EqLine) → AllByRecursion (OfConstants n) ls → AllAllowed no_signature any hyps earlier ls → AllAllowed p.signature (fact_ok p.signature) hyps earlier ls
   lines_fit hyps earlier [] c a = tt
-  lines_fit hyps earlier (l ∷ ls) c a = ((fact_fits l c.0, allowed_any p.signature hyps earlier l a.0.1), lines_fit hyps (earlier ++ l ∷ []) ls c.1 a.1)
+  lines_fit hyps earlier (l ∷ ls) c a = ((fact_fits l c.0, allowed_any p.signature hyps earlier l (c.0).step a.0.1), lines_fit hyps (earlier ++ l ∷ []) ls c.1 a.1)
 
   block_holds : (f : Refutation) → Refutes n es g f → IsContradictory p.signature (block_of es f)
   block_holds f r = (

@@ -1,17 +1,12 @@
 -- Each goal of a form has a part, whatever a search finds: so the parts of the first goals are always the front of a legal output.
-use Rattle.std.specs.Prelude.{◌≡◌, ◌≢◌, ℕ, zero, suc, ◌+◌, ◌<◌, ◌≤◌, Bool, true, false, cond, ◌&&◌, nat_lt, min, max, List, [], ◌∷◌, ◌++◌, map, length, get_or, slice_get, Some, None}
+use Rattle.std.specs.Prelude.{◌≡◌, ◌≢◌, ℕ, zero, suc, ◌+◌, ◌<◌, ◌≤◌, cond, min, max, List, [], ◌∷◌, ◌++◌, map, length, get_or, slice_get, Some, None}
 use Rattle.std.specs.List.{AllByRecursion}
-use Rattle.std.proofs.Common.{refl, sym, ap, ◌∙◌, subst, arith, true≢false, ⊎_elim, inl, inr, append_assoc}
-use Rattle.std.proofs.lemmas.Bool.{ltb-true, lt-ltb}
+use Rattle.std.proofs.Common.{refl, sym, ap, ◌∙◌, subst, arith, ⊎_elim, inl, inr, append_assoc}
 use Rattle.std.proofs.lemmas.Bool.Decides.{eqb_tells}
-use Rattle.ae_core.specs.Decided.{decided, Term_discrete}
-use Rattle.ae_core.specs.Lines.{Fact, equal, states, AllAllowed, Follows, by_hyp, by_refl, by_sym, by_trans, Among, Shown}
-use Rattle.ae_core.proofs.Written.{written}
-use Rattle.ae_core.specs.declared.terms.Term.{Term}
+use Rattle.ae_core.specs.Lines.{equal, states, Stated, Allowed}
 use Rattle.ae_core.specs.declared.formulas.Lit.{Lit}
-use Rattle.ae_core.specs.declared.proofs.Relation.{Relation}
-use Rattle.ae_core.specs.declared.proofs.Relation.TheVariants.{Equal, AtMost, Below}
 use Rattle.ae_core.specs.declared.proofs.EqLine.{EqLine}
+use Rattle.ae_core.specs.declared.proofs.EqLine.TheVariants.{EqHyp, EqRefl, EqSym, EqTrans}
 use Rattle.ae_driver.specs.declared.form.Equation.{Equation}
 use Rattle.ae_driver.specs.declared.form.Chain.{Chain}
 use Rattle.ae_driver.specs.declared.form.Form.{Form}
@@ -19,7 +14,7 @@ use Rattle.ae_driver.specs.declared.search.Named.{Named}
 use Rattle.ae_driver.specs.declared.search.Refutation.{Refutation}
 use Rattle.ae_driver.specs.Form.{IsForm, IsGoal, IsWithin}
 use Rattle.ae_driver.specs.Chains.{constant, assumed, problem}
-use Rattle.ae_driver.specs.Search.{OfConstants, Refutes, IsOpen, no_signature, any}
+use Rattle.ae_driver.specs.Search.{IsStep, IsDerivation, Refutes, IsOpen, no_signature}
 use Rattle.ae_driver.specs.Values.{from, merged, values_after, numbers_of}
 use Rattle.ae_driver.specs.StateBytes.{unknown_bytes}
 use Rattle.ae_driver.specs.Output.{Reads, IsPart, by_refutation, by_values, AreParts, IsBegun, GoalsEnd, TextEnds, valid_bytes}
@@ -28,94 +23,59 @@ use Rattle.ae_core.specs.declared.problems.Problem.{Problem}
 use Rattle.ae_io.specs.Moves.{Written}
 use Rattle.ae_driver.specs.declared.program.Status.{Status}
 use Rattle.ae_driver.specs.declared.program.Status.TheVariants as status
-use Rattle.ae_driver.proofs.Growing.{each_assumed}
-use Rattle.ae_driver.proofs.Propagates.{decided_true, both_true}
-use Rattle.ae_driver.proofs.Saturated.{number, number_is}
+use Rattle.ae_driver.proofs.Growing.{push, stated_more, stated_last, each_assumed}
 use Rattle.ae_driver.proofs.ValueFacts.{IsValues, by_order, first_are, values_are, get_first, merged_are, merged_at}
 use Rattle.ae_driver.proofs.Answered.{goal_is_part}
 
--- ---- facts between the first n constants
-decided_same : {P : Type 0} (d : Dec P) → decided d ≡ true → P
-decided_same (yes p) e = p
-decided_same (no n) e = absurd (true≢false (sym e))
+-- ---- equations that lines show
+-- more lines lead to one that equates two constants
+record Leads (n : ℕ) (hyps : List Lit) (lines : List EqLine) (c d : ℕ) : Type 0 where
+  more : List EqLine
+  all : IsDerivation n hyps (lines ++ more)
+  at : ℕ
+  is : Stated (lines ++ more) at (equal (constant c) (constant d))
 
-left_true : (a b : Bool) → a && b ≡ true → a ≡ true
-left_true true b e = refl
-left_true false b e = e
+module _ (n : ℕ) (hyps : List Lit) where
+  one_line : (lines : List EqLine) (l : EqLine) (c d : ℕ) → IsDerivation n hyps lines → c < n → d < n → states l ≡ equal (constant c) (constant d) → IsStep l → Allowed no_signature hyps lines l → Leads n hyps lines c d
+  one_line lines l c d all lc ld e s a =
+      record {
+        more = l ∷ [];
+        all = push n hyps lines l all (record { left = c; right = d; left_within = lc; right_within = ld; states_it = e; step = s }) a;
+        at = length lines;
+        is = stated_last lines l (length lines) (equal (constant c) (constant d)) refl e;
+      }
 
-right_true : (a b : Bool) → a && b ≡ true → b ≡ true
-right_true true b e = e
-right_true false b e = absurd (true≢false (sym e))
-
-equates : Relation → Bool
-equates Equal = true
-equates AtMost = false
-equates Below = false
-
-is_one : ℕ → Term → Bool
-is_one n t = decided (Term_discrete t (constant (number t))) && nat_lt (number t) n
-
-test : ℕ → Fact → Bool
-test n f = equates f.relation && (is_one n f.left && is_one n f.right)
-
-is_equal : (r : Relation) → equates r ≡ true → r ≡ Equal
-unfolding equates
-is_equal Equal e = refl
-is_equal AtMost e = absurd (true≢false (sym e))
-is_equal Below e = absurd (true≢false (sym e))
-
-one_is : (n c : ℕ) → c < n → is_one n (constant c) ≡ true
-unfolding is_one
-one_is n c lt =
-    both_true _ _
-    (decided_true (Term_discrete (constant c) (constant (number (constant c)))) (ap constant (sym (number_is c))))
-    (ap (λ m. nat_lt m n) (number_is c) ∙ lt-ltb c n lt)
-
-one_within : (n : ℕ) (t : Term) → is_one n t ≡ true → (number t < n) × (t ≡ constant (number t))
-unfolding is_one
-one_within n t e = (ltb-true (number t) n (right_true _ _ e), decided_same (Term_discrete t (constant (number t))) (left_true _ _ e))
-
-tested : (n c d : ℕ) → c < n → d < n → test n (equal (constant c) (constant d)) ≡ true
-unfolding test equates
-tested n c d lc ld = both_true _ _ (one_is n c lc) (one_is n d ld)
-
-of_constants : (n : ℕ) (l : EqLine) → test n (states l) ≡ true → OfConstants n l
-unfolding test
-of_constants n l e =
-    let f = states l in
-    let sides = right_true (equates f.relation) _ e in
-    let a = one_within n f.left (left_true _ _ sides) in
-    let b = one_within n f.right (right_true (is_one n f.left) _ sides) in
-    let r = is_equal f.relation (left_true (equates f.relation) _ e) in
-    record {
-      left = number f.left;
-      right = number f.right;
-      left_within = a.0;
-      right_within = b.0;
-      states_it = λ i. record { relation = r i; left = a.1 i; right = b.1 i };
-    }
-
-lines_of_constants : (n : ℕ) (hyps : List Lit) (earlier ls : List EqLine) → AllAllowed no_signature (test n) hyps earlier ls → AllByRecursion (OfConstants n) ls
-lines_of_constants n hyps earlier [] a = tt
-lines_of_constants n hyps earlier (l ∷ ls) a = (of_constants n l a.0.0, lines_of_constants n hyps (earlier ++ l ∷ []) ls a.1)
-
-lines_allowed : (n : ℕ) (hyps : List Lit) (earlier ls : List EqLine) → AllAllowed no_signature (test n) hyps earlier ls → AllAllowed no_signature any hyps earlier ls
-lines_allowed n hyps earlier [] a = tt
-lines_allowed n hyps earlier (l ∷ ls) a = ((refl, a.0.1), lines_allowed n hyps (earlier ++ l ∷ []) ls a.1)
+  from_before : (lines more : List EqLine) (c d : ℕ) → Leads n hyps (lines ++ more) c d → Leads n hyps lines c d
+  from_before lines more c d h =
+      record {
+        more = more ++ h.more;
+        all = subst (IsDerivation n hyps) (append_assoc lines more h.more) h.all;
+        at = h.at;
+        is = subst (λ ls. Stated ls h.at (equal (constant c) (constant d))) (append_assoc lines more h.more) h.is;
+      }
 
 -- ---- equal values follow
 module _ (n : ℕ) (es : List Equation) (g : Equation) where
-  -- the equation of two constants follows from the hypotheses
+  -- whatever lines there are, more lead to the equation of two constants
   Equals : ℕ → ℕ → Type 0
-  Equals c d = Follows no_signature (test n) (Among (assumed es g)) (equal (constant c) (constant d))
+  Equals c d = (lines : List EqLine) → IsDerivation n (assumed es g) lines → Leads n (assumed es g) lines c d
 
   turned : (c d : ℕ) → c < n → d < n → Equals c d → Equals d c
   unfolding Equals
-  turned c d lc ld h = by_sym h (tested n d c ld lc)
+  turned c d lc ld h lines all =
+      let s = h lines all in
+      from_before n (assumed es g) lines s.more d c
+      (one_line n (assumed es g) (lines ++ s.more) (EqSym (constant d) (constant c) s.at) d c s.all ld lc refl tt s.is)
 
   joined : (c m d : ℕ) → c < n → d < n → Equals c m → Equals m d → Equals c d
   unfolding Equals
-  joined c m d lc ld h k = by_trans h k (tested n c d lc ld)
+  joined c m d lc ld h k lines all =
+      let s = h lines all in
+      let t = k (lines ++ s.more) s.all in
+      from_before n (assumed es g) lines s.more c d
+      (from_before n (assumed es g) (lines ++ s.more) t.more c d
+      (one_line n (assumed es g) ((lines ++ s.more) ++ t.more) (EqTrans (constant c) (constant d) s.at t.at) c d t.all lc ld refl tt
+      (constant m, stated_more (lines ++ s.more) t.more s.at (equal (constant c) (constant m)) s.is, t.is)))
 
   Explained : List ℕ → Type 0
   Explained vs = (k : ℕ) → k < n → Equals (get_or vs k 0) k
@@ -147,7 +107,9 @@ module _ (n : ℕ) (es : List Equation) (g : Equation) where
   unfolding Equals
   given [] k at ws = tt
   given (e ∷ hs) k at ws = (
-    by_hyp (k, each_assumed es g k e (subst (λ j. slice_get es j ≡ Some e) (let z : k + 0 ≡ k = omega arith in z) (at 0 e refl))) (tested n e.left e.right ws.0.0 ws.0.1),
+    (λ lines all.
+        one_line n (assumed es g) lines (EqHyp (constant e.left) (constant e.right) k) e.left e.right all ws.0.0 ws.0.1 refl tt
+        (each_assumed es g k e (subst (λ j. slice_get es j ≡ Some e) (let z : k + 0 ≡ k = omega arith in z) (at 0 e refl)))),
     given hs (k + 1) (λ i d h. subst (λ j. slice_get es j ≡ Some d) (let z : k + suc i ≡ k + 1 + i = omega arith in z) (at (suc i) d h)) ws.1,
   )
 
@@ -157,17 +119,17 @@ module _ (n : ℕ) (es : List Equation) (g : Equation) where
 
   at_first : Explained (from 0 n)
   unfolding Explained Equals
-  at_first k lt = subst (λ u. Follows no_signature (test n) (Among (assumed es g)) (equal (constant u) (constant k))) (sym (get_first n k lt)) (by_refl (tested n k k lt lt))
+  at_first k lt =
+      subst (λ u. (lines : List EqLine) → IsDerivation n (assumed es g) lines → Leads n (assumed es g) lines u k) (sym (get_first n k lt))
+      (λ lines all. one_line n (assumed es g) lines (EqRefl (constant k) (constant k)) k k all lt lt refl tt refl)
 
-  refutation_of : Shown no_signature (test n) (assumed es g) (equal (constant g.left) (constant g.right)) → (r : Refutation) × Refutes n es g r
-  refutation_of s = (
-    record { deriv = record { hyps = assumed es g; lines = s.lines }; line = s.at },
-    record {
-      hyps = refl;
-      derivation = record { of_constants = lines_of_constants n (assumed es g) [] s.lines s.all; allowed = lines_allowed n (assumed es g) [] s.lines s.all };
-      stated = s.is;
-    },
-  )
+  refutation_of : Equals g.left g.right → (r : Refutation) × Refutes n es g r
+  unfolding Equals
+  refutation_of h =
+      let s = h [] (record { of_constants = tt; allowed = tt }) in (
+        record { deriv = record { hyps = assumed es g; lines = s.more }; line = s.at },
+        record { hyps = refl; derivation = s.all; stated = s.is },
+      )
 
   -- a refutation, where the values of the two sides of the end are equal
   refuted : AllByRecursion (IsWithin n) es → IsWithin n g → get_or (values_after (from 0 n) es) g.left 0 ≡ get_or (values_after (from 0 n) es) g.right 0 → (r : Refutation) × Refutes n es g r
@@ -180,7 +142,7 @@ module _ (n : ℕ) (es : List Equation) (g : Equation) where
       let r = get_or vs g.right 0 in
       let from_left = turned l g.left (is.within g.left w.0) w.0 (x g.left w.0) in
       let to_right = subst (λ u. Equals u g.right) (sym same) (x g.right w.1) in
-      refutation_of (written no_signature (test n) (assumed es g) (joined g.left l g.right w.0 w.1 from_left to_right))
+      refutation_of (joined g.left l g.right w.0 w.1 from_left to_right)
 
 named_values : List ℕ → List Named
 named_values vs = map (λ v. record { value = v; step = None }) vs

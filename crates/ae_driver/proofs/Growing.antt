@@ -46,7 +46,7 @@ get_append [] ys k x e = absurd (none_some e)
 get_append (z ∷ zs) ys zero x e = e
 get_append (z ∷ zs) ys (suc k) x e = get_append zs ys k x e
 
-stated_more : (lines more : List EqLine) (k : ℕ) (f : Fact) → Stated lines k f → Stated (lines ++ more) k f
+pub stated_more : (lines more : List EqLine) (k : ℕ) (f : Fact) → Stated lines k f → Stated (lines ++ more) k f
 stated_more [] more k f h = absurd (none_some h)
 stated_more (l ∷ ls) more zero f h = h
 stated_more (l ∷ ls) more (suc k) f h = stated_more ls more k f h

@@ -39,7 +39,7 @@ get_past (y ∷ xs) (suc i) x le e = get_past xs i x (omega (arith, le)) e
 none_some : {X : Type 0} {x : X} → ◌≡◌ {A = Option X} None (Some x) → ⊥
 none_some e = cc
 
-some_same : {X : Type 0} (x y : X) → Some x ≡ Some y → x ≡ y
+pub some_same : {X : Type 0} (x y : X) → Some x ≡ Some y → x ≡ y
 some_same x y e = search (rules, e)
 
 pub when_none : {X : Type 0} (o : Option X) (P : Type 0) (Q : X → Type 0) → o ≡ None → MatchOption o P Q → P
@@ -168,7 +168,7 @@ goal_body_in : DeclForm → Option Expr
 goal_body_in (decl.Goal s b) = Some b
 goal_body_in _ = None
 
-same_body : (s t : Span) (a b : Expr) → decl.Goal s a ≡ decl.Goal t b → a ≡ b
+pub same_body : (s t : Span) (a b : Expr) → decl.Goal s a ≡ decl.Goal t b → a ≡ b
 unfolding goal_body_in
 same_body s t a b e = some_same a b (ap goal_body_in e)
 
@@ -181,7 +181,7 @@ too_long text constants d s body hs q f (gs, same, c) long g (t, other, h, at, e
     absurd (omega (arith, long, short, alike, here))
 
 -- ---- names that are different
-stands_one : (text : List ℕ) (s : Span) (a b : List ℕ) → Stands text s a → Stands text s b → a ≡ b
+pub stands_one : (text : List ℕ) (s : Span) (a b : List ℕ) → Stands text s a → Stands text s b → a ≡ b
 stands_one text s a b p q = sym p.bytes ∙ q.bytes
 
 each_get : {A B : Type 0} (R : A → B → Type 0) (xs : List A) (ys : List B) (k : ℕ) (x : A) → Each R xs ys → slice_get xs k ≡ Some x → (y : B) × R x y × (slice_get ys k ≡ Some y)
@@ -208,7 +208,7 @@ get_read [] k x d e = absurd (none_some e)
 get_read (y ∷ xs) zero x d e = (some_same y x e, omega arith)
 get_read (y ∷ xs) (suc k) x d e = let r = get_read xs k x d e in (r.0, omega (arith, r.1))
 
-apart_at : (ns : List (List ℕ)) (k i : ℕ) (a b : List ℕ) → AllPairs ◌≢◌ ns → k < i → slice_get ns k ≡ Some a → slice_get ns i ≡ Some b → a ≡ b → ⊥
+pub apart_at : (ns : List (List ℕ)) (k i : ℕ) (a b : List ℕ) → AllPairs ◌≢◌ ns → k < i → slice_get ns k ≡ Some a → slice_get ns i ≡ Some b → a ≡ b → ⊥
 apart_at ns k i a b apart lt p q e =
     let r = get_read ns k a [] p in
     let t = get_read ns i b [] q in
@@ -295,13 +295,13 @@ module _ (text : List ℕ) (file : File) (a b : Decl) (ds : List Decl) (e : file
   second_is : (f : Form) (is : IsFormOf text file f) → is.second ≡ b
   second_is f is = cons_head is.second b _ _ (cons_tail is.first a _ _ (sym is.decls ∙ e))
 
-  others_are : (f : Form) (is : IsFormOf text file f) → is.others ≡ ds
+  pub others_are : (f : Form) (is : IsFormOf text file f) → is.others ≡ ds
   others_are f is = cons_tail is.second b _ _ (cons_tail is.first a _ _ (sym is.decls ∙ e))
 
   pub no_type : ((name : List ℕ) → IsTypeDecl text a name → ⊥) → (f : Form) → IsFormOf text file f → ⊥
   no_type none f is = none f.type_name (subst (λ d. IsTypeDecl text d f.type_name) (first_is f is) is.declares_type)
 
-  type_one : (name : List ℕ) → IsTypeDecl text a name → (f : Form) → IsFormOf text file f → f.type_name ≡ name
+  pub type_one : (name : List ℕ) → IsTypeDecl text a name → (f : Form) → IsFormOf text file f → f.type_name ≡ name
   type_one name (s, g, at) f is =
       let other = subst (λ d. IsTypeDecl text d f.type_name) (first_is f is) is.declares_type in
       stands_one text s f.type_name name (subst (λ z. Stands text z f.type_name) (same_type [] [] other.0 s [] [] (sym other.1 ∙ g)) other.2) at
@@ -321,7 +321,7 @@ module _ (text : List ℕ) (file : File) (a b : Decl) (ds : List Decl) (e : file
   each_one (s ∷ ss) (x ∷ cs) [] p q = absurd q
   each_one (s ∷ ss) (x ∷ cs) (y ∷ es) p q = ap (λ z. z ∷ cs) (stands_one text s x y p.0 q.0) ∙ ap (λ zs. y ∷ zs) (each_one ss cs es p.1 q.1)
 
-  constants_one : (name : List ℕ) (cs : List (List ℕ)) → IsTypeDecl text a name → IsLogicDecl text b name cs → (f : Form) → IsFormOf text file f → f.constants ≡ cs
+  pub constants_one : (name : List ℕ) (cs : List (List ℕ)) → IsTypeDecl text a name → IsLogicDecl text b name cs → (f : Form) → IsFormOf text file f → f.constants ≡ cs
   constants_one name cs t l f is =
       let other = logic_there name t f is in
       each_one l.0 f.constants cs (subst (λ ns. Each (Stands text) ns f.constants) (same_names false false other.0 l.0 [] [] other.1 l.1 (sym other.2 ∙ l.2)) other.4) l.4

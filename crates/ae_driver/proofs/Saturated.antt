@@ -18,12 +18,11 @@ use Rattle.ae_core.specs.declared.formulas.Lit.{Lit}
 use Rattle.ae_driver.specs.declared.form.Equation.{Equation}
 use Rattle.ae_driver.specs.Form.{IsWithin}
 use Rattle.ae_driver.specs.Chains.{constant, equation, chain}
-use Rattle.ae_driver.specs.Truth.{truth, truth_step, same_truth, lit_true, IsEquality}
+use Rattle.ae_driver.specs.Truth.{truth, truth_step, same_truth}
 use Rattle.ae_driver.specs.StateTypes.{System}
 use Rattle.ae_driver.specs.StateChains.{state_literals, constants_from}
 use Rattle.ae_driver.specs.States.{value_in, value_of, same_value, alike, has_name, is_named, named_step, SomeStands, IsTakenApart}
 use Rattle.ae_driver.proofs.ValueFacts.{IsValues, Same}
-use Rattle.ae_driver.proofs.Propagates.{decided_true}
 use Rattle.ae_driver.proofs.ChainProof.{no_chain, no_not}
 
 -- ---- different constants are different terms
@@ -54,46 +53,18 @@ value_at (suc n) k (suc i) (v ∷ vs) lt e =
     ∙ ap (λ m. value_in (constants_from (k + 1) n) vs (constant m)) (let h : k + suc i ≡ (k + 1) + i = omega arith in h)
     ∙ value_at n (k + 1) i vs (omega (arith, lt)) (omega (arith, e))
 
--- ---- `alike` is an equality
-same_refl : (o : Option ℕ) (b : Bool) → b ≡ true → same_value o o b ≡ true
-same_refl None b e = e
-same_refl (Some v) b e = ⊎_elim (λ s. s.0) (λ d. absurd (d.1 refl)) (eqb_tells v v)
-
-nat_eq_true : (a b : ℕ) → nat_eq a b ≡ true → a ≡ b
-nat_eq_true a b e = ⊎_elim (λ s. s.1) (λ d. absurd (true≢false (sym e ∙ d.0))) (eqb_tells a b)
-
+-- ---- equality of numbers
 nat_eq_same : (a b : ℕ) → a ≡ b → nat_eq a b ≡ true
 nat_eq_same a b e = ⊎_elim (λ s. s.0) (λ d. absurd (d.1 e)) (eqb_tells a b)
 
 nat_eq_apart : (a b : ℕ) → a ≢ b → nat_eq a b ≡ false
 nat_eq_apart a b n = ⊎_elim (λ s. absurd (n s.1)) (λ d. d.0) (eqb_tells a b)
 
-decided_same : {P : Type 0} (d : Dec P) → decided d ≡ true → P
-decided_same (yes p) e = p
-decided_same (no n) e = absurd (true≢false (sym e))
-
-alike_turned : (o q : Option ℕ) (b c : Bool) → (b ≡ true → c ≡ true) → same_value o q b ≡ true → same_value q o c ≡ true
-alike_turned None None b c f e = f e
-alike_turned None (Some v) b c f e = absurd (true≢false (sym e))
-alike_turned (Some v) None b c f e = absurd (true≢false (sym e))
-alike_turned (Some v) (Some w) b c f e = nat_eq_same w v (sym (nat_eq_true v w e))
-
-alike_joined : (o q r : Option ℕ) (b c d : Bool) → (b ≡ true → c ≡ true → d ≡ true) → same_value o q b ≡ true → same_value q r c ≡ true → same_value o r d ≡ true
-alike_joined None None None b c d f e h = f e h
-alike_joined None None (Some w) b c d f e h = absurd (true≢false (sym h))
-alike_joined None (Some v) r b c d f e h = absurd (true≢false (sym e))
-alike_joined (Some u) None r b c d f e h = absurd (true≢false (sym e))
-alike_joined (Some u) (Some v) None b c d f e h = absurd (true≢false (sym h))
-alike_joined (Some u) (Some v) (Some w) b c d f e h = nat_eq_same u w (nat_eq_true u v e ∙ nat_eq_true v w h)
-
-pub alike_equality : (s : System) → IsEquality (alike s)
-alike_equality s = record {
-  itself = λ t. same_refl (value_of s t) _ (decided_true (Term_discrete t t) refl);
-  turned = λ t u. alike_turned (value_of s t) (value_of s u) _ _ (λ e. decided_true (Term_discrete u t) (sym (decided_same (Term_discrete t u) e)));
-  joined = λ t m u. alike_joined (value_of s t) (value_of s m) (value_of s u) _ _ _ (λ e h. decided_true (Term_discrete t u) (decided_same (Term_discrete t m) e ∙ decided_same (Term_discrete m u) h));
-}
-
 -- ---- truth
+-- the literal is true
+abbrev lit_true : (Term → Term → Bool) → Lit → Bool
+lit_true alike l = same_truth l.positive (truth alike l.formula)
+
 module _ (s : System) where
   truth_eq : (a b : Term) → truth (alike s) (Eq a b) ≡ alike s a b
   unfolding truth

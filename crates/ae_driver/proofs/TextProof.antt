@@ -112,16 +112,16 @@ module _ (names : Names) where
   text_derived hyps earlier (EqRefl s t) c a = text_sides s t _ (EqRefl s t) refl c ∙ ap Some (regroup_refl (codes "eq ") _ (codes " ") _ (codes " refl") (codes "\n"))
   text_derived hyps earlier (EqSym s t k) c a = text_sides s t _ (EqSym s t k) refl c ∙ ap Some (regroup_line (codes "eq ") _ (codes " ") _ (codes " sym ") (decimal k) (codes "\n"))
   text_derived hyps earlier (EqTrans s t j k) c a = text_sides s t _ (EqTrans s t j k) refl c ∙ ap Some (regroup_two (codes "eq ") _ (codes " ") _ (codes " trans ") (decimal j) (codes " ") (decimal k) (codes "\n"))
-  text_derived hyps earlier (EqCong s t ks) c a = absurd a
-  text_derived hyps earlier (EqAc s t) c a = absurd a
-  text_derived hyps earlier (EqLin s t d ps) c a = absurd a
-  text_derived hyps earlier (EqField s t) c a = absurd a
-  text_derived hyps earlier (EqFields s t ks) c a = absurd a
-  text_derived hyps earlier (LeHyp s t i) c a = absurd a
-  text_derived hyps earlier (LtHyp s t i) c a = absurd a
-  text_derived hyps earlier (LeSum s t d ps) c a = absurd a
-  text_derived hyps earlier (LtSum s t d ps) c a = absurd a
-  text_derived hyps earlier (LeRound s t k) c a = absurd a
+  text_derived hyps earlier (EqCong s t ks) c a = absurd c.step
+  text_derived hyps earlier (EqAc s t) c a = absurd c.step
+  text_derived hyps earlier (EqLin s t d ps) c a = absurd c.step
+  text_derived hyps earlier (EqField s t) c a = absurd c.step
+  text_derived hyps earlier (EqFields s t ks) c a = absurd c.step
+  text_derived hyps earlier (LeHyp s t i) c a = absurd c.step
+  text_derived hyps earlier (LtHyp s t i) c a = absurd c.step
+  text_derived hyps earlier (LeSum s t d ps) c a = absurd c.step
+  text_derived hyps earlier (LtSum s t d ps) c a = absurd c.step
+  text_derived hyps earlier (LeRound s t k) c a = absurd c.step
 
   text_lines : (hyps : List Lit) (earlier ls : List EqLine) → AllByRecursion (OfConstants (length names)) ls → AllAllowed no_signature any hyps earlier ls
       → in_order (map (derived_text names) ls) ≡ Some (flat_map (derived_bytes names) ls)

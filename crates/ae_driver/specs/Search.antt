@@ -5,6 +5,7 @@ use Rattle.ae_core.specs.Lines.{Fact, equal, states, Stated, AllAllowed}
 use Rattle.ae_core.specs.declared.formulas.Lit.{Lit}
 use Rattle.ae_core.specs.declared.problems.Signature.{Signature}
 use Rattle.ae_core.specs.declared.proofs.EqLine.{EqLine}
+use Rattle.ae_core.specs.declared.proofs.EqLine.TheVariants.{EqHyp, EqRefl, EqSym, EqTrans}
 use Rattle.ae_core.specs.declared.proofs.Block.{Block}
 use Rattle.ae_core.specs.declared.proofs.Ending.TheVariants.{Neq}
 use Rattle.ae_driver.specs.Chains.{constant, assumed}
@@ -21,13 +22,22 @@ pub record Known : Type 0 where
   pub hyps : List Lit
   pub lines : List EqLine
 
--- the line equates two of the first n constants
+-- a step of the search: a hypothesis, or a law of equality
+abbrev pub IsStep : EqLine → Type 0
+IsStep (EqHyp s t i) = Unit {0}
+IsStep (EqRefl s t) = Unit {0}
+IsStep (EqSym s t k) = Unit {0}
+IsStep (EqTrans s t j k) = Unit {0}
+IsStep _ = ⊥
+
+-- the line equates two of the first n constants, by a step of the search
 pub record OfConstants (n : ℕ) (l : EqLine) : Type 0 where
   pub left : ℕ
   pub right : ℕ
   pub left_within : left < n
   pub right_within : right < n
   pub states_it : states l ≡ equal (constant left) (constant right)
+  pub step : IsStep l
 
 -- the rules of these lines look at no signature, and what may stand is said by `OfConstants`
 abbrev pub no_signature : Signature

@@ -1,14 +1,14 @@
--- Truth of formulas and clauses where it is known which terms are equal, and what it means that derivations are sound.
-use Rattle.std.specs.Prelude.{ℕ, Bool, true, false, cond, not, ◌&&◌, ◌||◌, ◌≡◌, Some}
-use Rattle.std.specs.List.{list_any}
-use Rattle.ae_core.specs.Clauses.{Clause}
-use Rattle.ae_core.specs.Derivations.{Derives, goal_body}
+-- Truth of formulas where it is known which terms are equal, and what it means that derivations are sound.
+use Rattle.std.specs.Prelude.{ℕ, Bool, true, false, cond, not, ◌&&◌, ◌||◌, ◌≡◌, slice_get, Some}
+use Rattle.std.specs.List.{AllByRecursion}
+use Rattle.ae_core.specs.Derivations.{Derives}
 use Rattle.ae_core.specs.declared.terms.Term.{Term}
 use Rattle.ae_core.specs.declared.formulas.Formula.{Formula, Formula-F, fold-Formula}
 use Rattle.ae_core.specs.declared.formulas.Formula.TheOpen as layer
-use Rattle.ae_core.specs.declared.formulas.Lit.{Lit}
-use Rattle.ae_core.specs.declared.problems.Problem.{Problem}
 use Rattle.ae_core.specs.declared.proofs.Proof.{Proof}
+use Rattle.ae_driver.specs.declared.form.Chain.{Chain}
+use Rattle.ae_driver.specs.declared.form.Form.{Form}
+use Rattle.ae_driver.specs.Chains.{problem}
 
 -- both true, or both false
 abbrev pub same_truth : Bool → Bool → Bool
@@ -34,22 +34,9 @@ truth_step alike (layer.Ex q) = false
 unfoldable pub truth : (Term → Term → Bool) → Formula → Bool
 truth alike = fold-Formula Bool (Unit {0}) (truth_step alike) (λ q. tt)
 
--- the formula's truth is the literal's sign
-abbrev pub lit_true : (Term → Term → Bool) → Lit → Bool
-lit_true alike l = same_truth l.positive (truth alike l.formula)
-
--- one of the literals is true
-abbrev pub clause_true : (Term → Term → Bool) → Clause → Bool
-clause_true alike c = list_any (lit_true alike) c
-
--- what makes `alike` an equality
-pub record IsEquality (alike : Term → Term → Bool) : Type 0 where
-  pub itself : (s : Term) → alike s s ≡ true
-  pub turned : (s t : Term) → alike s t ≡ true → alike t s ≡ true
-  pub joined : (s m t : Term) → alike s m ≡ true → alike m t ≡ true → alike s t ≡ true
-
--- the goal of a derivation is true under each equality of terms
+-- the goal of a derivation follows from its hypotheses: where each of these holds between the values of constants, so does the last equation
 abbrev pub IsSound : Type 0
 IsSound =
-    (alike : Term → Term → Bool) → IsEquality alike → (p : Problem) (k : ℕ) (proof : Proof) (f : Formula)
-    → Derives p k proof → goal_body p k ≡ Some f → truth alike f ≡ true
+    (f : Form) (k : ℕ) (g : Chain) (proof : Proof) (value : ℕ → ℕ)
+    → Derives (problem f) k proof → slice_get f.goals k ≡ Some g
+    → AllByRecursion (λ e. value e.left ≡ value e.right) g.hyps → value g.last.left ≡ value g.last.right

@@ -1,7 +1,16 @@
 //! Laws of the definitions. These functions do nothing: each one's contract is a theorem.
+ghost use Rattle.std.specs.Prelude.{ℕ, List, ◌≡◌};
+ghost use Rattle.ae_driver.specs.Output.{Reads};
 ghost use Rattle.ae_driver.specs.Truth.{IsSound};
+ghost use Rattle.ae_driver.specs.declared.form.Form.{Form};
 
-/// The goal of a derivation is true under each equality of terms.
+/// The goal of a derivation follows from its hypotheses: whatever values the constants have, where each hypothesis
+/// holds between these, so does the last equation.
 pub fn derivations_are_sound()
     ensures { IsSound }
+{}
+
+/// A text is of the first form in at most one way.
+pub fn one_form()
+    ensures { (text : List ℕ) (f g : Form) → Reads text f → Reads text g → f ≡ g }
 {}

@@ -10,6 +10,7 @@ push-requires-clause-constants c = record {
   left_within = c.requires.within.0;
   right_within = c.requires.within.1;
   states_it = sides (EqHyp c.constant_term-left.result c.constant_term-right.result c.args.hyp) _ _ _ _ refl c.constant_term-left.ensures c.constant_term-right.ensures;
+  step = tt;
 }
 
 pub returns-clause-at : goal.returns-clause-at

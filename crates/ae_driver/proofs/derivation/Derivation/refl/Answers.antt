@@ -10,6 +10,7 @@ push-requires-clause-constants c = record {
   left_within = c.requires;
   right_within = c.requires;
   states_it = sides (EqRefl c.constant_term-left.result c.constant_term-right.result) _ _ _ _ refl c.constant_term-left.ensures c.constant_term-right.ensures;
+  step = tt;
 }
 
 pub returns-clause-at : goal.returns-clause-at

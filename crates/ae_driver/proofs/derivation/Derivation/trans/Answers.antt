@@ -10,6 +10,7 @@ push-requires-clause-constants c = record {
   left_within = c.requires.first.left_within;
   right_within = c.requires.second.right_within;
   states_it = sides (EqTrans c.constant_term-from.result c.constant_term-to.result c.args.first c.args.second) _ _ _ _ refl c.constant_term-from.ensures c.constant_term-to.ensures;
+  step = tt;
 }
 
 pub returns-clause-at : goal.returns-clause-at
