@@ -3,7 +3,7 @@ use Rattle.std.specs.Prelude.{ℕ, ℤ, pos, negsuc, ◌≡◌, ◌≢◌, ◌<�
 use Rattle.std.specs.List.{AllByRecursion}
 use Rattle.std.specs.Int.{◌∣◌}
 use Rattle.std.specs.Int.RustNames.{int_div}
-use Rattle.std.proofs.Common.{arith, refl, sym, ap, ◌∙◌, subst, zero, suc}
+use Rattle.std.proofs.Common.{arith, sym, ap, ◌∙◌, subst, zero, suc}
 use Rattle.std.proofs.lemmas.Nat.Gcd.{dvd_refl}
 use native.Mathlib.Nat.{dvd_of_mul-dvd-mul_right, mul-dvd-mul_right, one-mul, one-dvd, dvd-zero, le-mul_of_pos_right}
 use borrow.Author.Differences.{ints}

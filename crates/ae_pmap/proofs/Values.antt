@@ -1,9 +1,7 @@
 use Rattle.std.proofs.Common.{◌≡◌, ℕ, ◌<◌, ◌≤◌, List, [], ◌∷◌, ◌++◌, length, refl, sym, ◌∙◌, ap, arith, Option, Some, None, is_some, true, false, get_or, slice_get, length-append, inl, inr}
 use Rattle.std.proofs.lemmas.Bool.{cases_eq, cases_order}
 use Rattle.std.proofs.lemmas.Bool.Decides.{nat_tests}
-use Rattle.std.proofs.lemmas.Option.{slice_get-get_or, slice_get_read}
-use Rattle.std.proofs.Math.ListN.{get_or-append}
-use Rattle.std.proofs.Math.Seq.{get_or-append_seam}
+use Rattle.std.proofs.lemmas.Option.{slice_get_read}
 use Rattle.ae_base.proofs.ListFacts.{value_at, get_before, get_seam}
 use Rattle.ae_pmap.specs.declared.nodes.Node.{Node}
 use Rattle.ae_pmap.specs.Pairs.{found, put_in, take_out, with_at, AllAbove, Rises}

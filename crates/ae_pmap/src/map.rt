@@ -41,7 +41,6 @@ pub struct Version {
 }
 
 impl Model for Version {
-
     ghost Value = { ℕ };
 
     ghost view = { λ v. v.root };
