@@ -4,7 +4,7 @@
 ghost use Rattle.std.specs.Prelude.{◌≡◌, ◌∷◌, [], ℕ, List, true, map, IfOk};
 ghost use Rattle.std.specs.List.{AllByRecursion};
 ghost use Rattle.ae_core.specs.Sorts.{formula_ok};
-ghost use Rattle.ae_core.specs.Derivations.{IsAllowed};
+ghost use Rattle.ae_rules.specs.Derivations.{IsAllowed};
 ghost use Rattle.ae_core.specs.declared.problems.Problem.{Problem};
 ghost use Rattle.ae_core.specs.declared.proofs.ClauseLine.{ClauseLine};
 ghost use Rattle.ae_core.specs.declared.proofs.ClauseLine.TheVariants.{Def};

@@ -1,14 +1,5 @@
-pub mod SortLaws
-pub mod ClauseLaws
-pub mod Bridge
-pub mod Written
 pub mod Recursion
+pub mod SortLaws
+pub mod PuttingLaws
 pub mod TreeLaws
 pub mod OrderLaws
-pub mod Respects
-pub mod Congruence
-pub mod Propagation
-pub mod PuttingLaws
-pub mod Blocks
-pub mod LinearLaws
-pub mod Stated

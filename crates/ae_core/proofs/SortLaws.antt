@@ -1,14 +1,15 @@
 -- What is put, the sort, and whether it is well sorted: at each form of sort, term and formula.
-use Rattle.std.specs.Prelude.{ℕ, zero, suc, ◌+◌, ◌<◌, take, get_or, ℤ, Bool, true, cond, ◌&&◌, List, [], ◌∷◌, ◌++◌, ◌≡◌, map, length, Option, Some, None}
+use Rattle.std.specs.Prelude.{ℕ, zero, suc, ◌+◌, ◌<◌, take, get_or, ℤ, Bool, true, cond, ◌&&◌, List, [], ◌∷◌, ◌++◌, ◌≡◌, map, length, Option, Some, None, slice_get}
 use Rattle.std.specs.List.{list_all}
 use Rattle.std.proofs.lemmas.List.{length-map, take_more}
 use native.Mathlib.Omega.{arith}
 use mathlib.Core.Path.{refl, sym, ap, ◌∙◌}
-use Rattle.ae_core.specs.Sorts.{put_sort, put_sort_step, or_else, sort_ok, sort_ok_step, type_fits, sort_in, sort_step, variable_sort, numeral_ok, when, only, all_known, head_sort, ◌>>=◌, same_known, same_numeric, predicate_ok, trigger_ok, formula_step, quant_step, formula_in, quant_in}
+use Rattle.ae_core.specs.Putting.{put_sort, put_sort_step}
+use Rattle.ae_core.specs.Options.{or_else, when, only, all_known, ◌>>=◌}
+use Rattle.ae_core.specs.Sorts.{sort_ok, sort_ok_step, type_fits, sort_in, sort_step, variable_sort, numeral_ok, head_sort, same_known, same_numeric, predicate_ok, trigger_ok, formula_step, quant_step, formula_in, quant_in}
 use Rattle.ae_core.specs.declared.terms.Sort.{Sort, Var, Rigid, Int, Real, Bool as BoolSort, Unit as UnitSort, Named, fold-roll-Sort}
 use Rattle.ae_core.specs.declared.terms.Sort.TheOpen as sort_layer
 use Rattle.ae_core.specs.declared.terms.Sort.TheVariants.{rolls-Var, rolls-Rigid, rolls-Int as rolls-IntSort, rolls-Real as rolls-RealSort, rolls-Bool, rolls-Unit, rolls-Named}
-use Rattle.std.specs.Prelude.{slice_get}
 use Rattle.ae_core.specs.declared.terms.Head.{Head}
 use Rattle.ae_core.specs.declared.terms.Term.{Term, Bound, Num, Fresh, Apply, fold-roll-Term}
 use Rattle.ae_core.specs.declared.terms.Term.TheOpen as layer
@@ -16,9 +17,8 @@ use Rattle.ae_core.specs.declared.terms.Term.TheVariants.{rolls-Apply, rolls-Bou
 use Rattle.ae_core.specs.declared.formulas.Formula.{Formula, True, False, Eq, Lt, Le, Pred, Not, And, Or, Xor, Iff, All, Ex, fold-roll-Formula}
 use Rattle.ae_core.specs.declared.formulas.Formula.TheOpen as formula_layer
 use Rattle.ae_core.specs.declared.formulas.Formula.TheVariants.{rolls-True, rolls-False, rolls-Eq, rolls-Lt, rolls-Le, rolls-Pred, rolls-Not, rolls-And, rolls-Or, rolls-Xor, rolls-Iff, rolls-All, rolls-Ex}
-use Rattle.ae_core.specs.declared.formulas.Quant.{Quant, fold-roll-Quant}
+use Rattle.ae_core.specs.declared.formulas.Quant.{Quant, fold-roll-Quant, out-Quant, roll-out-Quant}
 use Rattle.ae_core.specs.declared.problems.Signature.{Signature}
-use Rattle.ae_core.specs.declared.formulas.Quant.{out-Quant, roll-out-Quant}
 
 all_map : {A : Type 0} (f : A → Bool) (xs : List A) → list_all (λ b. b) (map f xs) ≡ list_all f xs
 all_map f [] = refl

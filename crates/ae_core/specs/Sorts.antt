@@ -25,39 +25,6 @@ same_sort a b = decided (Sort_discrete a b)
 abbrev pub same_sorts : List Sort → List Sort → Bool
 same_sorts xs ys = decided (Sorts_discrete xs ys)
 
-abbrev pub or_else : {A : Type 0} → Option A → A → A
-or_else (Some x) d = x
-or_else None d = d
-
-infixl 10 ◌>>=◌
-abbrev pub ◌>>=◌ : {A B : Type 0} → Option A → (A → Option B) → Option B
-(Some x) >>= f = f x
-None >>= f = None
-
-abbrev pub only : {A : Type 0} → Bool → Option A → Option A
-only true o = o
-only false o = None
-
-abbrev pub when : {A : Type 0} → Bool → A → Option A
-when b x = only b (Some x)
-
-abbrev pub all_known : {A : Type 0} → List (Option A) → Option (List A)
-all_known [] = Some []
-all_known (o ∷ os) = o >>= λ x. all_known os >>= λ xs. Some (x ∷ xs)
-
--- sorts put for the type variables
-abbrev pub put_sort_step : List Sort → Sort-F Sort → Sort
-put_sort_step ss (sort_layer.Var i) = or_else (slice_get ss i) (Var i)
-put_sort_step ss (sort_layer.Rigid i) = Rigid i
-put_sort_step ss sort_layer.Int = Int
-put_sort_step ss sort_layer.Real = Real
-put_sort_step ss sort_layer.Bool = BoolSort
-put_sort_step ss sort_layer.Unit = UnitSort
-put_sort_step ss (sort_layer.Named h args) = Named h args
-
-unfoldable pub put_sort : List Sort → Sort → Sort
-put_sort ss = fold-Sort Sort (put_sort_step ss)
-
 -- a named sort has its type's number of arguments; `vars` and `rigids` say which variables may stand
 abbrev pub type_fits : Signature → ℕ → ℕ → Bool
 type_fits sig h n = or_else (slice_get sig.types h >>= λ e. Some (nat_eq e.arity n)) false

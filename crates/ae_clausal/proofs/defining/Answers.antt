@@ -1,7 +1,7 @@
 use Rattle.std.proofs.Common.{◌≡◌, sym, subst, List}
 use Rattle.std.specs.List.{AllByRecursion}
 use Rattle.std.proofs.lemmas.Result.{IfOk-weaker}
-use Rattle.ae_core.specs.Derivations.{IsAllowed}
+use Rattle.ae_rules.specs.Derivations.{IsAllowed}
 use Rattle.ae_core.specs.declared.proofs.ClauseLine.{ClauseLine}
 use Rattle.ae_clausal.proofs.Numbers.{allowed}
 use Rattle.ae_clausal.proofs.defining.Goals as goal
