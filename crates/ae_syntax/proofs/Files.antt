@@ -53,7 +53,7 @@ type_opens params_none e o rest ss v he ho = step_take e _ type_body ss v (kind.
 type_opens (params_var t h) e o rest ss v he ho = step_take e _ type_end ss v (kind.Sign sign.Equal) 0 _ _ he refl ∙ ap (mark 0) (step_take o rest (pass (kind.Sign sign.OpenBrace) 1) _ v (kind.Sign sign.OpenBrace) 1 [] _ ho refl)
 type_opens (params_vars w p x t c hp hx ht q hc) e o rest ss v he ho = step_take e _ type_end ss v (kind.Sign sign.Equal) 0 _ _ he refl ∙ ap (mark 0) (step_take o rest (pass (kind.Sign sign.OpenBrace) 1) _ v (kind.Sign sign.OpenBrace) 1 [] _ ho refl)
 
--- ---- itemized that begin with an identifier
+-- ---- items that begin with an identifier
 record Named (w : List Token) : Type 0 where
   pub name : Token
   pub more_tokens : List Token

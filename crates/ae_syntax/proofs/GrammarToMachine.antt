@@ -112,7 +112,7 @@ pub inner_element : (r : Items) → Inner (element r)
 inner_element of_names = tt
 inner_element r = tt
 
--- ---- itemized
+-- ---- items
 wants_element : (r : Items) (d : ℕ) → wants_of (element r) d ≡ element_wants r d
 wants_element of_names d = refl
 wants_element r d = refl

@@ -218,7 +218,7 @@ sew y f k = let n = k.more in record { open_end = n.open_end; here = k.here ++ n
 pub prefixed : {piece whole after : Bool → List Token → Type 0} (t : Token) (y : List Token) → ((d : Bool) (u : List Token) → piece d u → whole d (t ∷ u)) → Cut piece after y → Cut whole after (t ∷ y)
 prefixed t y f k = record { open_end = k.open_end; here = t ∷ k.here; there = k.there; whole = ap (λ z. t ∷ z) k.whole; is = f k.open_end k.here k.is; more = k.more }
 
--- ---- itemized
+-- ---- items
 abbrev pub Elemental : Items → Type 0
 Elemental r = (n : ℕ) (ss : List Want) (c : Bool) (y : List Token) → Split (element_wants r n ++ ss) c y → Cut (λ d u. Some_of (element r) u) (Split ss) y
 
@@ -266,7 +266,7 @@ quiet (want (more_and n) ∷ bs) = false
 quiet (want (make r) ∷ bs) = false
 quiet (b ∷ bs) = quiet bs
 
--- what is known of the itemized among them
+-- what is known of the items among them
 abbrev pub AllItems : List Bit → Type 0
 AllItems [] = Unit {0}
 AllItems (want s ∷ bs) = AllItems bs
@@ -294,7 +294,7 @@ gather (want s ∷ bs) q w ss c y k = attach (want s) bs ss y (λ c y k. gather 
 as_one : (bs : List Bit) → quiet bs ≡ true → AllItems bs → (P : List Token → Type 0) → ((u : List Token) → Pieces (reals bs) u → P u) → (ss : List Want) (c : Bool) (y : List Token) → Split (expand bs ++ ss) c y → Cut (λ d u. P u) (Split ss) y
 as_one bs q w P f ss c y k = let g = gather bs q w ss c y k in record { open_end = g.open_end; here = g.here; there = g.there; whole = g.whole; is = f g.here g.is; more = g.more }
 
--- ---- the elements of itemized
+-- ---- one of the items
 id_is : (k : ℕ) (u : List Token) → Pieces (want (keep kind.Ident k) ∷ []) u → Some_of id u
 id_is k _ (last _ _ (one t h)) = record { value = t; is = is_id t h }
 
@@ -345,13 +345,13 @@ element_of of_exprs = elemental of_exprs (λ n. want (an_expr n) ∷ []) (λ n. 
 element_of of_triggers = elemental of_triggers (λ n. items of_exprs n ∷ mk match_terms ∷ []) (λ n. refl) (λ n. (exprs_itemized, tt)) (λ n. refl) trigger_is
 element_of of_settings = elemental of_settings (λ n. want (keep kind.Ident n) ∷ want (pass (kind.Sign sign.Equal) n) ∷ want (an_expr n) ∷ mk set ∷ []) (λ n. refl) (λ n. tt) (λ n. refl) set_is
 
-itemized : (r : Items) → Itemized r
-itemized r = itemized r (element_of r)
+are_items : (r : Items) → Itemized r
+are_items r = itemized r (element_of r)
 
 pub all_items : (bs : List Bit) → AllItems bs
 all_items [] = tt
 all_items (want s ∷ bs) = all_items bs
-all_items (items r n ∷ bs) = (itemized r, all_items bs)
+all_items (items r n ∷ bs) = (are_items r, all_items bs)
 all_items (mk r ∷ bs) = all_items bs
 
 -- a token, and then a sequence, is this piece

@@ -3,6 +3,7 @@
 ghost use Rattle.std.specs.Prelude.{◌≡◌, ◌≤◌, ◌+◌, ◌-◌, [], ◌∷◌, ◌++◌, None, IfSome, IfNone, length};
 ghost use Rattle.ae_lex.specs.declared.kinds.TokenKind.TheVariants as kind;
 ghost use Rattle.ae_lex.specs.declared.kinds.Sign.TheVariants as sign;
+ghost use Rattle.ae_syntax.specs.declared.cursor.TheConstants.{DEPTH_LIMIT};
 ghost use Rattle.ae_syntax.specs.Grammar as grammar;
 ghost use Rattle.ae_syntax.specs.Inner.Machine as machine;
 ghost use Rattle.ae_syntax.specs.Parts as part;

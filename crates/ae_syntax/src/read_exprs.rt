@@ -8,6 +8,7 @@ ghost use Rattle.ae_lex.specs.declared.kinds.Token.{Token};
 ghost use Rattle.ae_lex.specs.declared.kinds.TokenKind.TheVariants as kind;
 ghost use Rattle.ae_lex.specs.declared.kinds.Reserved.TheVariants as word;
 ghost use Rattle.ae_lex.specs.declared.kinds.Sign.TheVariants as sign;
+ghost use Rattle.ae_syntax.specs.declared.cursor.TheConstants.{DEPTH_LIMIT};
 ghost use Rattle.ae_syntax.specs.Kinds.{quantifies};
 ghost use Rattle.ae_syntax.specs.Inner.SameKinds.{same};
 ghost use Rattle.ae_syntax.specs.Parts.{token, tree, trees, setting, settings, trigger, triggers, group, groups, names};

@@ -170,7 +170,7 @@ bracket_opens W G T at d d' t i b k m l = takes W G (suc d) (bracketed_sorts d) 
 pub bracket_sinks : (T : List Token) (at d : ℕ) (t : Token) (e : Refusal) → IsAt T at t → base_type t t.kind ≡ None → same t.kind (the_sign sign.OpenParen) ≡ true → DEPTH_LIMIT < suc d → e ≡ Deep at → SortAnswered (a_type d ∷ []) [] T at (Err e)
 bracket_sinks T at d t e i b k l h = halts_answer (λ s. sort s) 8 (sinks [] [] (suc d) (bracketed_sorts d) (token t ∷ []) i (λ v. ap (λ z. if_some z (λ s. take d (more_type d ∷ []) (sort s ∷ v)) (cond (same t.kind (the_sign sign.OpenParen)) (take (suc d) (bracketed_sorts d) (token t ∷ v)) refuse)) b ∙ ap (λ b. cond b (take (suc d) (bracketed_sorts d) (token t ∷ v)) refuse) k) l h)
 
--- ---- itemized
+-- ---- items
 pub items_goes_on : (r : Items) (s : Sign) (d : ℕ) (W : List Want) (G : List Part) {T : List Token} {at : ℕ} {t : Token} → IsAt T at t → same t.kind (kind.Sign s) ≡ true → separator r ≡ s → d ≤ DEPTH_LIMIT → Leads (more r d ∷ W) G T at ((element_wants r d ++ make add ∷ more r d ∷ []) ++ W) G (at + 1)
 items_goes_on r s d W G {T} {at} {t} i k e l = takes W G d (element_wants r d ++ make add ∷ more r d ∷ []) G i (λ v. ap (λ b. cond b (take d (element_wants r d ++ make add ∷ more r d ∷ []) (G ++ v)) (skip (G ++ v))) (ap (λ z. same t.kind (kind.Sign z)) e ∙ k)) l
 
@@ -250,7 +250,7 @@ sorts_fail before found d T at mid e g c l a xs = halts_on (g.leads xs) (sort_fa
 pub relays_as : {A : Type 0} {W W' : List Want} {G G' G'' : List Part} {T : List Token} {at mid to : ℕ} (part : A → Part) (bound : ℕ) (r : Result (A × ℕ) Refusal) → Leads W G T at W' G' mid → mid ≡ to → G'' ≡ G' → Answered part W' G'' T bound to r → Answered part W G T bound at r
 relays_as {W' = W'} {G' = G'} {T = T} {to = to} part bound r l e h a = relays part bound r (at_place to e l) (subst (λ g. Answered part W' g T bound to r) h a)
 
--- ---- itemized of one kind of part
+-- ---- items of one kind of part
 pub items_first : {T : List Token} {at to : ℕ} (w : Items) (d : ℕ) (p q : Part) → Leads (element_wants w d) [] T at [] (p ∷ []) to → alone p ≡ q → Leads (items_wants w d) [] T at (more w d ∷ []) (q ∷ []) to
 items_first w d p q l e = then_make (q ∷ []) (leads_first (make begin ∷ more w d ∷ []) [] l) (λ v. ap (λ z. z ∷ v) e)
 
@@ -339,7 +339,7 @@ typeds_fail {s = s} e g c a w q r = halts_answer (λ ns. typeds ns) 8 (items_nex
 pub typeds_end : {T : List Token} {at to : ℕ} {s : Sign} {found : List TypedName} → TypedsSoFar s T at to found → Lacks (kind.Sign s) T to → (w : Items) → element_wants w 1 ≡ typed_wants 1 → separator w ≡ s → Done (items_wants w 1) [] T 8 at to (typeds found)
 typeds_end {s = s} g n w q r = items_done w s 1 (g.leads w q r) n r
 
--- ---- whole itemized on a path
+-- ---- whole lists of items on a path
 pub then_all : {W : List Want} {H H' : List Part} {T : List Token} {at mid to bound : ℕ} {p : Part} (X W' : List Want) → Leads W H T at (X ++ W') H' mid → Done X [] T bound mid to p → Leads W H T at W' (p ∷ H') to
 then_all {H' = H'} X W' l d = leads_on l (leads_first W' H' (whole_reads d))
 

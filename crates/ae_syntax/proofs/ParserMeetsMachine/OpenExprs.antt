@@ -118,7 +118,7 @@ opens_if d n t h e v = subst (λ n. act (an_not d) v t t.kind ≡ opens n (if_wa
 pub opens_block : (d n : ℕ) (t : Token) (q : Quantifier) → quantifies t.kind ≡ Some q → n ≡ suc d → (v : List Part) → act (an_not d) v t t.kind ≡ opens n (block_wants n) (token t ∷ v)
 opens_block d n t q h e v = subst (λ n. act (an_not d) v t t.kind ≡ opens n (block_wants n) (token t ∷ v)) (sym e) (act_quantifies d v t t.kind q h)
 
--- ---- itemized: one or more of a kind, parted by a sign
+-- ---- items: one or more of a kind, parted by a sign
 pub items_first : (r : Items) (T : List Token) (at d to bound : ℕ) (p q : Part) → at ≤ length T → Done (element_wants r d) [] T bound at to p → q ≡ alone p → Reaches T (items_wants r d) [] at (more r d ∷ []) (q ∷ []) to
 items_first r T at d to bound p q w g e = subst (λ q. Reaches T (items_wants r d) [] at (more r d ∷ []) (q ∷ []) to) (sym e) (then_makes (alone p ∷ []) (then_reads (element_wants r d) (make begin ∷ more r d ∷ []) [] [] (start T (items_wants r d) [] at w) g) (λ v. refl))
 
