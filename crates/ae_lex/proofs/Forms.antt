@@ -5,7 +5,7 @@ use Rattle.std.proofs.lemmas.Bool.{ltb-true, eqb-true, or_cases, both_ways}
 use Rattle.ae_lex.specs.declared.kinds.Sign.{Sign}
 use Rattle.ae_lex.specs.Spellings.{sign_bytes}
 use Rattle.ae_lex.specs.Lexis.{is_blank, is_digit, is_letter, is_inner, is_point, Begins, IsWord, IsTypeVar, IsWhole, IsPointed, IsNumeral, whole, pointed, IsToken, word, type_var, numeral, sign, IsLongest, IsOutsideMark, power, mapsto, quote, caret, at_sign, IsOutside, mark, suffix, IsWide, wide_whole, wide_digits, wide_power}
-use Rattle.ae_lex.specs.Pieces.{StopsAt, IsMark}
+use Rattle.ae_lex.specs.Inner.Pieces.{StopsAt, IsMark}
 use Rattle.std.proofs.lemmas.Bool.{and_parts}
 use Rattle.ae_lex.proofs.Parts.{all_back}
 use Rattle.ae_lex.proofs.Tables.{sign_mark}

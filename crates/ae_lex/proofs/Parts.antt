@@ -4,7 +4,7 @@ use Rattle.std.specs.Prelude.{IsTrue}
 use Rattle.std.specs.List.{list_all}
 use Rattle.std.proofs.lemmas.Bool.{and_parts, and_from}
 use Rattle.ae_lex.specs.Lexis.{value}
-use Rattle.ae_lex.specs.Pieces.{IsPart, StopsAt}
+use Rattle.ae_lex.specs.Inner.Pieces.{IsPart, StopsAt}
 
 -- ---- tests of all bytes
 pub all-append : (p : ℕ → Bool) (u w : List ℕ) → list_all p u ≡ true → list_all p w ≡ true → list_all p (u ++ w) ≡ true

@@ -16,7 +16,7 @@ use Rattle.ae_lex.specs.declared.kinds.Sign.{Sign}
 use Rattle.ae_lex.specs.declared.kinds.Sign.TheVariants as sign
 use Rattle.ae_lex.specs.Spellings.{word_bytes, sign_bytes}
 use Rattle.ae_lex.specs.Lexis.{IsWord, Begins, is_letter, is_digit, is_inner, is_blank}
-use Rattle.ae_lex.specs.Pieces.{IsMark, IsFirstSign}
+use Rattle.ae_lex.specs.Inner.Pieces.{IsMark, IsFirstSign}
 
 -- ---- reserved words
 abbrev pub words : List Reserved
