@@ -29,7 +29,7 @@ use Rattle.ae_models.proofs.Options.{none_some}
 use Rattle.ae_models.proofs.ModelNumbers.{zero_whole}
 use Rattle.ae_models.proofs.ModelTerms.{decided_of, decided_yes, out_named}
 use Rattle.ae_models.proofs.ModelRules.{KindSays, NatureSays}
-use Rattle.ae_models.proofs.Example.{fractions}
+use Rattle.ae_models.specs.Fields.{fractions}
 use Rattle.ae_models.proofs.Trees.Wholes.{whole_or_not}
 use Rattle.ae_models.proofs.Trees.Shapes.{Tree_discrete, tuple, parts, parts_of_tuple, layer_fits, fits, first_fits, no_sorts, nowhere, kind_takes, layer_takes, kind_fields, record_fields, is_record, measured, tree_sort, sorted_value, all_fit, all_fit_more, tuple_of_parts}
 use Rattle.ae_models.proofs.Trees.Inhabited.{is_among, no_sorts_left, below_true, thing_fits, atom_sort, record_tree_sort, closed_inhabited}
