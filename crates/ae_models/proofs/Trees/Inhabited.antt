@@ -20,7 +20,8 @@ use Rattle.ae_core.specs.declared.problems.TypeEntry.{TypeEntry}
 use Rattle.ae_core.specs.declared.problems.FieldEntry.{FieldEntry}
 use Rattle.ae_core.specs.declared.problems.Kind.{Kind}
 use Rattle.ae_core.specs.declared.problems.Kind.TheVariants.{Abstract, Choices, Fields}
-use Rattle.ae_models.specs.Structures.{Value, Element, Number, Truth, Void, field_sorts, HasLawfulEntries}
+use Rattle.ae_models.proofs.Entries.{HasLawfulEntries}
+use Rattle.ae_models.specs.Structures.{Value, Element, Number, Truth, Void, field_sorts}
 use Rattle.ae_models.specs.Inner.Trees.{Tree, Atom, Record}
 use Rattle.std.proofs.lemmas.Option.{same_Some}
 use Rattle.ae_models.proofs.Options.{none_some}

@@ -23,7 +23,8 @@ use Rattle.ae_core.specs.declared.problems.Kind.{Kind}
 use Rattle.ae_core.specs.declared.problems.Kind.TheVariants.{Abstract, Choices, Fields}
 use Rattle.ae_core.specs.declared.problems.Nature.{Nature}
 use Rattle.ae_core.specs.declared.problems.Nature.TheVariants.{Free, Ac, Choice}
-use Rattle.ae_models.specs.Structures.{Value, Element, Number, Truth, Void, Structure, BelongsTo, Belongs, AllBelong, AreSorts, fields_of, field_sorts, IsInterpretation, HasLawfulEntries}
+use Rattle.ae_models.proofs.Entries.{HasLawfulEntries}
+use Rattle.ae_models.specs.Structures.{Value, Element, Number, Truth, Void, Structure, BelongsTo, Belongs, AllBelong, AreSorts, fields_of, field_sorts, IsInterpretation}
 use Rattle.ae_models.specs.Inner.Trees.{Tree, Atom, Record, NoField, ThingField, NumberField, TruthField, VoidField}
 use Rattle.ae_models.proofs.Options.{none_some}
 use Rattle.ae_models.proofs.ModelNumbers.{zero_whole}
