@@ -189,16 +189,15 @@ unfolding is_positive frac /_rec
 minus_one_not = refl
 
 pub sum_with_negative_factor : SumWithNegativeFactor
-sum_with_negative_factor =
-    (
-      LeHyp nought one 0 ∷ [],
-      one,
-      nought,
-      record { factor = negsuc 0; line = 0 } ∷ [],
-      (omega (arith, ints), (negsuc 0, at_most nought one) ∷ [], (refl, refl, tt), sums),
-      (λ v. (at_most_says v (pos 0) (pos 1) (ap not (ap is_positive (difference (pos 0) (pos 1)) ∙ minus_one_not)), tt)),
-      λ v h. true≢false (sym (says_at_most v (pos 1) (pos 0) h) ∙ ap not (ap is_positive (difference (pos 1) (pos 0)) ∙ whole_positive (pos 1) (omega (arith, ints)))),
-    )
+sum_with_negative_factor = (
+  LeHyp nought one 0 ∷ [],
+  one,
+  nought,
+  record { factor = negsuc 0; line = 0 } ∷ [],
+  (omega (arith, ints), (negsuc 0, at_most nought one) ∷ [], (refl, refl, tt), sums),
+  (λ v. (at_most_says v (pos 0) (pos 1) (ap not (ap is_positive (difference (pos 0) (pos 1)) ∙ minus_one_not)), tt)),
+  λ v h. true≢false (sym (says_at_most v (pos 1) (pos 0) h) ∙ ap not (ap is_positive (difference (pos 1) (pos 0)) ∙ whole_positive (pos 1) (omega (arith, ints)))),
+)
   where
     turned : (x y : ℚ) → one_ℚ *ℚ (y +ℚ neg_ℚ one_ℚ *ℚ x) ≡ neg_ℚ one_ℚ *ℚ (x +ℚ neg_ℚ one_ℚ *ℚ y) +ℚ zero_ℚ
     turned x y = simp field
@@ -272,25 +271,24 @@ unfolding half
 two_halves = frac_plus (pos 1) (pos 1) 1 1 ∙ frac_same _ (pos 1) _ 0 refl
 
 pub gcd_of_reals : GcdOfReals
-gcd_of_reals =
-    (
-      EqHyp twice one 0 ∷ [],
-      0,
-      (
-        twice,
-        one,
-        refl,
-        (twice_sort, one_sort),
-        (unknown, subst (λ f. factor_of f unknown ≢ zero_ℚ) (sym twice_gap) (factor_there (Term_discrete unknown unknown))),
-        2,
-        subst (λ f. AreMultiples f 2) (sym twice_gap) (λ u. its_factor u (Term_discrete unknown u)),
-        pos 1,
-        ap (λ f. f.constant) twice_gap ∙ constant_one (whole (pos 1)),
-        not_even,
-      ),
-      some_values,
-      (says_equal some_values twice one (doubled ∙ sym (num_value some_values (pos 1))), tt),
-    )
+gcd_of_reals = (
+  EqHyp twice one 0 ∷ [],
+  0,
+  (
+    twice,
+    one,
+    refl,
+    (twice_sort, one_sort),
+    (unknown, subst (λ f. factor_of f unknown ≢ zero_ℚ) (sym twice_gap) (factor_there (Term_discrete unknown unknown))),
+    2,
+    subst (λ f. AreMultiples f 2) (sym twice_gap) (λ u. its_factor u (Term_discrete unknown u)),
+    pos 1,
+    ap (λ f. f.constant) twice_gap ∙ constant_one (whole (pos 1)),
+    not_even,
+  ),
+  some_values,
+  (says_equal some_values twice one (doubled ∙ sym (num_value some_values (pos 1))), tt),
+)
   where
     constant_one : (q : ℚ) → q +ℚ neg_ℚ one_ℚ *ℚ (zero_ℚ +ℚ zero_ℚ) ≡ q
     constant_one q = simp field
@@ -400,23 +398,22 @@ flat_first m n =
     ∙ (λ i. flat_fresh (head.Symbol 3) [] m count i ++ flat_fresh (head.Symbol 3) [] n count i)
 
 pub ac_of_another_symbol : AcOfAnotherSymbol
-ac_of_another_symbol =
-    (
-      first this that,
-      first that this,
-      (
-        head.Symbol 3,
-        [],
-        this ∷ that ∷ [],
-        that ∷ this ∷ [],
-        refl,
-        refl,
-        subst (λ (ls : List Term × List Term). IsPermutation ls.0 ls.1) (λ i. (sym (flat_first 0 1) i, sym (flat_first 1 0) i)) (IsPermutation-swap (this ∷ that ∷ []) (that ∷ this ∷ []) 0 1 (omega arith) (omega arith) refl),
-      ),
-      (λ i. same_known (first_sort 0 1 i) (first_sort 1 0 i)) ∙ decided_of (Sort_discrete count count) refl,
-      some_values,
-      apart,
-    )
+ac_of_another_symbol = (
+  first this that,
+  first that this,
+  (
+    head.Symbol 3,
+    [],
+    this ∷ that ∷ [],
+    that ∷ this ∷ [],
+    refl,
+    refl,
+    subst (λ (ls : List Term × List Term). IsPermutation ls.0 ls.1) (λ i. (sym (flat_first 0 1) i, sym (flat_first 1 0) i)) (IsPermutation-swap (this ∷ that ∷ []) (that ∷ this ∷ []) 0 1 (omega arith) (omega arith) refl),
+  ),
+  (λ i. same_known (first_sort 0 1 i) (first_sort 1 0 i)) ∙ decided_of (Sort_discrete count count) refl,
+  some_values,
+  apart,
+)
   where
     first_value : (m n : ℕ) → worth some_values (first (Constant m count) (Constant n count)) ≡ Element (Count m)
     first_value m n =

@@ -186,5 +186,5 @@ module _ (sig : Signature) (lawful : HasLawfulEntries sig) where
   closed_inhabited =
       by_sorts Closed (λ i o. absurd (true≢false (sym o ∙ ok_var sig _ _ i))) (λ i o. rigid_inhabited i) (λ o. int_inhabited) (λ o. real_inhabited) (λ o. bool_inhabited) (λ o. unit_inhabited)
       (λ h ss all o.
-        let q = and_parts (type_fits sig h (length ss)) (list_all (is_closed_sort sig) ss) (sym (ok_named sig _ _ h ss) ∙ o) in
-        all_below (suc h) h (omega arith) ss q.0 (all_closed ss all q.1))
+      let q = and_parts (type_fits sig h (length ss)) (list_all (is_closed_sort sig) ss) (sym (ok_named sig _ _ h ss) ∙ o) in
+      all_below (suc h) h (omega arith) ss q.0 (all_closed ss all q.1))
