@@ -8,24 +8,26 @@ use Rattle.std.proofs.lemmas.Bool.{and_parts}
 use Rattle.std.proofs.lemmas.List.Sorted.{IsPermutation-swap}
 use lib.IntN.{negsuc, neg_ℤ}
 use borrow.Author.Differences.{ints}
-use Rattle.ae_math.specs.Choices.{pick, pick_yes}
+use Rattle.ae_base.specs.Decided.{pick, decided}
+use Rattle.ae_base.proofs.Decided.{pick_yes}
 use Rattle.ae_math.specs.Forms.{number, single, plus, minus, scale, SameForm}
-use Rattle.ae_math.specs.Fractions.{ℚ, frac, zero_ℚ, one_ℚ, neg_ℚ, ◌+ℚ◌, ◌*ℚ◌, is_positive, ratio}
+use Rattle.ae_math.specs.Fractions.{ℚ, frac, zero_ℚ, one_ℚ, neg_ℚ, ◌+ℚ◌, ◌*ℚ◌, is_positive, ratio, whole}
 use Rattle.ae_math.proofs.FractionOrder.{positive_zero}
 use std.Quotient.{/_rec}
 use Rattle.ae_math.proofs.Divisors.{abs_times}
 use Rattle.ae_math.proofs.FractionLaws.{field, frac_plus, frac_same}
-use Rattle.ae_core.specs.Decided.{decided, Head_discrete, Sort_discrete, Sorts_discrete, Term_discrete}
-use Rattle.ae_core.specs.Clauses.{is_true, is_false, no_of, yes_of, literal}
-use Rattle.ae_core.specs.Derivations.{goal_body}
-use Rattle.ae_core.specs.Instances.{fresh_clause, are_numbered, choices_of, exhaustion}
-use Rattle.ae_core.specs.Linear.{Linear, form, factor_of}
-use Rattle.ae_core.specs.Lines.{Fact, equal, at_most, gap, total, whole, flat, flat_step, SumsTo, AreMultiples, fact_ok}
-use Rattle.ae_core.specs.Putting.{put_formula, instance}
-use Rattle.ae_core.specs.Sorts.{◌>>=◌, only, when, all_known, put_sort, sort_in, sort_of, head_sort, symbol_sort, is_closed_sort, sort_ok, type_fits, same_sort, same_sorts, same_known, numeral_ok, on_real, operands, formula_in, formula_ok}
-use Rattle.ae_core.proofs.LinearLaws.{form-Num, form-Fresh, real_sum}
+use Rattle.ae_core.specs.Decided.{Head_discrete, Sort_discrete, Sorts_discrete, Term_discrete}
+use Rattle.ae_rules.specs.Clauses.{is_true, is_false, no_of, yes_of, literal}
+use Rattle.ae_rules.specs.Derivations.{goal_body}
+use Rattle.ae_rules.specs.Instances.{fresh_clause, are_numbered, choices_of, exhaustion}
+use Rattle.ae_rules.specs.Linear.{Linear, form, factor_of}
+use Rattle.ae_rules.specs.Lines.{Fact, equal, at_most, gap, total, flat, flat_step, SumsTo, AreMultiples, fact_ok}
+use Rattle.ae_core.specs.Putting.{put_formula, instance, put_sort}
+use Rattle.ae_base.specs.Options.{◌>>=◌, only, when, all_known}
+use Rattle.ae_core.specs.Sorts.{sort_in, sort_of, head_sort, symbol_sort, is_closed_sort, sort_ok, type_fits, same_sort, same_sorts, same_known, numeral_ok, on_real, operands, formula_in, formula_ok}
+use Rattle.ae_rules.proofs.LinearLaws.{form-Num, form-Fresh, real_sum}
 use Rattle.ae_core.proofs.PuttingLaws.{put_not, put_eq, put_bound, put_fresh}
-use Rattle.ae_core.proofs.ClauseLaws.{literal_not, literal_eq}
+use Rattle.ae_rules.proofs.ClauseLaws.{literal_not, literal_eq}
 use Rattle.ae_core.proofs.SortLaws.{put_named, ok_var, ok_named, ok_real, sort_in_num, sort_in_bound, sort_in_fresh, sort_in_apply, formula_in_ex, formula_in_not, formula_in_eq, quant_in_block}
 use Rattle.ae_core.specs.declared.terms.Sort.{Sort, Sort-F, Rigid, Real, Named, out-Sort, roll-Sort, roll-out-Sort}
 use Rattle.ae_core.specs.declared.terms.Sort.TheOpen as sort_layer

@@ -5,7 +5,7 @@ use Rattle.std.specs.List.{list_all}
 use Rattle.ae_math.specs.Fractions.{ℚ}
 use Rattle.ae_core.specs.Sorts.{is_closed_sort}
 use Rattle.ae_core.specs.Putting.{instance}
-use Rattle.ae_core.specs.Derivations.{Derives, goal_body}
+use Rattle.ae_rules.specs.Derivations.{Derives, goal_body}
 use Rattle.ae_core.specs.Signatures.{IsLawful, IsLawfulProblem}
 use Rattle.ae_core.specs.declared.terms.Sort.{Sort}
 use Rattle.ae_core.specs.declared.formulas.Formula.{Formula}

@@ -3,13 +3,13 @@
 use Rattle.std.specs.Prelude.{ℕ, zero, suc, ℤ, pos, ◌<ℤ◌, ◌*ℤ◌, Bool, true, false, nat_lt, List, [], ◌∷◌, ◌++◌, ◌≡◌, ◌≢◌, slice_get, Some}
 use Rattle.std.specs.List.{AllByRecursion}
 use Rattle.std.specs.List.Sorted.{IsPermutation}
-use Rattle.ae_math.specs.Fractions.{zero_ℚ}
-use Rattle.ae_core.specs.Linear.{factor_of}
-use Rattle.ae_core.specs.Lines.{Fact, equal, at_most, states, Stated, fact_ok, gap, whole, flat, IsEqual, Combined, SumsTo, HaveSort, AreMultiples}
-use Rattle.ae_core.specs.Clauses.{Clause}
+use Rattle.ae_math.specs.Fractions.{zero_ℚ, whole}
+use Rattle.ae_rules.specs.Linear.{factor_of}
+use Rattle.ae_rules.specs.Lines.{Fact, equal, at_most, states, Stated, fact_ok, gap, flat, IsEqual, Combined, SumsTo, HaveSort, AreMultiples}
+use Rattle.ae_rules.specs.Clauses.{Clause}
 use Rattle.ae_core.specs.Sorts.{formula_ok}
-use Rattle.ae_core.specs.Instances.{fresh_clause, exhaustion}
-use Rattle.ae_core.specs.Derivations.{goal_body}
+use Rattle.ae_rules.specs.Instances.{fresh_clause, exhaustion}
+use Rattle.ae_rules.specs.Derivations.{goal_body}
 use Rattle.ae_core.specs.declared.terms.Sort.{Sort, Real}
 use Rattle.ae_core.specs.declared.terms.Head.{Head}
 use Rattle.ae_core.specs.declared.terms.Term.{Term, Apply}

@@ -5,11 +5,12 @@ use Rattle.std.proofs.Common.{refl, sym, ap, ◌∙◌, subst, true≢false, ari
 use Rattle.std.proofs.lemmas.Bool.{and_parts}
 use Rattle.std.proofs.lemmas.Bool.Decides.{eqb_tells, nat_tests}
 use Rattle.std.proofs.lemmas.List.{length-map}
-use Rattle.ae_math.specs.Fractions.{ℚ, zero_ℚ}
-use Rattle.ae_core.specs.Decided.{decided}
+use Rattle.ae_math.specs.Fractions.{ℚ, zero_ℚ, whole}
+use Rattle.ae_base.specs.Decided.{decided}
 use Rattle.ae_core.specs.Induction.{by_sorts}
-use Rattle.ae_core.specs.Lines.{whole}
-use Rattle.ae_core.specs.Sorts.{◌>>=◌, or_else, put_sort, sort_ok, type_fits, is_closed_sort}
+use Rattle.ae_base.specs.Options.{◌>>=◌, or_else}
+use Rattle.ae_core.specs.Putting.{put_sort}
+use Rattle.ae_core.specs.Sorts.{sort_ok, type_fits, is_closed_sort}
 use Rattle.ae_core.specs.Signatures.{is_sort_over, is_field_sort, names_below, names_below_step, IsLawfulType, IsEnumeration}
 use Rattle.ae_core.proofs.SortLaws.{put_var, put_rigid, put_int, put_real, put_bool, put_unit, put_named, ok_var, ok_rigid, ok_named}
 use Rattle.ae_core.specs.declared.terms.Sort.{Sort, Sort-F, Var, Rigid, Int, Real, Bool as BoolSort, Unit as UnitSort, Named, out-Sort, fold-roll-Sort}

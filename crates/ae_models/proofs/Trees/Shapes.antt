@@ -5,10 +5,11 @@ use Rattle.std.proofs.Common.{refl, sym, ap, ◌∙◌, subst, true≢false}
 use Rattle.std.proofs.lemmas.Bool.{and_parts}
 use native.Mathlib.Decide.{ℕ_discrete}
 use mathlib.Core.Bool.{Bool-discrete}
-use Rattle.ae_math.specs.Fractions.{ℚ, ℚ_discrete}
-use Rattle.ae_core.specs.Decided.{decided, Sort_discrete, Sorts_discrete}
-use Rattle.ae_core.specs.Sorts.{◌>>=◌, or_else, same_sort}
-use Rattle.ae_core.specs.Lines.{whole}
+use Rattle.ae_math.specs.Fractions.{ℚ, ℚ_discrete, whole}
+use Rattle.ae_base.specs.Decided.{decided}
+use Rattle.ae_core.specs.Decided.{Sort_discrete, Sorts_discrete}
+use Rattle.ae_base.specs.Options.{◌>>=◌, or_else}
+use Rattle.ae_core.specs.Sorts.{same_sort}
 use Rattle.ae_core.specs.declared.terms.Sort.{Sort, Sort-F, Var, Named, out-Sort}
 use Rattle.ae_core.specs.declared.terms.Sort.TheOpen as sort_layer
 use Rattle.ae_core.specs.declared.problems.Signature.{Signature}

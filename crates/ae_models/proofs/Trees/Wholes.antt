@@ -9,12 +9,12 @@ use mathlib.Core.HLevel.{Σ_prop_path}
 use mathlib.Core.Logic.{Dec-prop}
 use native.Mathlib.Omega.{arith}
 use std.Quotient.{cls, eq/, effective, /_elim_prop}
-use Rattle.ae_math.specs.Fractions.{ℚ, ℚ_set, Frac, Same_prop, Same-IsEquivRel, cancel, frac}
-use Rattle.ae_math.specs.Integers.{one_mul_z}
+use Rattle.ae_math.specs.Fractions.{ℚ, ℚ_set, Frac, frac, whole}
+use Rattle.ae_math.specs.Inner.Respected.{Same_prop, Same-IsEquivRel, cancel}
+use Rattle.ae_math.specs.Inner.Integers.{one_mul_z}
 use Rattle.ae_math.proofs.FractionLaws.{same_frac}
 use lib.IntN.{*ℤ_comm}
 use Rattle.ae_math.proofs.Divisors.{abs_times, divided}
-use Rattle.ae_core.specs.Lines.{whole}
 
 abbrev pub IsWholeFraction : ℚ → Type 0
 IsWholeFraction q = (z : ℤ) × (q ≡ whole z)
