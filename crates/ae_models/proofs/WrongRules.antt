@@ -1,62 +1,55 @@
 -- The wrong rules lead to what is false.
-use Rattle.std.specs.Prelude.{ℕ, zero, suc, ◌<◌, ◌*◌, ℤ, pos, ◌+ℤ◌, ◌*ℤ◌, ◌<ℤ◌, Bool, true, false, not, ◌&&◌, nat_lt, List, [], ◌∷◌, ◌++◌, ◌≡◌, ◌≢◌, map, length, slice_get, codes, Option, Some, None}
-use Rattle.std.specs.List.{AllByRecursion, list_all}
+use Rattle.std.specs.Prelude.{ℕ, zero, suc, ◌*◌, ℤ, pos, ◌+ℤ◌, ◌*ℤ◌, true, false, not, ◌&&◌, List, [], ◌∷◌, ◌++◌, ◌≡◌, ◌≢◌, map, length, codes, Some}
+use Rattle.std.specs.List.{list_all}
 use Rattle.std.specs.List.Sorted.{IsPermutation}
 use Rattle.std.specs.Int.RustNames.{unsigned_abs}
-use Rattle.std.proofs.Common.{refl, sym, ap, ◌∙◌, subst, arith, inl, inr, true≢false}
-use Rattle.std.proofs.lemmas.Bool.{and_parts}
+use Rattle.std.proofs.Common.{refl, sym, ap, ◌∙◌, subst, arith, inr, true≢false}
+use Rattle.std.proofs.lemmas.Bool.{and_parts, eqb-true, ltb-true}
 use Rattle.std.proofs.lemmas.List.Sorted.{IsPermutation-swap}
 use lib.IntN.{negsuc, neg_ℤ}
 use borrow.Author.Differences.{ints}
-use Rattle.ae_base.specs.Decided.{pick, decided}
-use Rattle.ae_base.proofs.Decided.{pick_yes}
+use Rattle.ae_base.specs.Decided.{pick}
+use Rattle.ae_base.proofs.Decided.{pick_yes, decided_of}
 use Rattle.ae_math.specs.Forms.{number, single, plus, minus, scale, SameForm}
-use Rattle.ae_math.specs.Fractions.{ℚ, frac, zero_ℚ, one_ℚ, neg_ℚ, ◌+ℚ◌, ◌*ℚ◌, is_positive, ratio, whole}
+use Rattle.ae_math.specs.Fractions.{ℚ, frac, zero_ℚ, one_ℚ, neg_ℚ, ◌+ℚ◌, ◌*ℚ◌, is_positive, whole}
 use Rattle.ae_math.proofs.FractionOrder.{positive_zero}
 use std.Quotient.{/_rec}
-use Rattle.ae_math.proofs.Divisors.{abs_times}
+use Rattle.std.proofs.lemmas.Int.{unsigned_abs-mul}
 use Rattle.ae_math.proofs.FractionLaws.{field, frac_plus, frac_same}
 use Rattle.ae_core.specs.Decided.{Head_discrete, Sort_discrete, Sorts_discrete, Term_discrete}
-use Rattle.ae_rules.specs.Clauses.{is_true, is_false, no_of, yes_of, literal}
-use Rattle.ae_rules.specs.Derivations.{goal_body}
-use Rattle.ae_rules.specs.Instances.{fresh_clause, are_numbered, choices_of, exhaustion}
+use Rattle.ae_rules.specs.Clauses.{is_true, is_false, literal}
+use Rattle.ae_rules.specs.Instances.{fresh_clause, choices_of, exhaustion}
 use Rattle.ae_rules.specs.Linear.{Linear, form, factor_of}
-use Rattle.ae_rules.specs.Lines.{Fact, equal, at_most, gap, total, flat, flat_step, SumsTo, AreMultiples, fact_ok}
-use Rattle.ae_core.specs.Putting.{put_formula, instance, put_sort}
+use Rattle.ae_rules.specs.Lines.{equal, at_most, flat, SumsTo, AreMultiples}
+use Rattle.ae_core.specs.Putting.{put_formula, put_sort}
 use Rattle.ae_base.specs.Options.{◌>>=◌, only, when, all_known}
-use Rattle.ae_core.specs.Sorts.{sort_in, sort_of, head_sort, symbol_sort, is_closed_sort, sort_ok, type_fits, same_sort, same_sorts, same_known, numeral_ok, on_real, operands, formula_in, formula_ok}
+use Rattle.ae_core.specs.Sorts.{sort_in, sort_of, head_sort, is_closed_sort, sort_ok, type_fits, same_sorts, same_known, numeral_ok, formula_in, formula_ok}
 use Rattle.ae_rules.proofs.LinearLaws.{form-Num, form-Fresh, real_sum}
 use Rattle.ae_core.proofs.PuttingLaws.{put_not, put_eq, put_bound, put_fresh}
 use Rattle.ae_rules.proofs.ClauseLaws.{literal_not, literal_eq}
 use Rattle.ae_core.proofs.SortLaws.{put_named, ok_var, ok_named, ok_real, sort_in_num, sort_in_bound, sort_in_fresh, sort_in_apply, formula_in_ex, formula_in_not, formula_in_eq, quant_in_block}
-use Rattle.ae_core.specs.declared.terms.Sort.{Sort, Sort-F, Rigid, Real, Named, out-Sort, roll-Sort, roll-out-Sort}
+use Rattle.ae_core.specs.declared.terms.Sort.{Sort, Sort-F, Real, Named, out-Sort, roll-Sort, roll-out-Sort}
 use Rattle.ae_core.specs.declared.terms.Sort.TheOpen as sort_layer
 use Rattle.ae_core.specs.declared.terms.Sort.TheVariants.{rolls-Var, rolls-Rigid, rolls-Named}
 use Rattle.ae_core.specs.declared.terms.Op.TheVariants as op
-use Rattle.ae_core.specs.declared.terms.Head.{Head}
 use Rattle.ae_core.specs.declared.terms.Head.TheVariants as head
 use Rattle.ae_core.specs.declared.terms.Term.{Term, Bound, Num, Fresh as Constant, Apply}
-use Rattle.ae_core.specs.declared.terms.Term.TheOpen as layer
-use Rattle.ae_core.specs.declared.formulas.Formula.{Formula, Eq, Lt, Le, Not, Ex, out-Formula}
+use Rattle.ae_core.specs.declared.formulas.Formula.{Formula, Eq, Le, Not, Ex, out-Formula}
 use Rattle.ae_core.specs.declared.formulas.Formula.TheVariants.{outs-Ex}
 use Rattle.ae_core.specs.declared.formulas.Quant.{Quant}
 use Rattle.ae_core.specs.declared.formulas.Lit.{Lit}
 use Rattle.ae_core.specs.declared.problems.Problem.{Problem}
-use Rattle.ae_core.specs.declared.problems.Item.{Item}
 use Rattle.ae_core.specs.declared.problems.Item.TheVariants.{Axiom, Goal}
-use Rattle.ae_core.specs.declared.proofs.EqLine.{EqLine}
 use Rattle.ae_core.specs.declared.proofs.EqLine.TheVariants.{EqHyp, LeHyp}
-use Rattle.ae_core.specs.declared.proofs.Scaled.{Scaled}
-use Rattle.ae_models.specs.Structures.{Value, Element, Number, Truth, Void, BelongsTo, Belongs}
-use Rattle.ae_models.specs.Truth.{Fresh, IsSorted, IsTrue, Settled, Holds as ClaimHolds, value, applied, claim, same, below}
-use Rattle.ae_models.specs.Examples.{Thing, Count, Red, Green, Point, Other, count, colour, green, red, first, some_of, example_signature, example_types, example_symbols, example}
-use Rattle.ae_models.specs.WrongRules.{Values, Says, IsFalse, LinWithFactorZero, SumWithNegativeFactor, GcdOfReals, FreshOfUsedConstant, ExhaustionWithoutTheLast, AcOfAnotherSymbol, AxiomAfterTheGoal}
+use Rattle.ae_math.proofs.Wholes.{zero_whole, whole_plus, whole_neg, whole_same, whole_positive, one_whole}
+use Rattle.ae_models.specs.Structures.{Value, Element, Number, Truth, Void, BelongsTo}
+use Rattle.ae_models.specs.Truth.{Fresh, Holds as ClaimHolds, value, applied, below}
+use Rattle.ae_models.specs.Examples.{Thing, Count, Red, Green, Point, Other, count, colour, green, red, first, example_signature, example}
+use Rattle.ae_models.specs.WrongRules.{Values, Says, LinWithFactorZero, SumWithNegativeFactor, GcdOfReals, FreshOfUsedConstant, ExhaustionWithoutTheLast, AcOfAnotherSymbol, AxiomAfterTheGoal}
 use Rattle.ae_models.proofs.AcTerms.{flat_apply, flat_fresh}
 use Rattle.ae_models.proofs.ClaimLaws.{value_num, value_fresh, value_bound, value_apply, claim_eq, claim_le, claim_not, claim_ex}
-use Rattle.ae_models.proofs.Example.{no_list, same_lengths, greater}
-use Rattle.ae_models.proofs.Trees.Inhabited.{below_true}
-use Rattle.ae_models.proofs.ModelNumbers.{zero_whole, whole_plus, whole_times, whole_neg, whole_same, whole_positive}
-use Rattle.ae_models.proofs.ModelTerms.{decided_of, out_real, out_named, belongs_real, real_belongs, same_is}
+use Rattle.ae_models.proofs.Example.{no_list, greater}
+use Rattle.ae_models.proofs.ModelTerms.{out_real, out_named, belongs_real, real_belongs, same_is}
 
 -- ---- values for the fresh constants: of `count` its own number, of `real` a half
 half : ℚ
@@ -78,9 +71,9 @@ OfLayer n s l = BelongsTo example s l (constant_value n l)
 
 named_value : (n h : ℕ) (ss : List Sort) → type_fits example_signature h (length ss) ≡ true → OfLayer n (Named h ss) (sort_layer.Named h ss)
 unfolding constant_value
-named_value n zero ss e = (Count n, refl, ap (Named 0) (sym (no_list ss (sym (same_lengths 0 (length ss) e)))))
-named_value n (suc zero) ss e = (Red, refl, ap (Named 1) (sym (no_list ss (sym (same_lengths 0 (length ss) e)))))
-named_value n (suc (suc zero)) ss e = (Point zero_ℚ zero_ℚ, refl, ap (Named 2) (sym (no_list ss (sym (same_lengths 0 (length ss) e)))))
+named_value n zero ss e = (Count n, refl, ap (Named 0) (sym (no_list ss (sym (eqb-true 0 (length ss) e)))))
+named_value n (suc zero) ss e = (Red, refl, ap (Named 1) (sym (no_list ss (sym (eqb-true 0 (length ss) e)))))
+named_value n (suc (suc zero)) ss e = (Point zero_ℚ zero_ℚ, refl, ap (Named 2) (sym (no_list ss (sym (eqb-true 0 (length ss) e)))))
 named_value n (suc (suc (suc h))) ss e = absurd (true≢false (sym e))
 
 layer_value : (n : ℕ) (s : Sort) (l : Sort-F Sort) → roll-Sort l ≡ s → is_closed_sort example_signature s ≡ true → OfLayer n s l
@@ -155,10 +148,6 @@ numbers_apart v h =
 -- the gap of two numerals
 num_gap : (a b : ℤ) → minus (form (Num b (pos 1) true)) (form (Num a (pos 1) true)) ≡ number (whole b +ℚ neg_ℚ one_ℚ *ℚ whole a)
 num_gap a b = λ i. minus (form-Num b (pos 1) true i) (form-Num a (pos 1) true i)
-
-one_whole : one_ℚ ≡ whole (pos 1)
-unfolding one_ℚ
-one_whole = refl
 
 pub lin_with_factor_zero : LinWithFactorZero
 lin_with_factor_zero = (nought, one, ([], tt, tt, sums), numbers_apart)
@@ -266,7 +255,7 @@ factor_there (yes e) h = let z : negsuc 0 *ℤ pos 2 ≡ pos 0 = whole_same (neg
 factor_there (no n) h = n refl
 
 not_even : (z : ℤ) → pos 1 ≢ z *ℤ pos 2
-not_even z e = let h : 1 ≡ unsigned_abs z * 2 = ap unsigned_abs e ∙ abs_times z (pos 2) in absurd (omega (arith, h))
+not_even z e = let h : 1 ≡ unsigned_abs z * 2 = ap unsigned_abs e ∙ unsigned_abs-mul z (pos 2) in absurd (omega (arith, h))
 
 two_halves : half +ℚ half ≡ whole (pos 1)
 unfolding half
@@ -433,4 +422,4 @@ late = record { signature = example_signature; items = Goal (codes "g") 0 (Eq no
 
 pub axiom_after_the_goal : AxiomAfterTheGoal
 axiom_after_the_goal =
-    (late, refl, 0, 1, codes "a", Eq nought one, refl, refl, (λ k name vars f ss l at len closed. absurd (omega (arith, below_true k 0 l))), numbers_apart)
+    (late, refl, 0, 1, codes "a", Eq nought one, refl, refl, (λ k name vars f ss l at len closed. absurd (omega (arith, ltb-true k 0 l))), numbers_apart)

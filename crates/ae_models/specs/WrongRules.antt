@@ -1,6 +1,6 @@
 -- Rules that look like those of the calculus and are wrong: each is one of them without one of its conditions, and in the example, which is an
 -- interpretation, it leads from what is true to what is false.
-use Rattle.std.specs.Prelude.{ℕ, zero, suc, ℤ, pos, ◌<ℤ◌, ◌*ℤ◌, Bool, true, false, nat_lt, List, [], ◌∷◌, ◌++◌, ◌≡◌, ◌≢◌, slice_get, Some}
+use Rattle.std.specs.Prelude.{ℕ, ℤ, pos, ◌<ℤ◌, ◌*ℤ◌, true, false, List, [], ◌∷◌, ◌++◌, ◌≡◌, ◌≢◌, slice_get, Some}
 use Rattle.std.specs.List.{AllByRecursion}
 use Rattle.std.specs.List.Sorted.{IsPermutation}
 use Rattle.ae_math.specs.Fractions.{zero_ℚ, whole}

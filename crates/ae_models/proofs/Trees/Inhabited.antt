@@ -1,19 +1,17 @@
 -- Each closed sort has a value, a tree where it is a thing.
-use Rattle.std.specs.Prelude.{ℕ, zero, suc, ◌+◌, ◌<◌, pos, Bool, true, false, cond, ◌&&◌, ◌||◌, nat_eq, nat_lt, List, [], ◌∷◌, ◌≡◌, ◌≢◌, map, length, slice_get, Option, Some, None}
+use Rattle.std.specs.Prelude.{ℕ, zero, suc, ◌<◌, pos, Bool, true, false, cond, ◌&&◌, ◌||◌, nat_eq, nat_lt, List, [], ◌∷◌, ◌≡◌, map, length, slice_get, Option, Some, None}
 use Rattle.std.specs.List.{AllByRecursion, list_all, list_any}
-use Rattle.std.proofs.Common.{refl, sym, ap, ◌∙◌, subst, true≢false, arith, ⊎_elim}
-use Rattle.std.proofs.lemmas.Bool.{and_parts}
-use Rattle.std.proofs.lemmas.Bool.Decides.{eqb_tells, nat_tests}
+use Rattle.std.proofs.Common.{refl, sym, ap, ◌∙◌, subst, true≢false, arith}
+use Rattle.std.proofs.lemmas.Bool.{and_parts, eqb-true, ltb-true}
 use Rattle.std.proofs.lemmas.List.{length-map}
 use Rattle.ae_math.specs.Fractions.{ℚ, zero_ℚ, whole}
-use Rattle.ae_base.specs.Decided.{decided}
 use Rattle.ae_core.specs.Induction.{by_sorts}
 use Rattle.ae_base.specs.Options.{◌>>=◌, or_else}
 use Rattle.ae_core.specs.Putting.{put_sort}
-use Rattle.ae_core.specs.Sorts.{sort_ok, type_fits, is_closed_sort}
-use Rattle.ae_core.specs.Signatures.{is_sort_over, is_field_sort, names_below, names_below_step, IsLawfulType, IsEnumeration}
-use Rattle.ae_core.proofs.SortLaws.{put_var, put_rigid, put_int, put_real, put_bool, put_unit, put_named, ok_var, ok_rigid, ok_named}
-use Rattle.ae_core.specs.declared.terms.Sort.{Sort, Sort-F, Var, Rigid, Int, Real, Bool as BoolSort, Unit as UnitSort, Named, out-Sort, fold-roll-Sort}
+use Rattle.ae_core.specs.Sorts.{type_fits, is_closed_sort}
+use Rattle.ae_core.specs.Signatures.{is_sort_over, is_field_sort, names_below, names_below_step}
+use Rattle.ae_core.proofs.SortLaws.{put_var, put_int, put_real, put_bool, put_unit, put_named, ok_var, ok_rigid, ok_named}
+use Rattle.ae_core.specs.declared.terms.Sort.{Sort, Var, Rigid, Int, Real, Bool as BoolSort, Unit as UnitSort, Named, fold-roll-Sort}
 use Rattle.ae_core.specs.declared.terms.Sort.TheOpen as sort_layer
 use Rattle.ae_core.specs.declared.terms.Sort.TheVariants.{rolls-Named}
 use Rattle.ae_core.specs.declared.problems.Signature.{Signature}
@@ -21,21 +19,17 @@ use Rattle.ae_core.specs.declared.problems.TypeEntry.{TypeEntry}
 use Rattle.ae_core.specs.declared.problems.FieldEntry.{FieldEntry}
 use Rattle.ae_core.specs.declared.problems.Kind.{Kind}
 use Rattle.ae_core.specs.declared.problems.Kind.TheVariants.{Abstract, Choices, Fields}
+use Rattle.ae_base.proofs.Options.{never_some}
+use Rattle.ae_base.proofs.Tests.{nat_eq_itself}
+use Rattle.ae_base.proofs.Decided.{decided_of}
 use Rattle.ae_models.proofs.Entries.{HasLawfulEntries}
 use Rattle.ae_models.specs.Structures.{Value, Element, Number, Truth, Void, field_sorts}
 use Rattle.ae_models.specs.Inner.Trees.{Tree, Atom, Record}
 use Rattle.std.proofs.lemmas.Option.{same_Some}
-use Rattle.ae_models.proofs.Options.{none_some}
-use Rattle.ae_models.proofs.ModelTerms.{decided_of, out_int, out_real, out_bool, out_unit, out_named, out_rigid}
+use Rattle.ae_models.proofs.ModelTerms.{out_int, out_real, out_bool, out_unit, out_named, out_rigid}
 use Rattle.ae_models.proofs.ModelRules.{KindSays}
 use Rattle.ae_models.proofs.Trees.Wholes.{whole_or_not}
-use Rattle.ae_models.proofs.Trees.Shapes.{tuple, layer_fits, fits, first_fits, no_sorts, nowhere, kind_takes, layer_takes, kind_fields, record_fields, is_record, measured, tree_sort, sorted_value, all_fit, all_fit_more}
-
-same_numbers : (m n : ℕ) → nat_eq m n ≡ true → m ≡ n
-same_numbers m n e = ⊎_elim (λ h. h.1) (λ h. absurd (true≢false (sym e ∙ h.0))) (eqb_tells m n)
-
-itself : (n : ℕ) → nat_eq n n ≡ true
-itself n = ⊎_elim (λ h. h.0) (λ h. absurd (h.1 refl)) (eqb_tells n n)
+use Rattle.ae_models.proofs.Trees.Shapes.{tuple, layer_fits, fits, no_sorts, nowhere, kind_takes, layer_takes, kind_fields, record_fields, is_record, measured, tree_sort, sorted_value, all_fit, all_fit_more}
 
 pub no_sorts_left : (ss : List Sort) → length ss ≡ 0 → ss ≡ []
 no_sorts_left [] e = refl
@@ -45,13 +39,10 @@ or_true : (b : Bool) → b || true ≡ true
 or_true true = refl
 or_true false = refl
 
-pub below_true : (a b : ℕ) → nat_lt a b ≡ true → a < b
-below_true a b e = grind (arith, nat_tests)
-
 -- a number of a list is one of it
 pub is_among : (cs : List ℕ) (k c : ℕ) → slice_get cs k ≡ Some c → list_any (nat_eq c) cs ≡ true
-is_among [] k c e = none_some c e
-is_among (d ∷ cs) zero c e = (λ i. nat_eq c (same_Some d c e i) || list_any (nat_eq c) cs) ∙ ap (λ b. b || list_any (nat_eq c) cs) (itself c)
+is_among [] k c e = never_some c e
+is_among (d ∷ cs) zero c e = (λ i. nat_eq c (same_Some d c e i) || list_any (nat_eq c) cs) ∙ ap (λ b. b || list_any (nat_eq c) cs) (nat_eq_itself c)
 is_among (d ∷ cs) (suc k) c e = ap (λ b. nat_eq c d || b) (is_among cs k c e) ∙ or_true (nat_eq c d)
 
 all_map_test : {A : Type 0} (f : A → Bool) (xs : List A) → list_all (λ b. b) (map f xs) ≡ list_all f xs
@@ -127,13 +118,13 @@ module _ (sig : Signature) (lawful : HasLawfulEntries sig) where
         let p = and_parts (nat_lt h n) (list_all (names_below n) rs) (sym (names_below_named n h rs) ∙ b) in
         let q = and_parts (type_fits sig h (length rs)) (list_all (is_sort_over sig (length ss)) rs) (sym (ok_named sig _ _ h rs) ∙ o) in
         let fit : type_fits sig h (length (map (put_sort ss) rs)) ≡ true = ap (type_fits sig h) (length-map rs (put_sort ss)) ∙ q.0 in
-        let less : h < n = below_true h n p.0 in
+        let less : h < n = ltb-true h n p.0 in
         subst Inhabited (sym (put_named ss h rs)) (below h less (map (put_sort ss) rs) fit (all_put rs all p.1 q.1))
 
     put_inhabited : (s : Sort) → Put s
     put_inhabited =
         by_sorts Put
-        (λ i b o. subst Inhabited (sym (put_var ss i)) (sort_at ss i (below_true i (length ss) (sym (ok_var sig _ _ i) ∙ o)) inhabited (Var i)))
+        (λ i b o. subst Inhabited (sym (put_var ss i)) (sort_at ss i (ltb-true i (length ss) (sym (ok_var sig _ _ i) ∙ o)) inhabited (Var i)))
         (λ i b o. absurd (true≢false (sym o ∙ ok_rigid sig _ _ i)))
         (λ b o. subst Inhabited (sym (put_int ss)) int_inhabited)
         (λ b o. subst Inhabited (sym (put_real ss)) real_inhabited)
@@ -151,16 +142,16 @@ module _ (sig : Signature) (lawful : HasLawfulEntries sig) where
         let vs = some_fields fs p.1 in
         (v.0 ∷ vs.0, all_fit_more sig (field_sorts ss (f ∷ fs)) v.0 vs.0 ∙ (λ i. v.1 i && all_fit sig (field_sorts ss fs) vs.0) ∙ vs.1)
 
-    -- the type n itself, with sorts that it takes
+    -- the type n nat_eq_itself, with sorts that it takes
     kind_inhabited : (e : TypeEntry) (k : Kind) → slice_get sig.types n ≡ Some e → length ss ≡ e.arity → e.kind ≡ k → KindSays sig n e k → Inhabited (Named n ss)
     kind_inhabited e Abstract g l is law = (Element (Atom 0 (Named n ss)), thing_fits n ss (Atom 0 (Named n ss)) (atom_sort 0 n ss e Abstract g is refl))
-    kind_inhabited e (Choices []) g l is law = absurd (law.1 refl)
+    kind_inhabited e (Choices []) g l is law = absurd (law.some refl)
     kind_inhabited e (Choices (c ∷ cs)) g l is law =
-        let none : ss ≡ [] = no_sorts_left ss (l ∙ law.0) in
+        let none : ss ≡ [] = no_sorts_left ss (l ∙ law.no_parameters) in
         let takes : kind_takes sig c ss (Choices (c ∷ cs)) ≡ true = ap (λ xs. no_sorts xs && list_any (nat_eq c) (c ∷ cs)) none ∙ is_among (c ∷ cs) 0 c refl in
         (Element (Atom c (Named n ss)), thing_fits n ss (Atom c (Named n ss)) (atom_sort c n ss e (Choices (c ∷ cs)) g is takes))
     kind_inhabited e (Fields fs) g l is law =
-        let vs = some_fields fs (subst (λ a. list_all (λ f. is_field_sort sig n a f.sort) fs ≡ true) (sym l) law) in
+        let vs = some_fields fs (subst (λ a. list_all (λ f. is_field_sort sig n a f.sort) fs ≡ true) (sym l) law.1) in
         (Element (Record n ss (tuple vs.0)), thing_fits n ss (Record n ss (tuple vs.0)) (record_tree_sort n ss e fs (tuple vs.0) g is vs.1))
 
     pub type_inhabited : type_fits sig n (length ss) ≡ true → Inhabited (Named n ss)
@@ -168,7 +159,7 @@ module _ (sig : Signature) (lawful : HasLawfulEntries sig) where
       where
         go : (at : Option TypeEntry) → slice_get sig.types n ≡ at → or_else (at >>= λ e. Some (nat_eq e.arity (length ss))) false ≡ true → Inhabited (Named n ss)
         go None g h = absurd (true≢false (sym h))
-        go (Some e) g h = kind_inhabited e e.kind g (sym (same_numbers e.arity (length ss) h)) refl (lawful.types n e g)
+        go (Some e) g h = kind_inhabited e e.kind g (sym (eqb-true e.arity (length ss) h)) refl (lawful.types n e g)
 
   -- n bounds the types' numbers
   all_below : (n : ℕ) → Below n

@@ -1,18 +1,17 @@
 -- The structure of trees, and that it interprets its signature.
-use Rattle.std.specs.Prelude.{ℕ, zero, suc, ◌+◌, ◌<◌, ◌≤◌, pos, Bool, true, false, cond, ◌&&◌, ◌||◌, nat_eq, nat_lt, List, [], ◌∷◌, ◌++◌, ◌≡◌, ◌≢◌, map, length, slice_get, Option, Some, None}
+use Rattle.std.specs.Prelude.{ℕ, zero, suc, ◌+◌, ◌≤◌, pos, Bool, true, false, cond, ◌&&◌, ◌||◌, nat_eq, nat_lt, List, [], ◌∷◌, ◌++◌, ◌≡◌, ◌≢◌, map, length, slice_get, Option, Some, None}
 use Rattle.std.specs.List.{AllByRecursion, list_all, list_any}
-use Rattle.std.proofs.lemmas.Bool.Decides.{eqb_tells}
-use Rattle.std.proofs.Common.{⊎_elim, refl, sym, ap, ◌∙◌, subst, true≢false, arith, append_assoc, length-append}
-use Rattle.std.proofs.lemmas.Bool.{and_parts}
+use Rattle.std.proofs.Common.{refl, sym, ap, ◌∙◌, subst, true≢false, arith, append_assoc, length-append}
+use Rattle.std.proofs.lemmas.Bool.{and_parts, eqb-true, ltb-true}
 use Rattle.std.proofs.lemmas.Option.{same_Some}
 use Rattle.std.proofs.lemmas.List.{length-map}
 use Rattle.ae_math.specs.Fractions.{ℚ, zero_ℚ, whole}
 use Rattle.ae_core.specs.Induction.{by_sorts}
 use Rattle.ae_base.specs.Options.{◌>>=◌, or_else}
 use Rattle.ae_core.specs.Putting.{put_sort}
-use Rattle.ae_core.specs.Sorts.{sort_ok, type_fits, is_closed_sort}
+use Rattle.ae_core.specs.Sorts.{type_fits, is_closed_sort}
 use Rattle.ae_core.specs.Signatures.{is_sort_over, IsChoice, IsEnumeration, is_result}
-use Rattle.ae_core.proofs.SortLaws.{put_var, put_rigid, put_int, put_real, put_bool, put_unit, put_named, ok_var, ok_rigid, ok_int, ok_real, ok_bool, ok_unit, ok_named}
+use Rattle.ae_core.proofs.SortLaws.{put_var, put_int, put_real, put_bool, put_unit, put_named, ok_var, ok_rigid, ok_int, ok_real, ok_bool, ok_unit, ok_named}
 use Rattle.ae_core.specs.declared.terms.Sort.{Sort, Sort-F, Var, Named, out-Sort, out-roll-Sort}
 use Rattle.ae_core.specs.declared.terms.Sort.TheOpen as sort_layer
 use Rattle.ae_core.specs.declared.terms.Sort.TheVariants.{rolls-Var}
@@ -21,23 +20,21 @@ use Rattle.ae_core.specs.declared.problems.SymbolEntry.{SymbolEntry}
 use Rattle.ae_core.specs.declared.problems.TypeEntry.{TypeEntry}
 use Rattle.ae_core.specs.declared.problems.FieldEntry.{FieldEntry}
 use Rattle.ae_core.specs.declared.problems.Kind.{Kind}
-use Rattle.ae_core.specs.declared.problems.Kind.TheVariants.{Abstract, Choices, Fields}
+use Rattle.ae_core.specs.declared.problems.Kind.TheVariants.{Choices, Fields}
 use Rattle.ae_core.specs.declared.problems.Nature.{Nature}
 use Rattle.ae_core.specs.declared.problems.Nature.TheVariants.{Free, Ac, Choice}
+use Rattle.ae_math.proofs.Wholes.{zero_whole}
+use Rattle.ae_base.proofs.Decided.{decided_of, decided_yes}
+use Rattle.ae_base.proofs.Tests.{false_true}
 use Rattle.ae_models.proofs.Entries.{HasLawfulEntries}
 use Rattle.ae_models.specs.Structures.{Value, Element, Number, Truth, Void, Structure, BelongsTo, Belongs, AllBelong, AreSorts, fields_of, field_sorts, IsInterpretation}
 use Rattle.ae_models.specs.Inner.Trees.{Tree, Atom, Record, NoField, ThingField, NumberField, TruthField, VoidField}
-use Rattle.ae_models.proofs.Options.{none_some}
-use Rattle.ae_models.proofs.ModelNumbers.{zero_whole}
-use Rattle.ae_models.proofs.ModelTerms.{decided_of, decided_yes, out_named}
+use Rattle.ae_models.proofs.ModelTerms.{out_named}
 use Rattle.ae_models.proofs.ModelRules.{KindSays, NatureSays}
 use Rattle.ae_models.specs.Fields.{fractions}
 use Rattle.ae_models.proofs.Trees.Wholes.{whole_or_not}
-use Rattle.ae_models.proofs.Trees.Shapes.{Tree_discrete, tuple, parts, parts_of_tuple, layer_fits, fits, first_fits, no_sorts, nowhere, kind_takes, layer_takes, kind_fields, record_fields, is_record, measured, tree_sort, sorted_value, all_fit, all_fit_more, tuple_of_parts}
-use Rattle.ae_models.proofs.Trees.Inhabited.{is_among, no_sorts_left, below_true, thing_fits, atom_sort, record_tree_sort, closed_inhabited}
-
-same_numbers : (m n : ℕ) → nat_eq m n ≡ true → m ≡ n
-same_numbers m n e = ⊎_elim (λ h. h.1) (λ h. absurd (true≢false (sym e ∙ h.0))) (eqb_tells m n)
+use Rattle.ae_models.proofs.Trees.Shapes.{Tree_discrete, tuple, parts, parts_of_tuple, layer_fits, fits, no_sorts, nowhere, kind_takes, layer_takes, kind_fields, record_fields, is_record, measured, tree_sort, sorted_value, all_fit, all_fit_more, tuple_of_parts}
+use Rattle.ae_models.proofs.Trees.Inhabited.{is_among, thing_fits, atom_sort, record_tree_sort, closed_inhabited}
 
 -- the place of a number in a list
 place_of : (cs : List ℕ) (c : ℕ) → list_any (nat_eq c) cs ≡ true → (k : ℕ) × (slice_get cs k ≡ Some c)
@@ -45,7 +42,7 @@ place_of [] c e = absurd (true≢false (sym e))
 place_of (d ∷ cs) c e = go (nat_eq c d) refl e (place_of cs c)
   where
     go : (b : Bool) → nat_eq c d ≡ b → b || list_any (nat_eq c) cs ≡ true → (list_any (nat_eq c) cs ≡ true → (k : ℕ) × (slice_get cs k ≡ Some c)) → (k : ℕ) × (slice_get (d ∷ cs) k ≡ Some c)
-    go true is h later = (0, ap Some (sym (same_numbers c d is)))
+    go true is h later = (0, ap Some (sym (eqb-true c d is)))
     go false is h later = let r = later h in (suc r.0, r.1)
 
 -- ---- what is put for type variables is closed
@@ -54,7 +51,7 @@ module _ (sig : Signature) (ss : List Sort) (closed : list_all (is_closed_sort s
   Over s = is_sort_over sig (length ss) s ≡ true → is_closed_sort sig (put_sort ss s) ≡ true
 
   closed_at : (rs : List Sort) → list_all (is_closed_sort sig) rs ≡ true → (i : ℕ) → nat_lt i (length rs) ≡ true → (d : Sort) → is_closed_sort sig (or_else (slice_get rs i) d) ≡ true
-  closed_at rs c i l d = go rs c i (below_true i (length rs) l)
+  closed_at rs c i l d = go rs c i (ltb-true i (length rs) l)
     where
       go : (rs : List Sort) → list_all (is_closed_sort sig) rs ≡ true → (i : ℕ) → suc i ≤ length rs → is_closed_sort sig (or_else (slice_get rs i) d) ≡ true
       go [] c i l = absurd (omega (arith, l))
@@ -123,8 +120,6 @@ module _ (sig : Signature) (lawful : HasLawfulEntries sig) where
   }
 
   -- ---- a value belongs to a sort where it fits
-  no : {P : Type 0} → false ≡ true → P
-  no e = absurd (true≢false (sym e))
 
   layer_belongs : (s : Sort) (l : Sort-F Sort) (v : Value Tree ℚ) → layer_fits s l (sorted_value sig v) ≡ true → BelongsTo trees s l v
   layer_belongs s sort_layer.Int (Number q) e = let w = decided_yes (whole_or_not q) e in (w.0, ap Number w.1)
@@ -134,10 +129,10 @@ module _ (sig : Signature) (lawful : HasLawfulEntries sig) where
   layer_belongs s (sort_layer.Var i) (Element t) e = (t, refl, decided_yes _ e)
   layer_belongs s (sort_layer.Rigid i) (Element t) e = (t, refl, decided_yes _ e)
   layer_belongs s (sort_layer.Named n ss) (Element t) e = (t, refl, decided_yes _ e)
-  layer_belongs s _ (Element t) e = no e
-  layer_belongs s _ (Number q) e = no e
-  layer_belongs s _ (Truth b) e = no e
-  layer_belongs s _ Void e = no e
+  layer_belongs s _ (Element t) e = false_true e
+  layer_belongs s _ (Number q) e = false_true e
+  layer_belongs s _ (Truth b) e = false_true e
+  layer_belongs s _ Void e = false_true e
 
   belongs_layer : (s : Sort) (l : Sort-F Sort) (v : Value Tree ℚ) → BelongsTo trees s l v → layer_fits s l (sorted_value sig v) ≡ true
   belongs_layer s sort_layer.Int v h = subst (λ w. layer_fits s sort_layer.Int (sorted_value sig w) ≡ true) (sym h.1) (decided_of (whole_or_not (whole h.0)) (h.0, refl))
@@ -153,8 +148,8 @@ module _ (sig : Signature) (lawful : HasLawfulEntries sig) where
 
   all_fit_belong : (ss : List Sort) (vs : List (Value Tree ℚ)) → all_fit sig ss vs ≡ true → AllBelong trees ss vs
   all_fit_belong [] [] e = tt
-  all_fit_belong (s ∷ ss) [] e = no e
-  all_fit_belong [] (v ∷ vs) e = no (sym (all_fit_more sig [] v vs) ∙ e)
+  all_fit_belong (s ∷ ss) [] e = false_true e
+  all_fit_belong [] (v ∷ vs) e = false_true (sym (all_fit_more sig [] v vs) ∙ e)
   all_fit_belong (s ∷ ss) (v ∷ vs) e =
       let p = and_parts (fits s (sorted_value sig v)) (all_fit sig ss vs) (sym (all_fit_more sig (s ∷ ss) v vs) ∙ e) in
       (fits_belongs s v p.0, all_fit_belong ss vs p.1)
@@ -244,7 +239,7 @@ module _ (sig : Signature) (lawful : HasLawfulEntries sig) where
           )
 
       go : (t : Tree) → tree_sort sig t ≡ Named n ss → IsBuilt n ss fs (Element t)
-      go (Atom m s) h = no (atom_is m n s ss e (Fields fs) g k h).1
+      go (Atom m s) h = false_true (atom_is m n s ss e (Fields fs) g k h).1
       go (Record m rs t) h = let r = record_is m n rs ss t e (Fields fs) g k h in written m rs t r.0 r.1 r.2
       go NoField h = not_nowhere n ss h
       go (ThingField t r) h = not_nowhere n ss h
@@ -269,16 +264,16 @@ module _ (sig : Signature) (lawful : HasLawfulEntries sig) where
     where
       none_left : (ss : List Sort) → no_sorts ss ≡ true → ss ≡ []
       none_left [] e = refl
-      none_left (s ∷ ss) e = no e
+      none_left (s ∷ ss) e = false_true e
 
       go : (t : Tree) → tree_sort sig t ≡ Named n ss → IsOneOf cs (Element t)
       go (Atom m s) h =
           let a = atom_is m n s ss e (Choices cs) g k h in
           let p = and_parts (no_sorts ss) (list_any (nat_eq m) cs) a.1 in
           let at = place_of cs m p.1 in
-          let choice = ((enumeration n e cs g k).2 m at.0).0 at.1 in
+          let choice = ((enumeration n e cs g k).each m at.0).0 at.1 in
           (at.0, m, at.1, ap (λ r. Element (Atom m r)) (a.0 ∙ ap (Named n) (none_left ss p.0)) ∙ sym (choice_value m n at.0 [] choice))
-      go (Record m rs t) h = no (record_is m n rs ss t e (Choices cs) g k h).2
+      go (Record m rs t) h = false_true (record_is m n rs ss t e (Choices cs) g k h).2
       go NoField h = not_nowhere n ss h
       go (ThingField t r) h = not_nowhere n ss h
       go (NumberField q r) h = not_nowhere n ss h
@@ -287,8 +282,8 @@ module _ (sig : Signature) (lawful : HasLawfulEntries sig) where
 
   different_law : (n : ℕ) (e : TypeEntry) (cs : List ℕ) (k j c d : ℕ) → slice_get sig.types n ≡ Some e → e.kind ≡ Choices cs → slice_get cs k ≡ Some c → slice_get cs j ≡ Some d → k ≢ j → symbol_value c [] ≢ symbol_value d []
   different_law n e cs k j c d g is p q apart same =
-      let first = ((enumeration n e cs g is).2 c k).0 p in
-      let second = ((enumeration n e cs g is).2 d j).0 q in
+      let first = ((enumeration n e cs g is).each c k).0 p in
+      let second = ((enumeration n e cs g is).each d j).0 q in
       let values : ◌≡◌ {A = Value Tree ℚ} (Element (Atom c (Named n []))) (Element (Atom d (Named n []))) = sym (choice_value c n k [] first) ∙ same ∙ choice_value d n j [] second in
       let one : c ≡ d = cc in
       let entry : first.0 ≡ second.0 = same_Some first.0 second.0 (sym first.1 ∙ ap (slice_get sig.symbols) one ∙ second.1) in
@@ -299,7 +294,7 @@ module _ (sig : Signature) (lawful : HasLawfulEntries sig) where
   chosen_belongs : (s : Sort) (b : Bool) (e : is_closed_sort sig s ≡ b) → b ≡ true → Belongs trees s (chosen s b e)
   unfolding chosen
   chosen_belongs s true e h = let c = closed_inhabited sig lawful s e in fits_belongs s c.0 c.1
-  chosen_belongs s false e h = no h
+  chosen_belongs s false e h = false_true h
 
   some_belongs : (s : Sort) → is_closed_sort sig s ≡ true → Belongs trees s (some_value s)
   unfolding some_value
@@ -317,7 +312,7 @@ module _ (sig : Signature) (lawful : HasLawfulEntries sig) where
       go Ac is law b = b
       go (Choice of place) is law b =
           let type_entry = law.3 in
-          let among = ((enumeration of type_entry.0 type_entry.1 type_entry.2 type_entry.3).2 n place).1 (e, g, is) in
+          let among = ((enumeration of type_entry.0 type_entry.1 type_entry.2 type_entry.3).each n place).1 (e, g, is) in
           let same : put_sort ss r ≡ Named of [] = ap (put_sort ss) (same_Some r (Named of []) (sym h ∙ law.2)) ∙ put_named ss of [] in
           subst (λ s. Belongs trees s (Element (Atom n (Named of [])))) (sym same)
           (is_thing of [] (Atom n (Named of [])) (atom_sort sig lawful n of [] type_entry.0 (Choices type_entry.1) type_entry.2 type_entry.3 (is_among type_entry.1 place n among)))

@@ -1,11 +1,11 @@
 -- The sort of a tree, and the values that are its fields.
-use Rattle.std.specs.Prelude.{ℕ, zero, suc, Bool, true, false, cond, ◌&&◌, nat_eq, List, [], ◌∷◌, ◌≡◌, ◌↔◌, length, slice_get, Option, Some, None}
+use Rattle.std.specs.Prelude.{ℕ, Bool, true, false, cond, ◌&&◌, nat_eq, List, [], ◌∷◌, ◌≡◌, slice_get, Option, Some, None}
 use Rattle.std.specs.List.{list_any}
-use Rattle.std.proofs.Common.{refl, sym, ap, ◌∙◌, subst, true≢false}
+use Rattle.std.proofs.Common.{refl, sym, ap, true≢false}
 use Rattle.std.proofs.lemmas.Bool.{and_parts}
 use native.Mathlib.Decide.{ℕ_discrete}
 use mathlib.Core.Bool.{Bool-discrete}
-use Rattle.ae_math.specs.Fractions.{ℚ, ℚ_discrete, whole}
+use Rattle.ae_math.specs.Fractions.{ℚ, ℚ_discrete}
 use Rattle.ae_base.specs.Decided.{decided}
 use Rattle.ae_core.specs.Decided.{Sort_discrete, Sorts_discrete}
 use Rattle.ae_base.specs.Options.{◌>>=◌, or_else}
@@ -13,7 +13,6 @@ use Rattle.ae_core.specs.Sorts.{same_sort}
 use Rattle.ae_core.specs.declared.terms.Sort.{Sort, Sort-F, Var, Named, out-Sort}
 use Rattle.ae_core.specs.declared.terms.Sort.TheOpen as sort_layer
 use Rattle.ae_core.specs.declared.problems.Signature.{Signature}
-use Rattle.ae_core.specs.declared.problems.TypeEntry.{TypeEntry}
 use Rattle.ae_core.specs.declared.problems.Kind.{Kind}
 use Rattle.ae_core.specs.declared.problems.Kind.TheVariants.{Abstract, Choices, Fields}
 use Rattle.ae_models.specs.Structures.{Value, Element, Number, Truth, Void, field_sorts}
