@@ -1,7 +1,9 @@
+pub mod Induction
 pub mod Recursion
-pub mod SortLaws
 pub mod PuttingLaws
+pub mod SortLaws
 pub mod SortFacts
 pub mod PutSorts
+pub mod ClosedSorts
 pub mod TreeLaws
 pub mod OrderLaws

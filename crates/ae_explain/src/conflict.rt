@@ -6,7 +6,7 @@ ghost use Rattle.ae_core.specs.declared.formulas.Lit.{Lit};
 ghost use Rattle.ae_explain.specs.Trail.{IsLawful, AreFalse, IsFalse, clause};
 ghost use Rattle.ae_explain.specs.Levels.{level_of, greatest_of, literals_under};
 ghost use Rattle.ae_explain.specs.Hints.{Propagates};
-ghost use Rattle.ae_explain.specs.Marks.{marked, kept, resolved, lits_below, hints_from, by_of};
+ghost use Rattle.ae_explain.specs.Inner.Marks.{marked, kept, resolved, lits_below, hints_from, reasons};
 
 use crate::marks::{Mark, clause_at, keep_clause, resolve};
 use crate::trail::Trail;
@@ -71,16 +71,14 @@ fn kept_clause(alloc: Global, trail: &Trail, marks: &[Mark]) -> Result<Clause, A
     Ok(clause)
 }
 
-/// Adds the reason of a place where it gave way.
+/// Adds the reason of a place where the place gave way to it.
 fn push_hint(hints: &mut List<usize>, gave_way: bool, by: Option<usize>) -> Result<(), AllocError>
-    ensures { OnOk result (hints.new ≡ hints.old ++ (if gave_way then by_of by ∷ [] else [])) }
+    ensures { OnOk result (hints.new ≡ hints.old ++ (if gave_way then reasons by else [])) }
 {
     if gave_way {
-        let number = match by {
-            Some(number) => number,
-            None => 0,
-        };
-        hints.push(number)?;
+        if let Some(number) = by {
+            hints.push(number)?;
+        }
     }
     Ok(())
 }

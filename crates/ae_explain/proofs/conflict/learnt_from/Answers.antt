@@ -6,7 +6,7 @@ use Rattle.ae_core.specs.declared.formulas.Lit.{Lit}
 use Rattle.ae_explain.specs.Trail.{clause}
 use Rattle.ae_explain.specs.Levels.{greatest_of, level_of}
 use Rattle.ae_explain.specs.Hints.{Propagates}
-use Rattle.ae_explain.specs.Marks.{IsMarked, State, kept_at, lits_below, hints_from}
+use Rattle.ae_explain.specs.Inner.Marks.{IsMarked, State, kept_at, lits_below, hints_from}
 use Rattle.ae_explain.proofs.Places.{there}
 use Rattle.ae_explain.proofs.Marking.{start, nothing_kept}
 use Rattle.ae_explain.proofs.Reading.{is_false, empty_at_0, one_at_top, above_ground}
