@@ -25,7 +25,7 @@ use Rattle.ae_core.specs.declared.problems.TypeEntry.{TypeEntry}
 use Rattle.ae_core.specs.declared.problems.FieldEntry.{FieldEntry}
 use Rattle.ae_core.specs.declared.problems.Kind.{Kind}
 use Rattle.ae_core.specs.declared.problems.Kind.TheVariants.{Abstract, Choices, Fields}
-use Rattle.ae_core.proofs.Induction.{by_sorts}
+use Rattle.ae_core.specs.Inner.Induction.{by_sorts}
 use Rattle.ae_core.proofs.SortLaws.{ok_var, ok_rigid, ok_int, ok_real, ok_bool, ok_unit, ok_named, sort_in_bound, sort_in_num, sort_in_fresh, sort_in_apply}
 use Rattle.ae_core.proofs.PuttingLaws.{put_var, put_int, put_real, put_bool, put_unit, put_named}
 

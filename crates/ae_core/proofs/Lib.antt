@@ -1,4 +1,3 @@
-pub mod Induction
 pub mod Recursion
 pub mod PuttingLaws
 pub mod SortLaws

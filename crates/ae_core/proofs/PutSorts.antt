@@ -5,7 +5,7 @@ use Rattle.std.proofs.Common.{refl, sym, ap, ◌∙◌, subst, true≢false, ari
 use Rattle.std.proofs.lemmas.Bool.{and_from, and_parts, or_left, or_right, ltb-true, ltb-false}
 use Rattle.std.proofs.lemmas.Option.{none-some}
 use Rattle.std.proofs.lemmas.List.{length-reverse, length-append, reverse-append}
-use Rattle.ae_core.proofs.Induction.{by_terms, by_formulas}
+use Rattle.ae_core.specs.Inner.Induction.{by_terms, by_formulas}
 use Rattle.ae_core.specs.Sorts.{sort_in, head_sort, variable_sort, formula_in, quant_in, trigger_ok, applied_ok, predicate_ok, same_known, same_numeric}
 use Rattle.ae_base.specs.Options.{known, or_else, all_known}
 use Rattle.ae_core.specs.Putting.{put_terms, put_formula, put_formula_in, put_quant_in, variable_at}

@@ -2,7 +2,7 @@
 use Rattle.std.specs.Prelude.{ℕ, Bool, true, false, List, [], ◌∷◌, ◌≡◌, map, Option, Some}
 use Rattle.std.specs.List.{AllByRecursion}
 use mathlib.Core.Path.{sym, ap, ◌∙◌, subst}
-use Rattle.ae_core.proofs.Induction.{by_formulas}
+use Rattle.ae_core.specs.Inner.Induction.{by_formulas}
 use Rattle.ae_core.specs.Sorts.{formula_ok}
 use Rattle.ae_rules.specs.Clauses.{Clause, row}
 use Rattle.ae_rules.specs.Derivations.{IsAllowed}

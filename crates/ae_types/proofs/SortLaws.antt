@@ -2,7 +2,7 @@
 use Rattle.std.proofs.Common.{◌≡◌, ◌≢◌, ℕ, zero, suc, ◌+◌, ◌<◌, ◌≤◌, List, [], ◌∷◌, ◌++◌, map, length, get_or, refl, ap, sym, ◌∙◌, subst, arith, nat_eq, if◌then◌else◌}
 use Rattle.std.proofs.lemmas.Bool.Decides.{nat_tests}
 use Rattle.std.specs.List.{AllByRecursion}
-use Rattle.ae_core.proofs.Induction.{by_sorts}
+use Rattle.ae_core.specs.Inner.Induction.{by_sorts}
 use Rattle.ae_core.specs.declared.terms.Sort.{Sort, Sort-F, Var, Rigid, Int, Real, Bool as BoolSort, Unit as UnitSort, Named, fold-Sort, fold-roll-Sort, out-Sort}
 use Rattle.ae_core.specs.declared.terms.Sort.TheOpen as layer
 use Rattle.ae_core.specs.declared.terms.Sort.TheVariants.{rolls-Named, rolls-Var, rolls-Rigid, rolls-Int, rolls-Real, rolls-Bool, rolls-Unit, outs-Named}
