@@ -119,3 +119,9 @@ module _ (t : List Assigned) (clauses : List Clause) (marks : List Mark) (level 
       let r = kept_place t marks (length t) m h in
       let v : level_of t m ≡ (at t r.0).level = level_there t r.0 m a r.1 (sym (ap (λ (x : Lit). x.formula) r.3)) in
       omega (arith, v, s.ground r.0 (omega arith) r.1 r.2)
+
+  pub at_most : Apart t → (m : Lit) → Contains (map opposite (lits_below t marks (length t))) m → level_of t m ≤ level
+  at_most a m h =
+      let r = kept_place t marks (length t) m h in
+      let v : level_of t m ≡ (at t r.0).level = level_there t r.0 m a r.1 (sym (ap (λ (x : Lit). x.formula) r.3)) in
+      omega (arith, v, s.levels r.0 r.1 (kept_is_marked (mark marks r.0) r.2))

@@ -1,5 +1,5 @@
 //! What is learnt from a clause that is false in a trail: the first unique implication point and what it stands with.
-ghost use Rattle.std.specs.Prelude.{◌≡◌, ◌≢◌, ◌++◌, ◌∷◌, [], ◌<◌, ◌==◌, false, ℕ, length, map, count_by, if◌then◌else◌, IfOk, OnOk};
+ghost use Rattle.std.specs.Prelude.{◌≡◌, ◌≢◌, ◌++◌, ◌∷◌, [], ◌<◌, ◌≤◌, ◌==◌, false, ℕ, length, map, count_by, if◌then◌else◌, IfOk, OnOk};
 ghost use Rattle.std.specs.List.{Contains};
 ghost use Rattle.ae_rules.specs.Clauses.{opposite};
 ghost use Rattle.ae_core.specs.declared.formulas.Lit.{Lit};
@@ -126,6 +126,7 @@ fn learnt_from(
     ensures one { IfOk result (λ r. let level = greatest_of trail.now given.now in
         0 < level → count_by (λ m. level_of trail.now m == level) r.clause ≡ 1) }
     ensures ground { IfOk result (λ r. (m : Lit) → Contains r.clause m → 0 < level_of trail.now m) }
+    ensures highest { IfOk result (λ r. (m : Lit) → Contains r.clause m → level_of trail.now m ≤ greatest_of trail.now given.now) }
     ensures level { IfOk result (λ r. r.level ≡ greatest_of trail.now (literals_under trail.now (greatest_of trail.now r.clause) r.clause)) }
 {
     let level = greatest_level(trail, given);
@@ -163,6 +164,8 @@ pub fn conflict_clause(
     // Otherwise exactly one of its literals is of their greatest level.
     ensures one { IfOk result (λ r. let level = greatest_of trail.now (clause clauses.now falsified) in
         0 < level → count_by (λ m. level_of trail.now m == level) r.clause ≡ 1) }
+    // None of its literals is of a greater level.
+    ensures highest { IfOk result (λ r. (m : Lit) → Contains r.clause m → level_of trail.now m ≤ greatest_of trail.now (clause clauses.now falsified)) }
     // None of its literals is of level 0.
     ensures ground { IfOk result (λ r. (m : Lit) → Contains r.clause m → 0 < level_of trail.now m) }
     // The level is the greatest one of its literals below their greatest one.
