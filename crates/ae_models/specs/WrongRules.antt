@@ -9,7 +9,7 @@ use Rattle.ae_rules.specs.Lines.{Fact, equal, at_most, states, Stated, fact_ok, 
 use Rattle.ae_rules.specs.Clauses.{Clause}
 use Rattle.ae_core.specs.Sorts.{formula_ok}
 use Rattle.ae_rules.specs.Instances.{fresh_clause, exhaustion}
-use Rattle.ae_rules.specs.Derivations.{goal_body}
+use Rattle.ae_rules.specs.Derivations.{goal_body, HasNoSolution}
 use Rattle.ae_core.specs.declared.terms.Sort.{Sort, Real}
 use Rattle.ae_core.specs.declared.terms.Head.{Head}
 use Rattle.ae_core.specs.declared.terms.Term.{Term, Apply}
@@ -21,13 +21,13 @@ use Rattle.ae_core.specs.declared.problems.Item.TheVariants.{Axiom}
 use Rattle.ae_core.specs.declared.proofs.EqLine.{EqLine}
 use Rattle.ae_core.specs.declared.proofs.Scaled.{Scaled}
 use Rattle.ae_core.specs.declared.proofs.Relation.TheVariants.{Equal, AtMost, Below}
-use Rattle.ae_models.specs.Truth.{Fresh, IsSorted, IsTrue}
+use Rattle.ae_models.specs.Truth.{FreshValues, IsSorted, IsTrue}
 use Rattle.ae_models.specs.Consequence.{AxiomsAreTrue}
 use Rattle.ae_models.specs.Examples.{example_signature, example}
 
 -- values for the fresh constants, each of its sort
 abbrev pub Values : Type 0
-Values = (fresh : Fresh example) × IsSorted example_signature example fresh
+Values = (fresh : FreshValues example) × IsSorted example_signature example fresh
 
 abbrev pub Says : Values → Formula → Type 0
 Says v f = IsTrue example v.0 f
@@ -37,8 +37,8 @@ abbrev pub IsFalse : Values → Lit → Type 0
 IsFalse v l = elim l.positive [ true ↦ ¬ (Says v l.formula) | false ↦ Says v l.formula ]
 
 -- what a fact says is true
-abbrev pub Holds : Values → Fact → Type 0
-Holds v f = elim f.relation [ Equal ↦ Says v (Eq f.left f.right) | AtMost ↦ Says v (Le f.left f.right) | Below ↦ Says v (Lt f.left f.right) ]
+abbrev pub IsTrueFact : Values → Fact → Type 0
+IsTrueFact v f = elim f.relation [ Equal ↦ Says v (Eq f.left f.right) | AtMost ↦ Says v (Le f.left f.right) | Below ↦ Says v (Lt f.left f.right) ]
 
 -- ---- a combination of equations counted any number of times, also none
 abbrev pub AllowedByAnyFactor : Signature → List EqLine → Term → Term → ℤ → List Scaled → Type 0
@@ -55,17 +55,15 @@ AllowedByAnySum sig earlier s t d ps = (pos 0 <ℤ d) × (fs : List (ℤ × Fact
 abbrev pub SumWithNegativeFactor : Type 0
 SumWithNegativeFactor =
     (earlier : List EqLine) × (s : Term) × (t : Term) × (ps : List Scaled) × AllowedByAnySum example_signature earlier s t (pos 1) ps
-    × ((v : Values) → AllByRecursion (λ l. Holds v (states l)) earlier) × ((v : Values) → ¬ (Says v (Le s t)))
+    × ((v : Values) → AllByRecursion (λ l. IsTrueFact v (states l)) earlier) × ((v : Values) → ¬ (Says v (Le s t)))
 
 -- ---- an equation without a solution in whole numbers, taken for one without a solution in reals
 abbrev pub EndsGcdOfReals : Signature → List EqLine → ℕ → Type 0
-EndsGcdOfReals sig lines k =
-    (s : Term) × (t : Term) × Stated lines k (equal s t) × HaveSort sig Real (equal s t) × ((u : Term) × (factor_of (gap (equal s t)) u ≢ zero_ℚ))
-    × (d : ℕ) × AreMultiples (gap (equal s t)) d × (c : ℤ) × ((gap (equal s t)).constant ≡ whole c) × ((z : ℤ) → c ≢ z *ℤ pos d)
+EndsGcdOfReals sig lines k = (s : Term) × (t : Term) × Stated lines k (equal s t) × HaveSort sig Real (equal s t) × HasNoSolution (gap (equal s t))
 
 -- it says that equations can't hold which do
 abbrev pub GcdOfReals : Type 0
-GcdOfReals = (lines : List EqLine) × (k : ℕ) × EndsGcdOfReals example_signature lines k × (v : Values) × AllByRecursion (λ l. Holds v (states l)) lines
+GcdOfReals = (lines : List EqLine) × (k : ℕ) × EndsGcdOfReals example_signature lines k × (v : Values) × AllByRecursion (λ l. IsTrueFact v (states l)) lines
 
 -- ---- a fresh constant that isn't new: no values of the constants make the clause true
 abbrev pub FreshOfUsedConstant : Type 0
