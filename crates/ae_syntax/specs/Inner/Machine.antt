@@ -7,7 +7,7 @@ use Rattle.ae_lex.specs.declared.kinds.Reserved.{Reserved}
 use Rattle.ae_lex.specs.declared.kinds.Reserved.TheVariants as word
 use Rattle.ae_lex.specs.declared.kinds.Sign.{Sign}
 use Rattle.ae_lex.specs.declared.kinds.Sign.TheVariants as sign
-use Rattle.ae_syntax.specs.declared.types.TypeForm as forms
+use Rattle.ae_syntax.specs.declared.types.TypeKind as type_kind
 use Rattle.ae_syntax.specs.declared.types.WrittenType.{WrittenType}
 use Rattle.ae_syntax.specs.declared.exprs.Expr.{Expr}
 use Rattle.ae_syntax.specs.declared.exprs.BinaryOp.{BinaryOp}
@@ -16,9 +16,11 @@ use Rattle.ae_syntax.specs.declared.exprs.Quantifier.{Quantifier}
 use Rattle.ae_syntax.specs.declared.exprs.Number.TheVariants as number
 use Rattle.ae_syntax.specs.declared.exprs.Group.{Group}
 use Rattle.ae_syntax.specs.declared.exprs.Trigger.{Trigger}
-use Rattle.ae_syntax.specs.Kinds.{arrow, relation, additive, multiplicative, quantifies, same}
+use Rattle.ae_syntax.specs.Kinds.{arrow, relation, additive, multiplicative, quantifies}
+use Rattle.ae_syntax.specs.Inner.SameKinds.{same}
 use Rattle.ae_syntax.specs.Parts.{Part, token, flag, tree, sort, setting, trigger, group, typed, result, decl, names, trees, sorts, settings, triggers, groups, typeds, alone, and_then, span, type_span, binary, negation, negative, quantified, let_in, conditional, field_of, bare, applied, number_at, true_at, false_at, void_at, bracketed, ascribed, distinct_of, record_of, update_of, setting_of, trigger_of, written, named_after, typed_name, group_of, a_sort, prop_at, abstract_type, record_type, enumeration, logic_of, function_of, predicate_of, axiom_of, goal_of}
-use Rattle.ae_syntax.specs.Grammar.{Row, of_names, of_constructors, of_vars, of_types, of_fields, of_formals, of_groups, of_exprs, of_triggers, of_settings, separator}
+use Rattle.ae_syntax.specs.Grammar.{Items, of_names, of_constructors, of_vars, of_types, of_fields, of_formals, of_groups, of_exprs, of_triggers, of_settings, separator}
+use Rattle.ae_syntax.specs.declared.cursor.TheConstants.{DEPTH_LIMIT}
 
 -- what parts on top of the stack become one
 pub data Rule : Type 0 where
@@ -80,14 +82,14 @@ pub data Want : Type 0 where
   -- more operands of a chain
   more_arrow more_or more_and more_rel more_sum more_prod more_post more_type : ℕ → Want
   -- more of what is repeated
-  more : Row → ℕ → Want
+  more : Items → ℕ → Want
   -- a token of this kind: kept, or passed over
   keep pass : TokenKind → ℕ → Want
   -- no token: parts on top become one
   make : Rule → Want
   -- parts of a production that go on in several ways
   call bracket_end brace brace_name triggers_or_dot : ℕ → Want
-  a_file type_head type_body type_form type_end logic_head logic_sorts after_sort a_result formals_end predicate_head : Want
+  a_file type_head type_body type_definition type_end logic_head logic_sorts after_sort a_result formals_end predicate_head : Want
 
 -- what the top of the stack does with a token
 pub data Act : Type 0 where
@@ -115,7 +117,7 @@ the_sign s = kind.Sign s
 abbrev pub typed_wants : ℕ → List Want
 typed_wants d = keep kind.Ident d ∷ pass (the_sign sign.Colon) d ∷ a_type d ∷ make give_type ∷ []
 
-abbrev pub element_wants : Row → ℕ → List Want
+abbrev pub element_wants : Items → ℕ → List Want
 element_wants of_names d = keep kind.Ident d ∷ []
 element_wants of_constructors d = keep kind.Ident d ∷ []
 element_wants of_vars d = keep kind.TypeVar d ∷ []
@@ -127,8 +129,8 @@ element_wants of_exprs d = an_expr d ∷ []
 element_wants of_triggers d = an_expr d ∷ make begin ∷ more of_exprs d ∷ make match_terms ∷ []
 element_wants of_settings d = keep kind.Ident d ∷ pass (the_sign sign.Equal) d ∷ an_expr d ∷ make set ∷ []
 
-abbrev pub row_wants : Row → ℕ → List Want
-row_wants r d = element_wants r d ++ make begin ∷ more r d ∷ []
+abbrev pub items_wants : Items → ℕ → List Want
+items_wants r d = element_wants r d ++ make begin ∷ more r d ∷ []
 
 -- a sign that isn't kept, and one that is
 abbrev pub past : Sign → ℕ → Want
@@ -148,11 +150,11 @@ constant t _ = None
 
 -- a type that is one token
 abbrev pub base_type : Token → TokenKind → Option WrittenType
-base_type t (kind.Reserved word.Int) = Some (written (span t) forms.Int)
-base_type t (kind.Reserved word.Real) = Some (written (span t) forms.Real)
-base_type t (kind.Reserved word.Bool) = Some (written (span t) forms.Bool)
-base_type t (kind.Reserved word.Unit) = Some (written (span t) forms.Unit)
-base_type t kind.TypeVar = Some (written (span t) forms.Var)
+base_type t (kind.Reserved word.Int) = Some (written (span t) type_kind.Int)
+base_type t (kind.Reserved word.Real) = Some (written (span t) type_kind.Real)
+base_type t (kind.Reserved word.Bool) = Some (written (span t) type_kind.Bool)
+base_type t (kind.Reserved word.Unit) = Some (written (span t) type_kind.Unit)
+base_type t kind.TypeVar = Some (written (span t) type_kind.Var)
 base_type t kind.Ident = Some (named_after (span t) [] t)
 base_type t _ = None
 
@@ -185,7 +187,7 @@ on_atom d v t k =
     cond (same k kind.Ident) (take d (call d ∷ []) (token t ∷ v))
     (cond (same k (the_sign sign.OpenParen)) (take (suc d) (an_expr (suc d) ∷ bracket_end d ∷ []) (token t ∷ v))
     (cond (same k (the_sign sign.OpenBrace)) (take (suc d) (brace d ∷ []) (token t ∷ v))
-    (cond (same k (the_word word.Distinct)) (take d (past sign.OpenParen (suc d) ∷ row_wants of_exprs (suc d) ++ kept sign.CloseParen d ∷ make all_differ ∷ []) (token t ∷ v))
+    (cond (same k (the_word word.Distinct)) (take d (past sign.OpenParen (suc d) ∷ items_wants of_exprs (suc d) ++ kept sign.CloseParen d ∷ make all_differ ∷ []) (token t ∷ v))
     (if_some (constant t k) (λ e. take d [] (tree e ∷ v)) refuse))))
 
 abbrev pub on_post : ℕ → List Part → Token → TokenKind → Act
@@ -205,7 +207,7 @@ on_rel d v t k = then_wants (on_sum d v t k) (more_rel d ∷ [])
 
 -- after the word of a quantifier, after `let`, and after `if`
 abbrev pub block_wants : ℕ → List Want
-block_wants d = row_wants of_groups d ++ triggers_or_dot d ∷ an_expr d ∷ make quantify ∷ []
+block_wants d = items_wants of_groups d ++ triggers_or_dot d ∷ an_expr d ∷ make quantify ∷ []
 
 abbrev pub let_wants : ℕ → List Want
 let_wants d = keep kind.Ident d ∷ past sign.Equal d ∷ an_expr d ∷ pass (the_word word.In) d ∷ an_expr d ∷ make bind_name ∷ []
@@ -230,7 +232,7 @@ abbrev pub on_expr : ℕ → List Part → Token → TokenKind → Act
 on_expr d v t k = then_wants (on_or d v t k) (more_arrow d ∷ [])
 
 abbrev pub bracketed_sorts : ℕ → List Want
-bracketed_sorts d = a_type (suc d) ∷ past sign.Comma (suc d) ∷ row_wants of_types (suc d) ++ past sign.CloseParen d ∷ keep kind.Ident (suc d) ∷ make bracket_sorts ∷ more_type (suc d) ∷ []
+bracketed_sorts d = a_type (suc d) ∷ past sign.Comma (suc d) ∷ items_wants of_types (suc d) ++ past sign.CloseParen d ∷ keep kind.Ident (suc d) ∷ make bracket_sorts ∷ more_type (suc d) ∷ []
 
 abbrev pub on_type : ℕ → List Part → Token → TokenKind → Act
 on_type d v t k =
@@ -249,14 +251,14 @@ operand d v want next None = skip v
 
 -- what follows the record in `{ r with .. }`
 abbrev pub update_wants : ℕ → List Want
-update_wants d = pass (the_word word.With) (suc d) ∷ row_wants of_settings (suc d) ++ kept sign.CloseBrace d ∷ make change ∷ []
+update_wants d = pass (the_word word.With) (suc d) ∷ items_wants of_settings (suc d) ++ kept sign.CloseBrace d ∷ make change ∷ []
 
 abbrev pub on_brace_name : ℕ → List Part → Token → TokenKind → Act
 on_brace_name d v t k =
     cond (same k (the_sign sign.Equal)) (take (suc d) (an_expr (suc d) ∷ make set ∷ make begin ∷ more of_settings (suc d) ∷ kept sign.CloseBrace d ∷ make build ∷ []) v)
-    (cond (same k (the_sign sign.OpenParen)) (take (suc (suc d)) (row_wants of_exprs (suc (suc d)) ++ kept sign.CloseParen (suc d) ∷ make call_it ∷ more_post (suc d) ∷ update_wants d) v)
+    (cond (same k (the_sign sign.OpenParen)) (take (suc (suc d)) (items_wants of_exprs (suc (suc d)) ++ kept sign.CloseParen (suc d) ∷ make call_it ∷ more_post (suc d) ∷ update_wants d) v)
     (cond (same k (the_sign sign.Dot)) (take (suc (suc d)) (keep kind.Ident (suc (suc d)) ∷ make take_field ∷ more_post (suc (suc d)) ∷ update_wants d) (apply be_bare v))
-    (cond (same k (the_word word.With)) (take (suc d) (row_wants of_settings (suc d) ++ kept sign.CloseBrace d ∷ make change ∷ []) (apply be_bare v))
+    (cond (same k (the_word word.With)) (take (suc d) (items_wants of_settings (suc d) ++ kept sign.CloseBrace d ∷ make change ∷ []) (apply be_bare v))
     refuse)))
 
 -- the word that begins a declaration, and what follows it
@@ -270,7 +272,7 @@ decl_wants (kind.Reserved word.Goal) = Some (keep kind.Ident 0 ∷ past sign.Col
 decl_wants _ = None
 
 abbrev pub record_wants : List Want
-record_wants = row_wants of_fields 1 ++ kept sign.CloseBrace 0 ∷ make be_record ∷ []
+record_wants = items_wants of_fields 1 ++ kept sign.CloseBrace 0 ∷ make be_record ∷ []
 
 abbrev pub on_result : List Part → Token → TokenKind → Act
 on_result v t k =
@@ -301,7 +303,7 @@ act (more r d) v t k = cond (same k (the_sign (separator r))) (take d (element_w
 act (keep j d) v t k = cond (same k j) (take d [] (token t ∷ v)) refuse
 act (pass j d) v t k = cond (same k j) (take d [] v) refuse
 act (make r) v t k = skip (apply r v)
-act (call d) v t k = cond (same k (the_sign sign.OpenParen)) (take (suc d) (row_wants of_exprs (suc d) ++ kept sign.CloseParen d ∷ make call_it ∷ []) v) (skip (apply be_bare v))
+act (call d) v t k = cond (same k (the_sign sign.OpenParen)) (take (suc d) (items_wants of_exprs (suc d) ++ kept sign.CloseParen d ∷ make call_it ∷ []) v) (skip (apply be_bare v))
 act (bracket_end d) v t k =
     cond (same k (the_sign sign.CloseParen)) (take d (make enclose ∷ []) (token t ∷ v))
     (cond (same k (the_sign sign.Colon)) (take (suc d) (a_type (suc d) ∷ kept sign.CloseParen d ∷ make ascribe ∷ []) v) refuse)
@@ -309,20 +311,20 @@ act (brace d) v t k = cond (same k kind.Ident) (take (suc d) (brace_name d ∷ [
 act (brace_name d) v t k = on_brace_name d v t k
 act (triggers_or_dot d) v t k =
     cond (same k (the_sign sign.Dot)) (take d [] (triggers [] ∷ v))
-    (cond (same k (the_sign sign.OpenBracket)) (take (suc d) (row_wants of_triggers (suc d) ++ past sign.CloseBracket d ∷ past sign.Dot d ∷ []) v) refuse)
+    (cond (same k (the_sign sign.OpenBracket)) (take (suc d) (items_wants of_triggers (suc d) ++ past sign.CloseBracket d ∷ past sign.Dot d ∷ []) v) refuse)
 act a_file v t k = if_some (decl_wants k) (λ wants. take 0 (wants ++ make add ∷ a_file ∷ []) (token t ∷ v)) (skip v)
 act type_head v t k =
     cond (same k kind.Ident) (take 0 (type_body ∷ []) (token t ∷ names [] ∷ v))
     (cond (same k kind.TypeVar) (take 0 (keep kind.Ident 0 ∷ type_end ∷ []) (names (span t ∷ []) ∷ v))
-    (cond (same k (the_sign sign.OpenParen)) (take 1 (keep kind.TypeVar 1 ∷ past sign.Comma 1 ∷ row_wants of_vars 1 ++ past sign.CloseParen 0 ∷ make more_params ∷ keep kind.Ident 0 ∷ type_end ∷ []) v)
+    (cond (same k (the_sign sign.OpenParen)) (take 1 (keep kind.TypeVar 1 ∷ past sign.Comma 1 ∷ items_wants of_vars 1 ++ past sign.CloseParen 0 ∷ make more_params ∷ keep kind.Ident 0 ∷ type_end ∷ []) v)
     refuse))
-act type_body v t k = cond (same k (the_sign sign.Equal)) (take 0 (type_form ∷ []) v) (skip (apply be_abstract v))
-act type_form v t k =
+act type_body v t k = cond (same k (the_sign sign.Equal)) (take 0 (type_definition ∷ []) v) (skip (apply be_abstract v))
+act type_definition v t k =
     cond (same k (the_sign sign.OpenBrace)) (take 1 record_wants v)
     (cond (same k kind.Ident) (take 0 (make begin ∷ more of_constructors 0 ∷ make be_choice ∷ []) (token t ∷ v)) refuse)
 act type_end v t k = cond (same k (the_sign sign.Equal)) (take 0 (past sign.OpenBrace 1 ∷ record_wants) v) (skip (apply be_abstract v))
 act logic_head v t k =
-    cond (same k (the_word word.Ac)) (take 0 (row_wants of_names 0 ++ past sign.Colon 0 ∷ logic_sorts ∷ []) (flag true ∷ v))
+    cond (same k (the_word word.Ac)) (take 0 (items_wants of_names 0 ++ past sign.Colon 0 ∷ logic_sorts ∷ []) (flag true ∷ v))
     (cond (same k kind.Ident) (take 0 (make begin ∷ more of_names 0 ∷ past sign.Colon 0 ∷ logic_sorts ∷ []) (token t ∷ flag false ∷ v)) refuse)
 act logic_sorts v t k =
     cond (same k (the_word word.Prop)) (take 0 (make be_symbols ∷ []) (result (prop_at t) ∷ sorts [] ∷ v))
@@ -395,7 +397,7 @@ pub data Verdict : Type 0 where
 abbrev pub limited : ℕ → Outcome → Verdict
 limited left (read v) = all v
 limited left (stops n) = wrong n
-limited left (mark d o) = cond (nat_le d 1000) (limited (left - 1) o) (deep left)
+limited left (mark d o) = cond (nat_le d DEPTH_LIMIT) (limited (left - 1) o) (deep left)
 
 abbrev pub judge : List Token → List Want → List Part → Verdict
 judge ts s v = limited (length ts) (run ts s v)

@@ -10,165 +10,43 @@ use Rattle.ae_syntax.specs.declared.exprs.BinaryOp.{BinaryOp}
 use Rattle.ae_syntax.specs.declared.exprs.BinaryOp.TheVariants as op
 use Rattle.ae_syntax.specs.declared.faults.Refusal.{Refusal}
 use Rattle.ae_syntax.specs.declared.faults.Refusal.TheVariants.{Wrong, Deep, Memory}
-use Rattle.ae_syntax.specs.Kinds.{same, arrow, relation, additive, multiplicative}
+use Rattle.ae_syntax.specs.Kinds.{arrow, relation, additive, multiplicative}
+use Rattle.ae_syntax.specs.Inner.SameKinds.{same}
 use Rattle.ae_syntax.specs.Parts.{Part, token}
-use Rattle.ae_syntax.specs.Machine.{Want, an_expr, an_or, an_and, an_not, a_rel, a_sum, a_prod, a_unary, a_post, an_atom, more_arrow, more_or, more_and, more_rel, more_sum, more_prod, more_post, make, apply, Act, skip, take, opens, refuse, then_wants, act, idle, if_some, on_atom, on_post, on_unary, on_prod, on_sum, on_rel, on_not, on_and, on_or, unchained, operand, mark, ended, feed, finish, run, limited, judge, deep}
-use Rattle.ae_syntax.specs.Reading.{Done, Fails, Sinks, Answered, IsAt, Lacks, grip_of, grip}
-use Rattle.ae_syntax.proofs.ComposedSteps.{went, judge_is, judge_act, judge_at, judge_make, went_skip, went_opens, went_opens_deep, left_at}
+use Rattle.ae_syntax.specs.Inner.Machine.{Want, an_expr, an_or, an_and, an_not, a_rel, a_sum, a_prod, a_unary, a_post, an_atom, more_arrow, more_or, more_and, more_rel, more_sum, more_prod, more_post, make, apply, Act, skip, take, opens, refuse, then_wants, act, idle, if_some, on_atom, on_post, on_unary, on_prod, on_sum, on_rel, on_not, on_and, on_or, unchained, operand, mark, ended, feed, finish, run, limited, judge, deep}
+use Rattle.ae_syntax.specs.Inner.Reading.{Done, Fails, Sinks, Answered, IsAt, Lacks, grip_of, grip}
+use Rattle.ae_syntax.proofs.Acts.{Plain}
+use Rattle.ae_syntax.proofs.Steps.{went as run_went}
+use Rattle.ae_syntax.proofs.Levels.{deeper_plain}
+use Rattle.ae_syntax.proofs.Levels as levels
+use Rattle.ae_syntax.proofs.ParserMeetsMachine.Steps.{went, judge_is, judge_act, judge_at, judge_make, went_skip, went_opens, went_opens_deep, left_at}
+use Rattle.ae_syntax.specs.declared.cursor.TheConstants.{DEPTH_LIMIT}
 
 -- ---- a level is the tighter level with a chain
-unfoldable pub Firm : Act → Type 0
-Firm (skip u) = ⊥
-Firm _ = Unit {0}
-
--- an act of the levels below an open form
-unfoldable pub Plain : Act → Type 0
-Plain (take d new u) = Unit {0}
-Plain refuse = Unit {0}
-Plain _ = ⊥
-
-firm_plain : (a : Act) → Plain a → Firm a
-unfolding Firm Plain
-firm_plain (take d new u) p = tt
-firm_plain refuse p = tt
-firm_plain (skip u) p = absurd p
-firm_plain (opens d new u) p = absurd p
-
-firm_cond : (b : Bool) (x y : Act) → Firm x → Firm y → Firm (cond b x y)
-unfolding Firm
-firm_cond true x y p q = p
-firm_cond false x y p q = q
-
-plain_cond : (b : Bool) (x y : Act) → Plain x → Plain y → Plain (cond b x y)
-unfolding Plain
-plain_cond true x y p q = p
-plain_cond false x y p q = q
-
-firm_some : {A : Type 0} (o : Option A) (f : A → Act) (y : Act) → ((a : A) → Firm (f a)) → Firm y → Firm (if_some o f y)
-unfolding Firm
-firm_some (Some a) f y p q = p a
-firm_some None f y p q = q
-
-plain_some : {A : Type 0} (o : Option A) (f : A → Act) (y : Act) → ((a : A) → Plain (f a)) → Plain y → Plain (if_some o f y)
-unfolding Plain
-plain_some (Some a) f y p q = p a
-plain_some None f y p q = q
-
-firm_then : (a : Act) (m : List Want) → Firm a → Firm (then_wants a m)
-unfolding Firm
-firm_then (skip u) m f = absurd f
-firm_then (take d new u) m f = tt
-firm_then (opens d new u) m f = tt
-firm_then refuse m f = tt
-
-plain_then : (a : Act) (m : List Want) → Plain a → Plain (then_wants a m)
-unfolding Plain
-plain_then (take d new u) m f = tt
-plain_then refuse m f = tt
-plain_then (skip u) m f = absurd f
-plain_then (opens d new u) m f = absurd f
-
-plain_take : (d : ℕ) (new : List Want) (u : List Part) → Plain (take d new u)
-unfolding Plain
-plain_take d new u = tt
-
-plain_refuse : Plain refuse
-unfolding Plain
-plain_refuse = tt
-
-firm_take : (d : ℕ) (new : List Want) (u : List Part) → Firm (take d new u)
-unfolding Firm
-firm_take d new u = tt
-
-firm_opens : (d : ℕ) (new : List Want) (u : List Part) → Firm (opens d new u)
-unfolding Firm
-firm_opens d new u = tt
-
-plain_atom : (d : ℕ) (v : List Part) (t : Token) (k : TokenKind) → Plain (on_atom d v t k)
-plain_atom d v t k = search (plain_cond, plain_some, plain_take, plain_refuse) depth 12
-
-pub plain_post : (d : ℕ) (v : List Part) (t : Token) (k : TokenKind) → Plain (on_post d v t k)
-plain_post d v t k = plain_then _ _ (plain_atom d v t k)
-
-plain_unary : (d : ℕ) (v : List Part) (t : Token) (k : TokenKind) → Plain (on_unary d v t k)
-plain_unary d v t k = search (plain_cond, plain_take, plain_post)
-
-plain_prod : (d : ℕ) (v : List Part) (t : Token) (k : TokenKind) → Plain (on_prod d v t k)
-plain_prod d v t k = plain_then _ _ (plain_unary d v t k)
-
-plain_sum : (d : ℕ) (v : List Part) (t : Token) (k : TokenKind) → Plain (on_sum d v t k)
-plain_sum d v t k = plain_then _ _ (plain_prod d v t k)
-
-plain_rel : (d : ℕ) (v : List Part) (t : Token) (k : TokenKind) → Plain (on_rel d v t k)
-plain_rel d v t k = plain_then _ _ (plain_sum d v t k)
-
-firm_of_rel : (d : ℕ) (v : List Part) (t : Token) (k : TokenKind) → Firm (on_rel d v t k)
-firm_of_rel d v t k = firm_plain _ (plain_rel d v t k)
-
-firm_not : (d : ℕ) (v : List Part) (t : Token) (k : TokenKind) → Firm (on_not d v t k)
-firm_not d v t k = search (firm_cond, firm_some, firm_take, firm_opens, firm_of_rel) depth 12
-
-firm_and : (d : ℕ) (v : List Part) (t : Token) (k : TokenKind) → Firm (on_and d v t k)
-firm_and d v t k = firm_then _ _ (firm_not d v t k)
-
-firm_or : (d : ℕ) (v : List Part) (t : Token) (k : TokenKind) → Firm (on_or d v t k)
-firm_or d v t k = firm_then _ _ (firm_and d v t k)
-
-deeper : (a : Act) (m : Want) (ss : List Want) (t : Token) (ts : List Token) → Firm a → unchained (m ∷ ss) ≡ unchained ss → went (then_wants a (m ∷ [])) ss t ts ≡ went a (m ∷ ss) t ts
-unfolding went run feed Firm
-deeper (skip u) m ss t ts f e = absurd f
-deeper (take d new u) m ss t ts f e = ap (λ z. limited (suc (length ts)) (mark d (run ts z u))) (append_assoc new (m ∷ []) ss)
-deeper (opens d new u) m ss t ts f e = ap (λ z. limited (suc (length ts)) (mark d (run ts (new ++ z) u))) (sym e)
-deeper refuse m ss t ts f e = refl
-
-deeper_plain : (a : Act) (m : Want) (ss : List Want) (t : Token) (ts : List Token) → Plain a → went (then_wants a (m ∷ [])) ss t ts ≡ went a (m ∷ ss) t ts
-unfolding went run feed Plain
-deeper_plain (take d new u) m ss t ts f = ap (λ z. limited (suc (length ts)) (mark d (run ts z u))) (append_assoc new (m ∷ []) ss)
-deeper_plain refuse m ss t ts f = refl
-deeper_plain (skip u) m ss t ts f = absurd f
-deeper_plain (opens d new u) m ss t ts f = absurd f
-
 pub deeper_plain_list : (a : Act) (ms : List Want) (ss : List Want) (t : Token) (ts : List Token) → Plain a → went (then_wants a ms) ss t ts ≡ went a (ms ++ ss) t ts
-unfolding went run feed Plain
-deeper_plain_list (take d new u) ms ss t ts f = ap (λ z. limited (suc (length ts)) (mark d (run ts z u))) (append_assoc new ms ss)
-deeper_plain_list refuse ms ss t ts f = refl
-deeper_plain_list (skip u) ms ss t ts f = absurd f
-deeper_plain_list (opens d new u) ms ss t ts f = absurd f
+unfolding went run_went
+deeper_plain_list a ms ss t ts f = ap (limited (suc (length ts))) (deeper_plain a ms ss t ts f)
 
 pub as_post : (d : ℕ) (rest : List Token) (ss : List Want) (v : List Part) → judge rest (a_post d ∷ ss) v ≡ judge rest (an_atom d ∷ more_post d ∷ ss) v
-unfolding run finish
-as_post d [] ss v = refl
-as_post d (t ∷ ts) ss v = judge_is t ts (a_post d) ss v ∙ deeper_plain _ (more_post d) ss t ts (plain_atom d v t t.kind) ∙ sym (judge_is t ts (an_atom d) (more_post d ∷ ss) v)
+as_post d rest ss v = ap (limited (length rest)) (levels.as_post d rest ss v)
 
 pub as_prod : (d : ℕ) (rest : List Token) (ss : List Want) (v : List Part) → judge rest (a_prod d ∷ ss) v ≡ judge rest (a_unary d ∷ more_prod d ∷ ss) v
-unfolding run finish
-as_prod d [] ss v = refl
-as_prod d (t ∷ ts) ss v = judge_is t ts (a_prod d) ss v ∙ deeper_plain _ (more_prod d) ss t ts (plain_unary d v t t.kind) ∙ sym (judge_is t ts (a_unary d) (more_prod d ∷ ss) v)
+as_prod d rest ss v = ap (limited (length rest)) (levels.as_prod d rest ss v)
 
 pub as_sum : (d : ℕ) (rest : List Token) (ss : List Want) (v : List Part) → judge rest (a_sum d ∷ ss) v ≡ judge rest (a_prod d ∷ more_sum d ∷ ss) v
-unfolding run finish
-as_sum d [] ss v = refl
-as_sum d (t ∷ ts) ss v = judge_is t ts (a_sum d) ss v ∙ deeper_plain _ (more_sum d) ss t ts (plain_prod d v t t.kind) ∙ sym (judge_is t ts (a_prod d) (more_sum d ∷ ss) v)
+as_sum d rest ss v = ap (limited (length rest)) (levels.as_sum d rest ss v)
 
 pub as_rel : (d : ℕ) (rest : List Token) (ss : List Want) (v : List Part) → judge rest (a_rel d ∷ ss) v ≡ judge rest (a_sum d ∷ more_rel d ∷ ss) v
-unfolding run finish
-as_rel d [] ss v = refl
-as_rel d (t ∷ ts) ss v = judge_is t ts (a_rel d) ss v ∙ deeper_plain _ (more_rel d) ss t ts (plain_sum d v t t.kind) ∙ sym (judge_is t ts (a_sum d) (more_rel d ∷ ss) v)
+as_rel d rest ss v = ap (limited (length rest)) (levels.as_rel d rest ss v)
 
 pub as_and : (d : ℕ) (rest : List Token) (ss : List Want) (v : List Part) → judge rest (an_and d ∷ ss) v ≡ judge rest (an_not d ∷ more_and d ∷ ss) v
-unfolding run finish
-as_and d [] ss v = refl
-as_and d (t ∷ ts) ss v = judge_is t ts (an_and d) ss v ∙ deeper _ (more_and d) ss t ts (firm_not d v t t.kind) refl ∙ sym (judge_is t ts (an_not d) (more_and d ∷ ss) v)
+as_and d rest ss v = ap (limited (length rest)) (levels.as_and d rest ss v)
 
 pub as_or : (d : ℕ) (rest : List Token) (ss : List Want) (v : List Part) → judge rest (an_or d ∷ ss) v ≡ judge rest (an_and d ∷ more_or d ∷ ss) v
-unfolding run finish
-as_or d [] ss v = refl
-as_or d (t ∷ ts) ss v = judge_is t ts (an_or d) ss v ∙ deeper _ (more_or d) ss t ts (firm_and d v t t.kind) refl ∙ sym (judge_is t ts (an_and d) (more_or d ∷ ss) v)
+as_or d rest ss v = ap (limited (length rest)) (levels.as_or d rest ss v)
 
 pub as_expr : (d : ℕ) (rest : List Token) (ss : List Want) (v : List Part) → judge rest (an_expr d ∷ ss) v ≡ judge rest (an_or d ∷ more_arrow d ∷ ss) v
-unfolding run finish
-as_expr d [] ss v = refl
-as_expr d (t ∷ ts) ss v = judge_is t ts (an_expr d) ss v ∙ deeper _ (more_arrow d) ss t ts (firm_or d v t t.kind) refl ∙ sym (judge_is t ts (an_or d) (more_arrow d ∷ ss) v)
+as_expr d rest ss v = ap (limited (length rest)) (levels.as_expr d rest ss v)
 
 pub expr_levels : (d : ℕ) (rest : List Token) (ss : List Want) (v : List Part) → judge rest (an_expr d ∷ ss) v ≡ judge rest (an_not d ∷ more_and d ∷ more_or d ∷ more_arrow d ∷ ss) v
 expr_levels d rest ss v = as_expr d rest ss v ∙ as_or d rest (more_arrow d ∷ ss) v ∙ as_and d rest (more_or d ∷ more_arrow d ∷ ss) v
@@ -328,7 +206,7 @@ past_chains rest (make r ∷ ss) v l = judge_make r rest (unchained ss) v ∙ pa
 past_chains rest (s ∷ ss) v l = refl
 
 -- ---- an open form
-pub opened : {A : Type 0} (part : A → Part) (T : List Token) (s : Want) (at n : ℕ) (t : Token) (new : List Want) (r : Result (A × ℕ) Refusal) → IsAt T at t → n ≤ 1000 → ((v : List Part) → act s v t t.kind ≡ opens n new (token t ∷ v)) → Answered part new (token t ∷ []) T 1 (at + 1) r → Answered part (s ∷ []) [] T 1 at r
+pub opened : {A : Type 0} (part : A → Part) (T : List Token) (s : Want) (at n : ℕ) (t : Token) (new : List Want) (r : Result (A × ℕ) Refusal) → IsAt T at t → n ≤ DEPTH_LIMIT → ((v : List Part) → act s v t t.kind ≡ opens n new (token t ∷ v)) → Answered part new (token t ∷ []) T 1 (at + 1) r → Answered part (s ∷ []) [] T 1 at r
 opened part T s at n t new (Ok p) i l a d = record {
   runs = λ ss v. judge_at T at t s ss v _ i (a v) ∙ went_opens n new (token t ∷ v) ss t (drop (at + 1) T) l ∙ d.runs (unchained ss) v ∙ past_chains (drop p.1 T) ss (part p.0 ∷ v) d.weak;
   further = let f = d.further in omega (arith, f);
@@ -339,5 +217,5 @@ opened part T s at n t new (Err (Wrong k)) i l a d = record { runs = λ ss v. ju
 opened part T s at n t new (Err (Deep k)) i l a d = record { runs = λ ss v. judge_at T at t s ss v _ i (a v) ∙ went_opens n new (token t ∷ v) ss t (drop (at + 1) T) l ∙ d.runs (unchained ss) v; within = d.within }
 opened part T s at n t new (Err Memory) i l a d = tt
 
-pub opened_deep : {A : Type 0} (part : A → Part) (T : List Token) (s : Want) (at n : ℕ) (t : Token) (new : List Want) (e : Refusal) → IsAt T at t → 1000 < n → ((v : List Part) → act s v t t.kind ≡ opens n new (token t ∷ v)) → e ≡ Deep at → Answered part (s ∷ []) [] T 1 at (Err e)
+pub opened_deep : {A : Type 0} (part : A → Part) (T : List Token) (s : Want) (at n : ℕ) (t : Token) (new : List Want) (e : Refusal) → IsAt T at t → DEPTH_LIMIT < n → ((v : List Part) → act s v t t.kind ≡ opens n new (token t ∷ v)) → e ≡ Deep at → Answered part (s ∷ []) [] T 1 at (Err e)
 opened_deep part T s at n t new e i l a h = subst (λ e. Answered part (s ∷ []) [] T 1 at (Err e)) (sym h) (record { runs = λ ss v. judge_at T at t s ss v _ i (a v) ∙ went_opens_deep n new (token t ∷ v) ss t (drop (at + 1) T) l ∙ ap deep (left_at T at t i); within = i.within })

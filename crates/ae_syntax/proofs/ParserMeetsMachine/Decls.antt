@@ -10,17 +10,18 @@ use Rattle.ae_lex.specs.declared.kinds.Sign.{Sign}
 use Rattle.ae_lex.specs.declared.kinds.Sign.TheVariants as sign
 use Rattle.ae_syntax.specs.declared.faults.Refusal.{Refusal}
 use Rattle.ae_syntax.specs.declared.faults.Refusal.TheVariants.{Wrong, Deep, Memory}
-use Rattle.ae_syntax.specs.Kinds.{same}
+use Rattle.ae_syntax.specs.Inner.SameKinds.{same}
 use Rattle.ae_syntax.specs.Parts.{Part, last_or, abstract_type, logic_of, a_sort, prop_at, alone, and_then, token, flag, sort, typed, result, decl, names, sorts, typeds, decls, span, type_span, named_after}
 use Rattle.ae_syntax.specs.declared.spans.Span.{Span}
 use Rattle.ae_syntax.specs.declared.decls.Decl.{Decl}
 use Rattle.ae_syntax.specs.declared.decls.TypedName.{TypedName}
 use Rattle.ae_syntax.specs.declared.types.WrittenType.{WrittenType}
-use Rattle.ae_syntax.specs.Grammar.{Row, of_types, of_vars, of_names, of_constructors, of_formals, separator}
-use Rattle.ae_syntax.specs.Machine.{Want, type_head, type_body, type_form, type_end, logic_head, logic_sorts, after_sort, a_result, formals_end, predicate_head, record_wants, more_params, be_choice, be_symbols, sort_result, on_type, feed, finish as finish_run, run, all, a_file, decl_wants, a_type, more_type, base_type, bracketed_sorts, bracket_sorts, row_wants, more, begin, add, past, the_sign, element_wants, typed_wants, give_type, named, if_some, keep, pass, make, Rule, apply, Act, skip, take, refuse, then_wants, act, idle, wrong, deep, judge}
-use Rattle.ae_syntax.specs.Reading.{grip_of, grip, Done, Answered, IsAt, Stands, Lacks}
-use Rattle.ae_syntax.specs.ReadingDecls.{Leads, Halts, at_wrong, at_deep, for_memory, SortsGoOn, DeclRead, FileRead}
-use Rattle.ae_syntax.proofs.ComposedSteps.{went, judge_act, went_refuse, went_skip, judge_at, went_take, went_deep, left_at, Refuses, refused, Skips, skipped, judge_make, no_keep, no_pass, relay, Reaches}
+use Rattle.ae_syntax.specs.Grammar.{Items, of_types, of_vars, of_names, of_constructors, of_formals, separator}
+use Rattle.ae_syntax.specs.Inner.Machine.{Want, type_head, type_body, type_definition, type_end, logic_head, logic_sorts, after_sort, a_result, formals_end, predicate_head, record_wants, more_params, be_choice, be_symbols, sort_result, on_type, feed, finish as finish_run, run, all, a_file, decl_wants, a_type, more_type, base_type, bracketed_sorts, bracket_sorts, items_wants, more, begin, add, past, the_sign, element_wants, typed_wants, give_type, named, if_some, keep, pass, make, Rule, apply, Act, skip, take, refuse, then_wants, act, idle, wrong, deep, judge}
+use Rattle.ae_syntax.specs.Inner.Reading.{grip_of, grip, Done, Answered, IsAt, Stands, Lacks}
+use Rattle.ae_syntax.specs.Inner.ReadingDecls.{Leads, Halts, at_wrong, at_deep, for_memory, SortsGoOn, DeclRead, FileRead}
+use Rattle.ae_syntax.proofs.ParserMeetsMachine.Steps.{went, judge_act, went_refuse, went_skip, judge_at, went_take, went_deep, left_at, Refuses, refused, Skips, skipped, judge_make, no_keep, no_pass, relay, Reaches}
+use Rattle.ae_syntax.specs.declared.cursor.TheConstants.{DEPTH_LIMIT}
 
 -- ---- one after the other
 pub leads_on : {W W' W'' : List Want} {G G' G'' : List Part} {T : List Token} {at mid to : ℕ} → Leads W G T at W' G' mid → Leads W' G' T mid W'' G'' to → Leads W G T at W'' G'' to
@@ -87,7 +88,7 @@ halts_before W G (for_memory i) = for_memory i
 
 -- ---- a token
 -- the token at a place is taken by the top want
-pub takes : {s : Want} (W : List Want) (G : List Part) {T : List Token} {at : ℕ} {t : Token} (d : ℕ) (new : List Want) (G' : List Part) → IsAt T at t → ((v : List Part) → act s (G ++ v) t t.kind ≡ take d new (G' ++ v)) → d ≤ 1000 → Leads (s ∷ W) G T at (new ++ W) G' (at + 1)
+pub takes : {s : Want} (W : List Want) (G : List Part) {T : List Token} {at : ℕ} {t : Token} (d : ℕ) (new : List Want) (G' : List Part) → IsAt T at t → ((v : List Part) → act s (G ++ v) t t.kind ≡ take d new (G' ++ v)) → d ≤ DEPTH_LIMIT → Leads (s ∷ W) G T at (new ++ W) G' (at + 1)
 takes {s} W G {T} {at} {t} d new G' i a l = record {
   runs = λ ss v. judge_at T at t s (W ++ ss) (G ++ v) (take d new (G' ++ v)) i (a v) ∙ went_take d new (G' ++ v) (W ++ ss) t (drop (at + 1) T) l ∙ ap (λ z. judge (drop (at + 1) T) z (G' ++ v)) (sym (append_assoc new W ss));
   further = omega arith;
@@ -95,7 +96,7 @@ takes {s} W G {T} {at} {t} d new G' i a l = record {
 }
 
 -- or is too deep for it
-pub sinks : {s : Want} (W : List Want) (G : List Part) {T : List Token} {at : ℕ} {t : Token} {e : Refusal} (d : ℕ) (new : List Want) (G' : List Part) → IsAt T at t → ((v : List Part) → act s (G ++ v) t t.kind ≡ take d new (G' ++ v)) → 1000 < d → e ≡ Deep at → Halts (s ∷ W) G T at e
+pub sinks : {s : Want} (W : List Want) (G : List Part) {T : List Token} {at : ℕ} {t : Token} {e : Refusal} (d : ℕ) (new : List Want) (G' : List Part) → IsAt T at t → ((v : List Part) → act s (G ++ v) t t.kind ≡ take d new (G' ++ v)) → DEPTH_LIMIT < d → e ≡ Deep at → Halts (s ∷ W) G T at e
 sinks {s} W G {T} {at} {t} d new G' i a l h = at_deep at h (record {
   runs = λ ss v. judge_at T at t s (W ++ ss) (G ++ v) (take d new (G' ++ v)) i (a v) ∙ went_deep d new (G' ++ v) (W ++ ss) t (drop (at + 1) T) l ∙ ap deep (left_at T at t i);
   within = i.within;
@@ -110,10 +111,10 @@ pub passes : {s : Want} (W : List Want) (G G' : List Part) {T : List Token} {at 
 passes {s} W G G' {T} {at} l k = record { runs = λ ss v. skipped T at s (W ++ ss) (G ++ v) (G' ++ v) (k v); further = omega arith; within = l }
 
 -- ---- tokens of one kind
-pub keeps : {k : TokenKind} {d : ℕ} (W : List Want) (G : List Part) {T : List Token} {at : ℕ} {t : Token} → IsAt T at t → same t.kind k ≡ true → d ≤ 1000 → Leads (keep k d ∷ W) G T at W (token t ∷ G) (at + 1)
+pub keeps : {k : TokenKind} {d : ℕ} (W : List Want) (G : List Part) {T : List Token} {at : ℕ} {t : Token} → IsAt T at t → same t.kind k ≡ true → d ≤ DEPTH_LIMIT → Leads (keep k d ∷ W) G T at W (token t ∷ G) (at + 1)
 keeps {k} {d} W G {T} {at} {t} i e l = takes W G d [] (token t ∷ G) i (λ v. ap (λ b. cond b (take d [] (token t ∷ G ++ v)) refuse) e) l
 
-pub lets_pass : {k : TokenKind} {d : ℕ} (W : List Want) (G : List Part) {T : List Token} {at : ℕ} {t : Token} → IsAt T at t → same t.kind k ≡ true → d ≤ 1000 → Leads (pass k d ∷ W) G T at W G (at + 1)
+pub lets_pass : {k : TokenKind} {d : ℕ} (W : List Want) (G : List Part) {T : List Token} {at : ℕ} {t : Token} → IsAt T at t → same t.kind k ≡ true → d ≤ DEPTH_LIMIT → Leads (pass k d ∷ W) G T at W G (at + 1)
 lets_pass {k} {d} W G {T} {at} {t} i e l = takes W G d [] G i (λ v. ap (λ b. cond b (take d [] (G ++ v)) refuse) e) l
 
 pub lacks_kept : {k : TokenKind} {d : ℕ} (W : List Want) (G : List Part) {T : List Token} {at : ℕ} {e : Refusal} → at ≤ length T → Lacks k T at → e ≡ Wrong at → Halts (keep k d ∷ W) G T at e
@@ -140,14 +141,14 @@ type_ends T at d s l n = leads_done (passes [] (sort s ∷ []) (sort s ∷ []) l
 postfix : (T : List Token) (at d : ℕ) (s : WrittenType) (t : Token) (v : List Part) → same t.kind kind.Ident ≡ true → act (more_type d) (sort s ∷ v) t t.kind ≡ take (suc d) (more_type (suc d) ∷ []) (sort (named_after (type_span s) (s ∷ []) t) ∷ v)
 postfix T at d s t v e = ap (λ b. cond b (take (suc d) (more_type (suc d) ∷ []) (named t (sort s ∷ v))) (skip (sort s ∷ v))) e
 
-pub type_sinks : (T : List Token) (at d : ℕ) (s : WrittenType) (t : Token) (e : Refusal) → IsAt T at t → same t.kind kind.Ident ≡ true → 1000 < suc d → e ≡ Deep at → SortAnswered (more_type d ∷ []) (sort s ∷ []) T at (Err e)
+pub type_sinks : (T : List Token) (at d : ℕ) (s : WrittenType) (t : Token) (e : Refusal) → IsAt T at t → same t.kind kind.Ident ≡ true → DEPTH_LIMIT < suc d → e ≡ Deep at → SortAnswered (more_type d ∷ []) (sort s ∷ []) T at (Err e)
 type_sinks T at d s t e i k l h = halts_answer (λ s. sort s) 8 (sinks [] (sort s ∷ []) (suc d) (more_type (suc d) ∷ []) (sort (named_after (type_span s) (s ∷ []) t) ∷ []) i (λ v. postfix T at d s t v k) l h)
 
-pub type_goes_on : (T : List Token) (at d d' : ℕ) (s s' : WrittenType) (t : Token) (r : Result (WrittenType × ℕ) Refusal) → IsAt T at t → same t.kind kind.Ident ≡ true → d' ≡ suc d → d' ≤ 1000 → s' ≡ named_after (type_span s) (s ∷ []) t → SortAnswered (more_type d' ∷ []) (sort s' ∷ []) T (at + 1) r → SortAnswered (more_type d ∷ []) (sort s ∷ []) T at r
-type_goes_on T at d d' s s' t r i k m l h a = relays (λ s. sort s) 8 r (takes [] (sort s ∷ []) (suc d) (more_type (suc d) ∷ []) (sort (named_after (type_span s) (s ∷ []) t) ∷ []) i (λ v. postfix T at d s t v k) (subst (λ n. n ≤ 1000) m l)) (subst (λ n. SortAnswered (more_type n ∷ []) (sort (named_after (type_span s) (s ∷ []) t) ∷ []) T (at + 1) r) m (subst (λ z. SortAnswered (more_type d' ∷ []) (sort z ∷ []) T (at + 1) r) h a))
+pub type_goes_on : (T : List Token) (at d d' : ℕ) (s s' : WrittenType) (t : Token) (r : Result (WrittenType × ℕ) Refusal) → IsAt T at t → same t.kind kind.Ident ≡ true → d' ≡ suc d → d' ≤ DEPTH_LIMIT → s' ≡ named_after (type_span s) (s ∷ []) t → SortAnswered (more_type d' ∷ []) (sort s' ∷ []) T (at + 1) r → SortAnswered (more_type d ∷ []) (sort s ∷ []) T at r
+type_goes_on T at d d' s s' t r i k m l h a = relays (λ s. sort s) 8 r (takes [] (sort s ∷ []) (suc d) (more_type (suc d) ∷ []) (sort (named_after (type_span s) (s ∷ []) t) ∷ []) i (λ v. postfix T at d s t v k) (subst (λ n. n ≤ DEPTH_LIMIT) m l)) (subst (λ n. SortAnswered (more_type n ∷ []) (sort (named_after (type_span s) (s ∷ []) t) ∷ []) T (at + 1) r) m (subst (λ z. SortAnswered (more_type d' ∷ []) (sort z ∷ []) T (at + 1) r) h a))
 
 -- the next token begins a type that is one token
-pub base_reads : (T : List Token) (at d : ℕ) (t : Token) (s : WrittenType) (r : Result (WrittenType × ℕ) Refusal) → IsAt T at t → base_type t t.kind ≡ Some s → d ≤ 1000 → SortAnswered (more_type d ∷ []) (sort s ∷ []) T (at + 1) r → SortAnswered (a_type d ∷ []) [] T at r
+pub base_reads : (T : List Token) (at d : ℕ) (t : Token) (s : WrittenType) (r : Result (WrittenType × ℕ) Refusal) → IsAt T at t → base_type t t.kind ≡ Some s → d ≤ DEPTH_LIMIT → SortAnswered (more_type d ∷ []) (sort s ∷ []) T (at + 1) r → SortAnswered (a_type d ∷ []) [] T at r
 base_reads T at d t s r i b l a = relays (λ s. sort s) 8 r (takes [] [] d (more_type d ∷ []) (sort s ∷ []) i (λ v. ap (λ z. if_some z (λ s. take d (more_type d ∷ []) (sort s ∷ v)) (cond (same t.kind (the_sign sign.OpenParen)) (take (suc d) (bracketed_sorts d) (token t ∷ v)) refuse)) b) l) a
 
 pub no_type : (T : List Token) (at d : ℕ) (t : Token) (e : Refusal) → IsAt T at t → base_type t t.kind ≡ None → same t.kind (the_sign sign.OpenParen) ≡ false → e ≡ Wrong at → SortAnswered (a_type d ∷ []) [] T at (Err e)
@@ -160,28 +161,28 @@ pub type_missing : (T : List Token) (at d : ℕ) (e : Refusal) → at ≤ length
 type_missing T at d e l n h = halts_answer (λ s. sort s) 8 (stops_here [] [] l (λ v. record { here = λ t ts q. absurd (let z : 0 ≡ suc (length ts) = sym (ap length n) ∙ ap length q in omega arith); end = refl }) h)
 
 -- what a bracket begins
-pub bracket_opens : (W : List Want) (G : List Part) (T : List Token) (at d d' : ℕ) (t : Token) → IsAt T at t → base_type t t.kind ≡ None → same t.kind (the_sign sign.OpenParen) ≡ true → d' ≡ suc d → d' ≤ 1000 → Leads (a_type d ∷ W) G T at (bracketed_sorts d ++ W) (token t ∷ G) (at + 1)
-bracket_opens W G T at d d' t i b k m l = takes W G (suc d) (bracketed_sorts d) (token t ∷ G) i (λ v. bracketed T at d t (G ++ v) b k) (subst (λ n. n ≤ 1000) m l)
+pub bracket_opens : (W : List Want) (G : List Part) (T : List Token) (at d d' : ℕ) (t : Token) → IsAt T at t → base_type t t.kind ≡ None → same t.kind (the_sign sign.OpenParen) ≡ true → d' ≡ suc d → d' ≤ DEPTH_LIMIT → Leads (a_type d ∷ W) G T at (bracketed_sorts d ++ W) (token t ∷ G) (at + 1)
+bracket_opens W G T at d d' t i b k m l = takes W G (suc d) (bracketed_sorts d) (token t ∷ G) i (λ v. bracketed T at d t (G ++ v) b k) (subst (λ n. n ≤ DEPTH_LIMIT) m l)
   where
     bracketed : (T : List Token) (at d : ℕ) (t : Token) (v : List Part) → base_type t t.kind ≡ None → same t.kind (the_sign sign.OpenParen) ≡ true → act (a_type d) v t t.kind ≡ take (suc d) (bracketed_sorts d) (token t ∷ v)
     bracketed T at d t v b k = ap (λ z. if_some z (λ s. take d (more_type d ∷ []) (sort s ∷ v)) (cond (same t.kind (the_sign sign.OpenParen)) (take (suc d) (bracketed_sorts d) (token t ∷ v)) refuse)) b ∙ ap (λ b. cond b (take (suc d) (bracketed_sorts d) (token t ∷ v)) refuse) k
 
-pub bracket_sinks : (T : List Token) (at d : ℕ) (t : Token) (e : Refusal) → IsAt T at t → base_type t t.kind ≡ None → same t.kind (the_sign sign.OpenParen) ≡ true → 1000 < suc d → e ≡ Deep at → SortAnswered (a_type d ∷ []) [] T at (Err e)
+pub bracket_sinks : (T : List Token) (at d : ℕ) (t : Token) (e : Refusal) → IsAt T at t → base_type t t.kind ≡ None → same t.kind (the_sign sign.OpenParen) ≡ true → DEPTH_LIMIT < suc d → e ≡ Deep at → SortAnswered (a_type d ∷ []) [] T at (Err e)
 bracket_sinks T at d t e i b k l h = halts_answer (λ s. sort s) 8 (sinks [] [] (suc d) (bracketed_sorts d) (token t ∷ []) i (λ v. ap (λ z. if_some z (λ s. take d (more_type d ∷ []) (sort s ∷ v)) (cond (same t.kind (the_sign sign.OpenParen)) (take (suc d) (bracketed_sorts d) (token t ∷ v)) refuse)) b ∙ ap (λ b. cond b (take (suc d) (bracketed_sorts d) (token t ∷ v)) refuse) k) l h)
 
--- ---- rows
-pub row_goes_on : (r : Row) (s : Sign) (d : ℕ) (W : List Want) (G : List Part) {T : List Token} {at : ℕ} {t : Token} → IsAt T at t → same t.kind (kind.Sign s) ≡ true → separator r ≡ s → d ≤ 1000 → Leads (more r d ∷ W) G T at ((element_wants r d ++ make add ∷ more r d ∷ []) ++ W) G (at + 1)
-row_goes_on r s d W G {T} {at} {t} i k e l = takes W G d (element_wants r d ++ make add ∷ more r d ∷ []) G i (λ v. ap (λ b. cond b (take d (element_wants r d ++ make add ∷ more r d ∷ []) (G ++ v)) (skip (G ++ v))) (ap (λ z. same t.kind (kind.Sign z)) e ∙ k)) l
+-- ---- items
+pub items_goes_on : (r : Items) (s : Sign) (d : ℕ) (W : List Want) (G : List Part) {T : List Token} {at : ℕ} {t : Token} → IsAt T at t → same t.kind (kind.Sign s) ≡ true → separator r ≡ s → d ≤ DEPTH_LIMIT → Leads (more r d ∷ W) G T at ((element_wants r d ++ make add ∷ more r d ∷ []) ++ W) G (at + 1)
+items_goes_on r s d W G {T} {at} {t} i k e l = takes W G d (element_wants r d ++ make add ∷ more r d ∷ []) G i (λ v. ap (λ b. cond b (take d (element_wants r d ++ make add ∷ more r d ∷ []) (G ++ v)) (skip (G ++ v))) (ap (λ z. same t.kind (kind.Sign z)) e ∙ k)) l
 
-pub row_ends : (r : Row) (s : Sign) (d : ℕ) (W : List Want) (G : List Part) {T : List Token} {at : ℕ} → at ≤ length T → Lacks (kind.Sign s) T at → separator r ≡ s → Leads (more r d ∷ W) G T at W G at
-row_ends r s d W G {T} {at} l n e = passes W G G l (λ v. record { here = λ t ts q. ap (λ b. cond b (take d (element_wants r d ++ make add ∷ more r d ∷ []) (G ++ v)) (skip (G ++ v))) (ap (λ z. same t.kind (kind.Sign z)) e ∙ n.none t ts q); end = refl })
+pub items_ends : (r : Items) (s : Sign) (d : ℕ) (W : List Want) (G : List Part) {T : List Token} {at : ℕ} → at ≤ length T → Lacks (kind.Sign s) T at → separator r ≡ s → Leads (more r d ∷ W) G T at W G at
+items_ends r s d W G {T} {at} l n e = passes W G G l (λ v. record { here = λ t ts q. ap (λ b. cond b (take d (element_wants r d ++ make add ∷ more r d ∷ []) (G ++ v)) (skip (G ++ v))) (ap (λ z. same t.kind (kind.Sign z)) e ∙ n.none t ts q); end = refl })
 
 -- ---- more types
-pub one_more_sort : (T : List Token) (at to d : ℕ) (s : WrittenType) (xs : List WrittenType) → Stands (kind.Sign sign.Comma) T at → d ≤ 1000 → Done (a_type d ∷ []) [] T 8 (at + 1) to (sort s) → Leads (more of_types d ∷ []) (sorts xs ∷ []) T at (more of_types d ∷ []) (sorts (xs ++ s ∷ []) ∷ []) to
-one_more_sort T at to d s xs c l a = leads_on (row_goes_on of_types sign.Comma d [] (sorts xs ∷ []) {T = T} {at = at} {t = c.token} (record { next = c.next; within = c.within }) c.is refl l) (leads_on (leads_done_first (make add ∷ more of_types d ∷ []) (sorts xs ∷ []) a) (makes (more of_types d ∷ []) (sort s ∷ sorts xs ∷ []) (sorts (xs ++ s ∷ []) ∷ []) a.within (λ v. refl)))
+pub one_more_sort : (T : List Token) (at to d : ℕ) (s : WrittenType) (xs : List WrittenType) → Stands (kind.Sign sign.Comma) T at → d ≤ DEPTH_LIMIT → Done (a_type d ∷ []) [] T 8 (at + 1) to (sort s) → Leads (more of_types d ∷ []) (sorts xs ∷ []) T at (more of_types d ∷ []) (sorts (xs ++ s ∷ []) ∷ []) to
+one_more_sort T at to d s xs c l a = leads_on (items_goes_on of_types sign.Comma d [] (sorts xs ∷ []) {T = T} {at = at} {t = c.token} (record { next = c.next; within = c.within }) c.is refl l) (leads_on (leads_done_first (make add ∷ more of_types d ∷ []) (sorts xs ∷ []) a) (makes (more of_types d ∷ []) (sort s ∷ sorts xs ∷ []) (sorts (xs ++ s ∷ []) ∷ []) a.within (λ v. refl)))
 
-pub sort_fails : (T : List Token) (at d : ℕ) (xs : List WrittenType) (e : Refusal) → Stands (kind.Sign sign.Comma) T at → d ≤ 1000 → SortAnswered (a_type d ∷ []) [] T (at + 1) (Err e) → Halts (more of_types d ∷ []) (sorts xs ∷ []) T at e
-sort_fails T at d xs e c l a = halts_on (row_goes_on of_types sign.Comma d [] (sorts xs ∷ []) {T = T} {at = at} {t = c.token} (record { next = c.next; within = c.within }) c.is refl l) (halts_first (λ s. sort s) (a_type d) (make add ∷ more of_types d ∷ []) (sorts xs ∷ []) T 8 (at + 1) e a)
+pub sort_fails : (T : List Token) (at d : ℕ) (xs : List WrittenType) (e : Refusal) → Stands (kind.Sign sign.Comma) T at → d ≤ DEPTH_LIMIT → SortAnswered (a_type d ∷ []) [] T (at + 1) (Err e) → Halts (more of_types d ∷ []) (sorts xs ∷ []) T at e
+sort_fails T at d xs e c l a = halts_on (items_goes_on of_types sign.Comma d [] (sorts xs ∷ []) {T = T} {at = at} {t = c.token} (record { next = c.next; within = c.within }) c.is refl l) (halts_first (λ s. sort s) (a_type d) (make add ∷ more of_types d ∷ []) (sorts xs ∷ []) T 8 (at + 1) e a)
 
 -- ---- a path, step by step
 pub start : (W : List Want) (G : List Part) (T : List Token) (at : ℕ) → at ≤ length T → Leads W G T at W G at
@@ -190,13 +191,13 @@ start W G T at l = leads_none at l
 pub at_place : {W W' : List Want} {G G' : List Part} {T : List Token} {at mid : ℕ} (to : ℕ) → mid ≡ to → Leads W G T at W' G' mid → Leads W G T at W' G' to
 at_place {W} {W'} {G} {G'} {T} {at} {mid} to e l = subst (λ n. Leads W G T at W' G' n) e l
 
-pub then_keep : {W W' : List Want} {G G' : List Part} {T : List Token} {at mid d : ℕ} {k : TokenKind} {t : Token} → Leads W G T at (keep k d ∷ W') G' mid → IsAt T mid t → same t.kind k ≡ true → d ≤ 1000 → Leads W G T at W' (token t ∷ G') (mid + 1)
+pub then_keep : {W W' : List Want} {G G' : List Part} {T : List Token} {at mid d : ℕ} {k : TokenKind} {t : Token} → Leads W G T at (keep k d ∷ W') G' mid → IsAt T mid t → same t.kind k ≡ true → d ≤ DEPTH_LIMIT → Leads W G T at W' (token t ∷ G') (mid + 1)
 then_keep {W} {W'} {G} {G'} p i k l = leads_on p (keeps W' G' i k l)
 
 pub stop_keep : {W W' : List Want} {G G' : List Part} {T : List Token} {at mid d : ℕ} {k : TokenKind} {e : Refusal} → Leads W G T at (keep k d ∷ W') G' mid → Lacks k T mid → e ≡ Wrong mid → Halts W G T at e
 stop_keep {W} {W'} {G} {G'} p n h = halts_on p (lacks_kept W' G' p.within n h)
 
-pub then_pass : {W W' : List Want} {G G' : List Part} {T : List Token} {at mid d : ℕ} {k : TokenKind} {t : Token} → Leads W G T at (pass k d ∷ W') G' mid → IsAt T mid t → same t.kind k ≡ true → d ≤ 1000 → Leads W G T at W' G' (mid + 1)
+pub then_pass : {W W' : List Want} {G G' : List Part} {T : List Token} {at mid d : ℕ} {k : TokenKind} {t : Token} → Leads W G T at (pass k d ∷ W') G' mid → IsAt T mid t → same t.kind k ≡ true → d ≤ DEPTH_LIMIT → Leads W G T at W' G' (mid + 1)
 then_pass {W} {W'} {G} {G'} p i k l = leads_on p (lets_pass W' G' i k l)
 
 pub stop_pass : {W W' : List Want} {G G' : List Part} {T : List Token} {at mid d : ℕ} {k : TokenKind} {e : Refusal} → Leads W G T at (pass k d ∷ W') G' mid → Lacks k T mid → e ≡ Wrong mid → Halts W G T at e
@@ -218,7 +219,7 @@ finish {W} {G} {T} {at} {to} q l e = subst (λ z. Done W G T 8 at to z) (sym e) 
 abbrev pub bracket_wants : ℕ → ℕ → List Want
 bracket_wants d n = a_type n ∷ past sign.Comma n ∷ a_type n ∷ make begin ∷ more of_types n ∷ past sign.CloseParen d ∷ keep kind.Ident n ∷ make bracket_sorts ∷ more_type n ∷ []
 
-pub open_bracket : {T : List Token} {at d n : ℕ} {t : Token} → IsAt T at t → base_type t t.kind ≡ None → same t.kind (the_sign sign.OpenParen) ≡ true → n ≡ suc d → n ≤ 1000 → Leads (a_type d ∷ []) [] T at (bracket_wants d n) (token t ∷ []) (at + 1)
+pub open_bracket : {T : List Token} {at d n : ℕ} {t : Token} → IsAt T at t → base_type t t.kind ≡ None → same t.kind (the_sign sign.OpenParen) ≡ true → n ≡ suc d → n ≤ DEPTH_LIMIT → Leads (a_type d ∷ []) [] T at (bracket_wants d n) (token t ∷ []) (at + 1)
 open_bracket {T} {at} {d} {n} {t} i b k m l = subst (λ z. Leads (a_type d ∷ []) [] T at (bracket_wants d z) (token t ∷ []) (at + 1)) (sym m) (bracket_opens [] [] T at d n t i b k m l)
 
 pub then_sorts : {W W' : List Want} {G G' : List Part} {T : List Token} {at mid to d : ℕ} {before found : List WrittenType} (xs : List WrittenType) → Leads W G T at (more of_types d ∷ W') (sorts xs ∷ G') mid → (g : SortsGoOn before found d T mid to []) → Leads W G T at W' (sorts (xs ++ g.new) ∷ G') to
@@ -230,7 +231,7 @@ stop_sorts {W' = W'} {G' = G'} xs l h = halts_on l (halts_before W' G' (h xs))
 pub sorts_start : (before : List WrittenType) (d : ℕ) (T : List Token) (at : ℕ) → at ≤ length T → SortsGoOn before before d T at at (more of_types d ∷ [])
 sorts_start before d T at l = record { new = []; is = sym (append-nil before); further = omega arith; within = l; leads = λ xs. record { runs = λ ss v. ap (λ z. judge (drop at T) (more of_types d ∷ ss) (sorts z ∷ v)) (sym (append-nil xs)); further = omega arith; within = l } }
 
-pub sorts_step : (before found found' : List WrittenType) (d : ℕ) (T : List Token) (at mid to : ℕ) (s : WrittenType) → SortsGoOn before found d T at mid (more of_types d ∷ []) → Stands (kind.Sign sign.Comma) T mid → d ≤ 1000 → Done (a_type d ∷ []) [] T 8 (mid + 1) to (sort s) → found' ≡ found ++ s ∷ [] → SortsGoOn before found' d T at to (more of_types d ∷ [])
+pub sorts_step : (before found found' : List WrittenType) (d : ℕ) (T : List Token) (at mid to : ℕ) (s : WrittenType) → SortsGoOn before found d T at mid (more of_types d ∷ []) → Stands (kind.Sign sign.Comma) T mid → d ≤ DEPTH_LIMIT → Done (a_type d ∷ []) [] T 8 (mid + 1) to (sort s) → found' ≡ found ++ s ∷ [] → SortsGoOn before found' d T at to (more of_types d ∷ [])
 sorts_step before found found' d T at mid to s g c l a e = record {
   new = g.new ++ s ∷ [];
   is = e ∙ ap (λ z. z ++ s ∷ []) g.is ∙ append_assoc before g.new (s ∷ []);
@@ -240,64 +241,64 @@ sorts_step before found found' d T at mid to s g c l a e = record {
 }
 
 pub sorts_end : (before found : List WrittenType) (d : ℕ) (T : List Token) (at to : ℕ) → SortsGoOn before found d T at to (more of_types d ∷ []) → Lacks (kind.Sign sign.Comma) T to → SortsGoOn before found d T at to []
-sorts_end before found d T at to g n = record { new = g.new; is = g.is; further = g.further; within = g.within; leads = λ xs. leads_on (g.leads xs) (row_ends of_types sign.Comma d [] (sorts (xs ++ g.new) ∷ []) g.within n refl) }
+sorts_end before found d T at to g n = record { new = g.new; is = g.is; further = g.further; within = g.within; leads = λ xs. leads_on (g.leads xs) (items_ends of_types sign.Comma d [] (sorts (xs ++ g.new) ∷ []) g.within n refl) }
 
-pub sorts_fail : (before found : List WrittenType) (d : ℕ) (T : List Token) (at mid : ℕ) (e : Refusal) → SortsGoOn before found d T at mid (more of_types d ∷ []) → Stands (kind.Sign sign.Comma) T mid → d ≤ 1000 → SortAnswered (a_type d ∷ []) [] T (mid + 1) (Err e) → (xs : List WrittenType) → Halts (more of_types d ∷ []) (sorts xs ∷ []) T at e
+pub sorts_fail : (before found : List WrittenType) (d : ℕ) (T : List Token) (at mid : ℕ) (e : Refusal) → SortsGoOn before found d T at mid (more of_types d ∷ []) → Stands (kind.Sign sign.Comma) T mid → d ≤ DEPTH_LIMIT → SortAnswered (a_type d ∷ []) [] T (mid + 1) (Err e) → (xs : List WrittenType) → Halts (more of_types d ∷ []) (sorts xs ∷ []) T at e
 sorts_fail before found d T at mid e g c l a xs = halts_on (g.leads xs) (sort_fails T mid d (xs ++ g.new) e c l a)
 
 -- what follows is what a function answers, at a place and of parts that are the same
 pub relays_as : {A : Type 0} {W W' : List Want} {G G' G'' : List Part} {T : List Token} {at mid to : ℕ} (part : A → Part) (bound : ℕ) (r : Result (A × ℕ) Refusal) → Leads W G T at W' G' mid → mid ≡ to → G'' ≡ G' → Answered part W' G'' T bound to r → Answered part W G T bound at r
 relays_as {W' = W'} {G' = G'} {T = T} {to = to} part bound r l e h a = relays part bound r (at_place to e l) (subst (λ g. Answered part W' g T bound to r) h a)
 
--- ---- rows of one kind of part
-pub row_first : {T : List Token} {at to : ℕ} (w : Row) (d : ℕ) (p q : Part) → Leads (element_wants w d) [] T at [] (p ∷ []) to → alone p ≡ q → Leads (row_wants w d) [] T at (more w d ∷ []) (q ∷ []) to
-row_first w d p q l e = then_make (q ∷ []) (leads_first (make begin ∷ more w d ∷ []) [] l) (λ v. ap (λ z. z ∷ v) e)
+-- ---- items of one kind of part
+pub items_first : {T : List Token} {at to : ℕ} (w : Items) (d : ℕ) (p q : Part) → Leads (element_wants w d) [] T at [] (p ∷ []) to → alone p ≡ q → Leads (items_wants w d) [] T at (more w d ∷ []) (q ∷ []) to
+items_first w d p q l e = then_make (q ∷ []) (leads_first (make begin ∷ more w d ∷ []) [] l) (λ v. ap (λ z. z ∷ v) e)
 
-pub row_first_fails : {T : List Token} {at : ℕ} {e : Refusal} (w : Row) (d : ℕ) → Halts (element_wants w d) [] T at e → Halts (row_wants w d) [] T at e
-row_first_fails w d h = halts_before (make begin ∷ more w d ∷ []) [] h
+pub items_first_fails : {T : List Token} {at : ℕ} {e : Refusal} (w : Items) (d : ℕ) → Halts (element_wants w d) [] T at e → Halts (items_wants w d) [] T at e
+items_first_fails w d h = halts_before (make begin ∷ more w d ∷ []) [] h
 
-row_comma : {T : List Token} {at mid : ℕ} {W : List Want} {q : Part} (w : Row) (s : Sign) (d : ℕ) → Leads W [] T at (more w d ∷ []) (q ∷ []) mid → Stands (kind.Sign s) T mid → separator w ≡ s → d ≤ 1000 → Leads W [] T at (element_wants w d ++ make add ∷ more w d ∷ []) (q ∷ []) (mid + 1)
-row_comma {T} {at} {mid} {W} {q} w s d l c e b = subst (λ z. Leads W [] T at z (q ∷ []) (mid + 1)) (append-nil (element_wants w d ++ make add ∷ more w d ∷ [])) (leads_on l (row_goes_on w s d [] (q ∷ []) {T = T} {at = mid} {t = c.token} (record { next = c.next; within = c.within }) c.is e b))
+items_comma : {T : List Token} {at mid : ℕ} {W : List Want} {q : Part} (w : Items) (s : Sign) (d : ℕ) → Leads W [] T at (more w d ∷ []) (q ∷ []) mid → Stands (kind.Sign s) T mid → separator w ≡ s → d ≤ DEPTH_LIMIT → Leads W [] T at (element_wants w d ++ make add ∷ more w d ∷ []) (q ∷ []) (mid + 1)
+items_comma {T} {at} {mid} {W} {q} w s d l c e b = subst (λ z. Leads W [] T at z (q ∷ []) (mid + 1)) (append-nil (element_wants w d ++ make add ∷ more w d ∷ [])) (leads_on l (items_goes_on w s d [] (q ∷ []) {T = T} {at = mid} {t = c.token} (record { next = c.next; within = c.within }) c.is e b))
 
-pub row_next : {T : List Token} {at mid to : ℕ} {W : List Want} (w : Row) (s : Sign) (d : ℕ) (p q q' : Part) → Leads W [] T at (more w d ∷ []) (q ∷ []) mid → Stands (kind.Sign s) T mid → separator w ≡ s → d ≤ 1000 → Leads (element_wants w d) [] T (mid + 1) [] (p ∷ []) to → and_then q p ≡ q' → Leads W [] T at (more w d ∷ []) (q' ∷ []) to
-row_next w s d p q q' l c e b x h = then_make (q' ∷ []) (leads_on (row_comma w s d l c e b) (leads_first (make add ∷ more w d ∷ []) (q ∷ []) x)) (λ v. ap (λ z. z ∷ v) h)
+pub items_next : {T : List Token} {at mid to : ℕ} {W : List Want} (w : Items) (s : Sign) (d : ℕ) (p q q' : Part) → Leads W [] T at (more w d ∷ []) (q ∷ []) mid → Stands (kind.Sign s) T mid → separator w ≡ s → d ≤ DEPTH_LIMIT → Leads (element_wants w d) [] T (mid + 1) [] (p ∷ []) to → and_then q p ≡ q' → Leads W [] T at (more w d ∷ []) (q' ∷ []) to
+items_next w s d p q q' l c e b x h = then_make (q' ∷ []) (leads_on (items_comma w s d l c e b) (leads_first (make add ∷ more w d ∷ []) (q ∷ []) x)) (λ v. ap (λ z. z ∷ v) h)
 
-pub row_next_fails : {T : List Token} {at mid : ℕ} {W : List Want} {q : Part} {x : Refusal} (w : Row) (s : Sign) (d : ℕ) → Leads W [] T at (more w d ∷ []) (q ∷ []) mid → Stands (kind.Sign s) T mid → separator w ≡ s → d ≤ 1000 → Halts (element_wants w d) [] T (mid + 1) x → Halts W [] T at x
-row_next_fails {q = q} w s d l c e b h = halts_on (row_comma w s d l c e b) (halts_before (make add ∷ more w d ∷ []) (q ∷ []) h)
+pub items_next_fails : {T : List Token} {at mid : ℕ} {W : List Want} {q : Part} {x : Refusal} (w : Items) (s : Sign) (d : ℕ) → Leads W [] T at (more w d ∷ []) (q ∷ []) mid → Stands (kind.Sign s) T mid → separator w ≡ s → d ≤ DEPTH_LIMIT → Halts (element_wants w d) [] T (mid + 1) x → Halts W [] T at x
+items_next_fails {q = q} w s d l c e b h = halts_on (items_comma w s d l c e b) (halts_before (make add ∷ more w d ∷ []) (q ∷ []) h)
 
-pub row_done : {T : List Token} {at to : ℕ} {W : List Want} {q : Part} (w : Row) (s : Sign) (d : ℕ) → Leads W [] T at (more w d ∷ []) (q ∷ []) to → Lacks (kind.Sign s) T to → separator w ≡ s → Done W [] T 8 at to q
-row_done {q = q} w s d l n e = leads_done (leads_on l (row_ends w s d [] (q ∷ []) l.within n e))
+pub items_done : {T : List Token} {at to : ℕ} {W : List Want} {q : Part} (w : Items) (s : Sign) (d : ℕ) → Leads W [] T at (more w d ∷ []) (q ∷ []) to → Lacks (kind.Sign s) T to → separator w ≡ s → Done W [] T 8 at to q
+items_done {q = q} w s d l n e = leads_done (leads_on l (items_ends w s d [] (q ∷ []) l.within n e))
 
 -- tokens of a kind
-element_token : {T : List Token} {at d : ℕ} {k : TokenKind} {t : Token} (w : Row) → element_wants w d ≡ keep k d ∷ [] → IsAt T at t → same t.kind k ≡ true → d ≤ 1000 → Leads (element_wants w d) [] T at [] (token t ∷ []) (at + 1)
+element_token : {T : List Token} {at d : ℕ} {k : TokenKind} {t : Token} (w : Items) → element_wants w d ≡ keep k d ∷ [] → IsAt T at t → same t.kind k ≡ true → d ≤ DEPTH_LIMIT → Leads (element_wants w d) [] T at [] (token t ∷ []) (at + 1)
 element_token {T} {at} {d} {k} {t} w e i h l = subst (λ z. Leads z [] T at [] (token t ∷ []) (at + 1)) (sym e) (keeps [] [] i h l)
 
-element_lacks : {T : List Token} {at d : ℕ} {k : TokenKind} {e : Refusal} (w : Row) → element_wants w d ≡ keep k d ∷ [] → at ≤ length T → Lacks k T at → e ≡ Wrong at → Halts (element_wants w d) [] T at e
+element_lacks : {T : List Token} {at d : ℕ} {k : TokenKind} {e : Refusal} (w : Items) → element_wants w d ≡ keep k d ∷ [] → at ≤ length T → Lacks k T at → e ≡ Wrong at → Halts (element_wants w d) [] T at e
 element_lacks {T} {at} {d} {k} {e} w q b n h = subst (λ z. Halts z [] T at e) (sym q) (lacks_kept [] [] b n h)
 
 pub record NamesSoFar (k : TokenKind) (s : Sign) (T : List Token) (at to : ℕ) (found : List Span) : Type 0 where
   pub further : at ≤ to
   pub within : to ≤ length T
-  pub leads : (w : Row) (d : ℕ) → element_wants w d ≡ keep k d ∷ [] → separator w ≡ s → d ≤ 1000 → Leads (row_wants w d) [] T at (more w d ∷ []) (names found ∷ []) to
+  pub leads : (w : Items) (d : ℕ) → element_wants w d ≡ keep k d ∷ [] → separator w ≡ s → d ≤ DEPTH_LIMIT → Leads (items_wants w d) [] T at (more w d ∷ []) (names found ∷ []) to
 
 pub names_start : {T : List Token} {at : ℕ} {k : TokenKind} (s : Sign) (t : Token) (found : List Span) → IsAt T at t → same t.kind k ≡ true → found ≡ span t ∷ [] → NamesSoFar k s T at (at + 1) found
-names_start s t found i h e = record { further = omega arith; within = let w = i.within in omega (arith, w); leads = λ w d q r l. row_first w d (token t) (names found) (element_token w q i h l) (ap (λ z. names z) (sym e)) }
+names_start s t found i h e = record { further = omega arith; within = let w = i.within in omega (arith, w); leads = λ w d q r l. items_first w d (token t) (names found) (element_token w q i h l) (ap (λ z. names z) (sym e)) }
 
-pub names_none : {T : List Token} {at : ℕ} {k : TokenKind} {e : Refusal} (s : Sign) → at ≤ length T → Lacks k T at → e ≡ Wrong at → (w : Row) (d : ℕ) → element_wants w d ≡ keep k d ∷ [] → separator w ≡ s → d ≤ 1000 → Answered (λ ns. names ns) (row_wants w d) [] T 8 at (Err e)
-names_none s b n h w d q r l = halts_answer (λ ns. names ns) 8 (row_first_fails w d (element_lacks w q b n h))
+pub names_none : {T : List Token} {at : ℕ} {k : TokenKind} {e : Refusal} (s : Sign) → at ≤ length T → Lacks k T at → e ≡ Wrong at → (w : Items) (d : ℕ) → element_wants w d ≡ keep k d ∷ [] → separator w ≡ s → d ≤ DEPTH_LIMIT → Answered (λ ns. names ns) (items_wants w d) [] T 8 at (Err e)
+names_none s b n h w d q r l = halts_answer (λ ns. names ns) 8 (items_first_fails w d (element_lacks w q b n h))
 
 pub names_step : {T : List Token} {at mid to : ℕ} {k : TokenKind} {s : Sign} {t : Token} {found : List Span} (found' : List Span) → NamesSoFar k s T at mid found → Stands (kind.Sign s) T mid → IsAt T (mid + 1) t → same t.kind k ≡ true → found' ≡ found ++ span t ∷ [] → mid + 2 ≡ to → NamesSoFar k s T at to found'
 names_step {T} {at} {mid} {to} {k} {s} {t} {found} found' g c i h e m = record {
   further = let f = g.further in omega (arith, f, m);
   within = let w = i.within in omega (arith, w, m);
-  leads = λ w d q r l. at_place to (omega (arith, m)) (row_next w s d (token t) (names found) (names found') (g.leads w d q r l) c r l (element_token w q i h l) (ap (λ z. names z) (sym e)));
+  leads = λ w d q r l. at_place to (omega (arith, m)) (items_next w s d (token t) (names found) (names found') (g.leads w d q r l) c r l (element_token w q i h l) (ap (λ z. names z) (sym e)));
 }
 
-pub names_fail : {T : List Token} {at mid : ℕ} {k : TokenKind} {s : Sign} {found : List Span} {e : Refusal} → NamesSoFar k s T at mid found → Stands (kind.Sign s) T mid → Lacks k T (mid + 1) → e ≡ Wrong (mid + 1) → (w : Row) (d : ℕ) → element_wants w d ≡ keep k d ∷ [] → separator w ≡ s → d ≤ 1000 → Answered (λ ns. names ns) (row_wants w d) [] T 8 at (Err e)
-names_fail {s = s} g c n h w d q r l = halts_answer (λ ns. names ns) 8 (row_next_fails w s d (g.leads w d q r l) c r l (element_lacks w q (let b = c.within in omega (arith, b)) n h))
+pub names_fail : {T : List Token} {at mid : ℕ} {k : TokenKind} {s : Sign} {found : List Span} {e : Refusal} → NamesSoFar k s T at mid found → Stands (kind.Sign s) T mid → Lacks k T (mid + 1) → e ≡ Wrong (mid + 1) → (w : Items) (d : ℕ) → element_wants w d ≡ keep k d ∷ [] → separator w ≡ s → d ≤ DEPTH_LIMIT → Answered (λ ns. names ns) (items_wants w d) [] T 8 at (Err e)
+names_fail {s = s} g c n h w d q r l = halts_answer (λ ns. names ns) 8 (items_next_fails w s d (g.leads w d q r l) c r l (element_lacks w q (let b = c.within in omega (arith, b)) n h))
 
-pub names_end : {T : List Token} {at to : ℕ} {k : TokenKind} {s : Sign} {found : List Span} → NamesSoFar k s T at to found → Lacks (kind.Sign s) T to → (w : Row) (d : ℕ) → element_wants w d ≡ keep k d ∷ [] → separator w ≡ s → d ≤ 1000 → Done (row_wants w d) [] T 8 at to (names found)
-names_end {s = s} g n w d q r l = row_done w s d (g.leads w d q r l) n r
+pub names_end : {T : List Token} {at to : ℕ} {k : TokenKind} {s : Sign} {found : List Span} → NamesSoFar k s T at to found → Lacks (kind.Sign s) T to → (w : Items) (d : ℕ) → element_wants w d ≡ keep k d ∷ [] → separator w ≡ s → d ≤ DEPTH_LIMIT → Done (items_wants w d) [] T 8 at to (names found)
+names_end {s = s} g n w d q r l = items_done w s d (g.leads w d q r l) n r
 
 -- names with their types
 pub whole_reads : {T : List Token} {W : List Want} {bound at to : ℕ} {p : Part} → Done W [] T bound at to p → Leads W [] T at [] (p ∷ []) to
@@ -311,34 +312,34 @@ whole_halts part W G T bound at Memory h = for_memory refl
 pub record TypedsSoFar (s : Sign) (T : List Token) (at to : ℕ) (found : List TypedName) : Type 0 where
   pub further : at ≤ to
   pub within : to ≤ length T
-  pub leads : (w : Row) → element_wants w 1 ≡ typed_wants 1 → separator w ≡ s → Leads (row_wants w 1) [] T at (more w 1 ∷ []) (typeds found ∷ []) to
+  pub leads : (w : Items) → element_wants w 1 ≡ typed_wants 1 → separator w ≡ s → Leads (items_wants w 1) [] T at (more w 1 ∷ []) (typeds found ∷ []) to
 
-element_typed : {T : List Token} {at to : ℕ} {n : TypedName} (w : Row) → element_wants w 1 ≡ typed_wants 1 → Done (typed_wants 1) [] T 8 at to (typed n) → Leads (element_wants w 1) [] T at [] (typed n ∷ []) to
+element_typed : {T : List Token} {at to : ℕ} {n : TypedName} (w : Items) → element_wants w 1 ≡ typed_wants 1 → Done (typed_wants 1) [] T 8 at to (typed n) → Leads (element_wants w 1) [] T at [] (typed n ∷ []) to
 element_typed {T} {at} {to} {n} w q d = subst (λ z. Leads z [] T at [] (typed n ∷ []) to) (sym q) (whole_reads d)
 
-element_untyped : {T : List Token} {at : ℕ} (e : Refusal) (w : Row) → element_wants w 1 ≡ typed_wants 1 → Answered (λ n. typed n) (typed_wants 1) [] T 8 at (Err e) → Halts (element_wants w 1) [] T at e
+element_untyped : {T : List Token} {at : ℕ} (e : Refusal) (w : Items) → element_wants w 1 ≡ typed_wants 1 → Answered (λ n. typed n) (typed_wants 1) [] T 8 at (Err e) → Halts (element_wants w 1) [] T at e
 element_untyped {T} {at} e w q a = subst (λ z. Halts z [] T at e) (sym q) (whole_halts (λ n. typed n) (typed_wants 1) [] T 8 at e a)
 
 pub typeds_start : {T : List Token} {at to : ℕ} (s : Sign) (n : TypedName) (found : List TypedName) → Done (typed_wants 1) [] T 8 at to (typed n) → found ≡ n ∷ [] → TypedsSoFar s T at to found
-typeds_start s n found d e = record { further = d.further; within = d.within; leads = λ w q r. row_first w 1 (typed n) (typeds found) (element_typed w q d) (ap (λ z. typeds z) (sym e)) }
+typeds_start s n found d e = record { further = d.further; within = d.within; leads = λ w q r. items_first w 1 (typed n) (typeds found) (element_typed w q d) (ap (λ z. typeds z) (sym e)) }
 
-pub typeds_none : (T : List Token) (at : ℕ) (e : Refusal) (s : Sign) → Answered (λ n. typed n) (typed_wants 1) [] T 8 at (Err e) → (w : Row) → element_wants w 1 ≡ typed_wants 1 → separator w ≡ s → Answered (λ ns. typeds ns) (row_wants w 1) [] T 8 at (Err e)
-typeds_none T at e s a w q r = halts_answer (λ ns. typeds ns) 8 (row_first_fails w 1 (element_untyped e w q a))
+pub typeds_none : (T : List Token) (at : ℕ) (e : Refusal) (s : Sign) → Answered (λ n. typed n) (typed_wants 1) [] T 8 at (Err e) → (w : Items) → element_wants w 1 ≡ typed_wants 1 → separator w ≡ s → Answered (λ ns. typeds ns) (items_wants w 1) [] T 8 at (Err e)
+typeds_none T at e s a w q r = halts_answer (λ ns. typeds ns) 8 (items_first_fails w 1 (element_untyped e w q a))
 
 pub typeds_step : {T : List Token} {at mid to : ℕ} {s : Sign} {found : List TypedName} (n : TypedName) (found' : List TypedName) → TypedsSoFar s T at mid found → Stands (kind.Sign s) T mid → Done (typed_wants 1) [] T 8 (mid + 1) to (typed n) → found' ≡ found ++ n ∷ [] → TypedsSoFar s T at to found'
 typeds_step {s = s} {found = found} n found' g c d e = record {
   further = let f = g.further in let k = d.further in omega (arith, f, k);
   within = d.within;
-  leads = λ w q r. row_next w s 1 (typed n) (typeds found) (typeds found') (g.leads w q r) c r (omega arith) (element_typed w q d) (ap (λ z. typeds z) (sym e));
+  leads = λ w q r. items_next w s 1 (typed n) (typeds found) (typeds found') (g.leads w q r) c r (omega arith) (element_typed w q d) (ap (λ z. typeds z) (sym e));
 }
 
-pub typeds_fail : {T : List Token} {at mid : ℕ} {s : Sign} {found : List TypedName} (e : Refusal) → TypedsSoFar s T at mid found → Stands (kind.Sign s) T mid → Answered (λ n. typed n) (typed_wants 1) [] T 8 (mid + 1) (Err e) → (w : Row) → element_wants w 1 ≡ typed_wants 1 → separator w ≡ s → Answered (λ ns. typeds ns) (row_wants w 1) [] T 8 at (Err e)
-typeds_fail {s = s} e g c a w q r = halts_answer (λ ns. typeds ns) 8 (row_next_fails w s 1 (g.leads w q r) c r (omega arith) (element_untyped e w q a))
+pub typeds_fail : {T : List Token} {at mid : ℕ} {s : Sign} {found : List TypedName} (e : Refusal) → TypedsSoFar s T at mid found → Stands (kind.Sign s) T mid → Answered (λ n. typed n) (typed_wants 1) [] T 8 (mid + 1) (Err e) → (w : Items) → element_wants w 1 ≡ typed_wants 1 → separator w ≡ s → Answered (λ ns. typeds ns) (items_wants w 1) [] T 8 at (Err e)
+typeds_fail {s = s} e g c a w q r = halts_answer (λ ns. typeds ns) 8 (items_next_fails w s 1 (g.leads w q r) c r (omega arith) (element_untyped e w q a))
 
-pub typeds_end : {T : List Token} {at to : ℕ} {s : Sign} {found : List TypedName} → TypedsSoFar s T at to found → Lacks (kind.Sign s) T to → (w : Row) → element_wants w 1 ≡ typed_wants 1 → separator w ≡ s → Done (row_wants w 1) [] T 8 at to (typeds found)
-typeds_end {s = s} g n w q r = row_done w s 1 (g.leads w q r) n r
+pub typeds_end : {T : List Token} {at to : ℕ} {s : Sign} {found : List TypedName} → TypedsSoFar s T at to found → Lacks (kind.Sign s) T to → (w : Items) → element_wants w 1 ≡ typed_wants 1 → separator w ≡ s → Done (items_wants w 1) [] T 8 at to (typeds found)
+typeds_end {s = s} g n w q r = items_done w s 1 (g.leads w q r) n r
 
--- ---- whole rows on a path
+-- ---- whole lists of items on a path
 pub then_all : {W : List Want} {H H' : List Part} {T : List Token} {at mid to bound : ℕ} {p : Part} (X W' : List Want) → Leads W H T at (X ++ W') H' mid → Done X [] T bound mid to p → Leads W H T at W' (p ∷ H') to
 then_all {H' = H'} X W' l d = leads_on l (leads_first W' H' (whole_reads d))
 
@@ -350,7 +351,7 @@ leads_to {W} {W'} {G} {G'} {T} {at} {to} G'' l e = subst (λ z. Leads W G T at W
 
 -- ---- wants that do the same with what is next
 -- a token of a kind is kept
-pub keeps_alike : {s : Want} {T : List Token} {at : ℕ} (j : TokenKind) (d : ℕ) (new W : List Want) (G G' : List Part) → at ≤ length T → d ≤ 1000
+pub keeps_alike : {s : Want} {T : List Token} {at : ℕ} (j : TokenKind) (d : ℕ) (new W : List Want) (G G' : List Part) → at ≤ length T → d ≤ DEPTH_LIMIT
     → ((v : List Part) (t : Token) (ts : List Token) → drop at T ≡ t ∷ ts → act s (G ++ v) t t.kind ≡ cond (same t.kind j) (take d new (token t ∷ G' ++ v)) refuse)
     → ((v : List Part) → idle s (G ++ v) ≡ refuse) → Leads (s ∷ W) G T at (keep j d ∷ new ++ W) G' at
 keeps_alike {s} {T} {at} j d new W G G' l b a i = record { runs = λ ss v. go ss v (drop at T) refl; further = omega arith; within = l }
@@ -365,7 +366,7 @@ keeps_alike {s} {T} {at} j d new W G G' l b a i = record { runs = λ ss v. go ss
 
 -- a type is read
 went_then : (d : ℕ) (w new ss : List Want) (u : List Part) (t : Token) (ts : List Token) → went (take d (w ++ new) u) ss t ts ≡ went (take d w u) (new ++ ss) t ts
-went_then d w new ss u t ts = elim (cases_lt 1000 d) [
+went_then d w new ss u t ts = elim (cases_lt DEPTH_LIMIT d) [
   | inl h ↦ went_deep d (w ++ new) u ss t ts h ∙ sym (went_deep d w u (new ++ ss) t ts h)
   | inr h ↦ went_take d (w ++ new) u ss t ts h ∙ ap (λ z. judge ts z u) (append_assoc w new ss) ∙ sym (went_take d w u (new ++ ss) t ts h)
 ]
@@ -392,12 +393,12 @@ holds_1 : {b : Bool} (x y : Act) → b ≡ true → cond b x y ≡ x
 holds_1 x y e = ap (λ b. cond b x y) e
 
 -- the same where the token stands as a fact of its kind
-takes_at : {s : Want} {T : List Token} {at : ℕ} {k : TokenKind} (W : List Want) (G : List Part) (d : ℕ) (new : List Want) (G' : List Part) (c : Stands k T at) → ((v : List Part) → act s (G ++ v) c.token c.token.kind ≡ take d new (G' ++ v)) → d ≤ 1000 → Leads (s ∷ W) G T at (new ++ W) G' (at + 1)
+takes_at : {s : Want} {T : List Token} {at : ℕ} {k : TokenKind} (W : List Want) (G : List Part) (d : ℕ) (new : List Want) (G' : List Part) (c : Stands k T at) → ((v : List Part) → act s (G ++ v) c.token c.token.kind ≡ take d new (G' ++ v)) → d ≤ DEPTH_LIMIT → Leads (s ∷ W) G T at (new ++ W) G' (at + 1)
 takes_at {s} {T} {at} W G d new G' c a l = let i : IsAt T at c.token = record { next = c.next; within = c.within } in takes W G d new G' i a l
 
 -- ---- type declarations
 abbrev pub vars_wants : List Want
-vars_wants = keep kind.TypeVar 1 ∷ past sign.Comma 1 ∷ row_wants of_vars 1 ++ past sign.CloseParen 0 ∷ make more_params ∷ keep kind.Ident 0 ∷ type_end ∷ []
+vars_wants = keep kind.TypeVar 1 ∷ past sign.Comma 1 ∷ items_wants of_vars 1 ++ past sign.CloseParen 0 ∷ make more_params ∷ keep kind.Ident 0 ∷ type_end ∷ []
 
 pub one_param : {T : List Token} {at : ℕ} {t : Token} → Lacks kind.Ident T at → IsAt T at t → same t.kind kind.TypeVar ≡ true → Leads (type_head ∷ []) [] T at (keep kind.Ident 0 ∷ type_end ∷ []) (names (span t ∷ []) ∷ []) (at + 1)
 one_param {T} {at} {t} n i k = takes [] [] 0 (keep kind.Ident 0 ∷ type_end ∷ []) (names (span t ∷ []) ∷ []) i (λ v. fails_1 _ _ (n.none t (drop (at + 1) T) i.next) ∙ holds_1 _ _ k) (omega arith)
@@ -417,23 +418,23 @@ body_ends f n ps l m = passes [] (token n ∷ names ps ∷ token f ∷ []) (decl
 pub end_ends : {W : List Want} {G : List Part} {T : List Token} {at mid : ℕ} (f n : Token) (ps : List Span) → Leads W G T at (type_end ∷ []) (token n ∷ names ps ∷ token f ∷ []) mid → Lacks (kind.Sign sign.Equal) T mid → Leads W G T at [] (decl (abstract_type f ps n) ∷ []) mid
 end_ends f n ps p m = leads_on p (passes [] (token n ∷ names ps ∷ token f ∷ []) (decl (abstract_type f ps n) ∷ []) p.within (λ v. record { here = λ t ts q. fails_1 _ _ (m.none t ts q); end = refl }))
 
-pub body_goes_on : {T : List Token} {at : ℕ} (G : List Part) → Stands (kind.Sign sign.Equal) T at → Leads (type_body ∷ []) G T at (type_form ∷ []) G (at + 1)
-body_goes_on {T} {at} G c = takes_at [] G 0 (type_form ∷ []) G c (λ v. holds_1 _ _ c.is) (omega arith)
+pub body_goes_on : {T : List Token} {at : ℕ} (G : List Part) → Stands (kind.Sign sign.Equal) T at → Leads (type_body ∷ []) G T at (type_definition ∷ []) G (at + 1)
+body_goes_on {T} {at} G c = takes_at [] G 0 (type_definition ∷ []) G c (λ v. holds_1 _ _ c.is) (omega arith)
 
 pub end_goes_on : {W : List Want} {G G' : List Part} {T : List Token} {at mid : ℕ} → Leads W G T at (type_end ∷ []) G' mid → Stands (kind.Sign sign.Equal) T mid → Leads W G T at (past sign.OpenBrace 1 ∷ record_wants) G' (mid + 1)
 end_goes_on {G' = G'} {T = T} {mid = mid} p c = leads_on p (takes_at [] G' 0 (past sign.OpenBrace 1 ∷ record_wants) G' c (λ v. holds_1 _ _ c.is) (omega arith))
 
-pub form_fields : {W : List Want} {G G' : List Part} {T : List Token} {at mid : ℕ} {t : Token} → Leads W G T at (type_form ∷ []) G' mid → IsAt T mid t → same t.kind (kind.Sign sign.OpenBrace) ≡ true → Leads W G T at record_wants G' (mid + 1)
+pub form_fields : {W : List Want} {G G' : List Part} {T : List Token} {at mid : ℕ} {t : Token} → Leads W G T at (type_definition ∷ []) G' mid → IsAt T mid t → same t.kind (kind.Sign sign.OpenBrace) ≡ true → Leads W G T at record_wants G' (mid + 1)
 form_fields {G' = G'} p i k = leads_on p (takes [] G' 1 record_wants G' i (λ v. holds_1 _ _ k) (omega arith))
 
-pub form_choices : {W : List Want} {G G' : List Part} {T : List Token} {at mid : ℕ} → Leads W G T at (type_form ∷ []) G' mid → Lacks (kind.Sign sign.OpenBrace) T mid → Leads W G T at (row_wants of_constructors 0 ++ make be_choice ∷ []) G' mid
+pub form_choices : {W : List Want} {G G' : List Part} {T : List Token} {at mid : ℕ} → Leads W G T at (type_definition ∷ []) G' mid → Lacks (kind.Sign sign.OpenBrace) T mid → Leads W G T at (items_wants of_constructors 0 ++ make be_choice ∷ []) G' mid
 form_choices {G' = G'} p n = leads_on p (keeps_alike kind.Ident 0 (make begin ∷ more of_constructors 0 ∷ make be_choice ∷ []) [] G' G' p.within (omega arith) (λ v t ts q. fails_1 _ _ (n.none t ts q)) (λ v. refl))
 
 -- ---- symbols
-pub ac_stands : {T : List Token} {at : ℕ} (f : Token) → Stands (kind.Reserved word.Ac) T at → Leads (logic_head ∷ []) (token f ∷ []) T at (row_wants of_names 0 ++ past sign.Colon 0 ∷ logic_sorts ∷ []) (flag true ∷ token f ∷ []) (at + 1)
-ac_stands {T} {at} f c = takes_at [] (token f ∷ []) 0 (row_wants of_names 0 ++ past sign.Colon 0 ∷ logic_sorts ∷ []) (flag true ∷ token f ∷ []) c (λ v. holds_1 _ _ c.is) (omega arith)
+pub ac_stands : {T : List Token} {at : ℕ} (f : Token) → Stands (kind.Reserved word.Ac) T at → Leads (logic_head ∷ []) (token f ∷ []) T at (items_wants of_names 0 ++ past sign.Colon 0 ∷ logic_sorts ∷ []) (flag true ∷ token f ∷ []) (at + 1)
+ac_stands {T} {at} f c = takes_at [] (token f ∷ []) 0 (items_wants of_names 0 ++ past sign.Colon 0 ∷ logic_sorts ∷ []) (flag true ∷ token f ∷ []) c (λ v. holds_1 _ _ c.is) (omega arith)
 
-pub ac_lacks : {T : List Token} {at : ℕ} (f : Token) → at ≤ length T → Lacks (kind.Reserved word.Ac) T at → Leads (logic_head ∷ []) (token f ∷ []) T at (row_wants of_names 0 ++ past sign.Colon 0 ∷ logic_sorts ∷ []) (flag false ∷ token f ∷ []) at
+pub ac_lacks : {T : List Token} {at : ℕ} (f : Token) → at ≤ length T → Lacks (kind.Reserved word.Ac) T at → Leads (logic_head ∷ []) (token f ∷ []) T at (items_wants of_names 0 ++ past sign.Colon 0 ∷ logic_sorts ∷ []) (flag false ∷ token f ∷ []) at
 ac_lacks f l n = keeps_alike kind.Ident 0 (make begin ∷ more of_names 0 ∷ past sign.Colon 0 ∷ logic_sorts ∷ []) [] (token f ∷ []) (flag false ∷ token f ∷ []) l (omega arith) (λ v t ts q. fails_1 _ _ (n.none t ts q)) (λ v. refl)
 
 pub prop_sorts : {T : List Token} {at : ℕ} {t : Token} (f : Token) (a : Bool) (ns : List Span) → IsAt T at t → same t.kind (kind.Reserved word.Prop) ≡ true → Leads (logic_sorts ∷ []) (names ns ∷ flag a ∷ token f ∷ []) T at [] (decl (logic_of f a ns [] (prop_at t)) ∷ []) (at + 1)
@@ -468,7 +469,7 @@ type_result l n = types_alike 0 (make sort_result ∷ []) [] [] l (λ v t ts q. 
 pub no_formals : {T : List Token} {at : ℕ} → Stands (kind.Sign sign.CloseParen) T at → Leads (formals_end ∷ []) [] T at [] (typeds [] ∷ []) (at + 1)
 no_formals {T} {at} c = takes_at [] [] 0 [] (typeds [] ∷ []) c (λ v. holds_1 _ _ c.is) (omega arith)
 
-pub some_formals : {T : List Token} {at : ℕ} → at ≤ length T → Lacks (kind.Sign sign.CloseParen) T at → Leads (formals_end ∷ []) [] T at (row_wants of_formals 1 ++ past sign.CloseParen 0 ∷ []) [] at
+pub some_formals : {T : List Token} {at : ℕ} → at ≤ length T → Lacks (kind.Sign sign.CloseParen) T at → Leads (formals_end ∷ []) [] T at (items_wants of_formals 1 ++ past sign.CloseParen 0 ∷ []) [] at
 some_formals l n = keeps_alike kind.Ident 1 (past sign.Colon 1 ∷ a_type 1 ∷ make give_type ∷ make begin ∷ more of_formals 1 ∷ past sign.CloseParen 0 ∷ []) [] [] [] l (omega arith) (λ v t ts q. fails_1 _ _ (n.none t ts q)) (λ v. refl)
 
 pub bare_head : {T : List Token} {at : ℕ} → Stands (kind.Sign sign.Equal) T at → Leads (predicate_head ∷ []) [] T at [] (typeds [] ∷ []) (at + 1)

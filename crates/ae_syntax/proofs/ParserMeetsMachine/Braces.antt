@@ -6,20 +6,22 @@ use Rattle.ae_lex.specs.declared.kinds.TokenKind.{TokenKind}
 use Rattle.ae_lex.specs.declared.kinds.TokenKind.TheVariants as kind
 use Rattle.ae_lex.specs.declared.kinds.Reserved.TheVariants as word
 use Rattle.ae_lex.specs.declared.kinds.Sign.TheVariants as sign
-use Rattle.ae_syntax.specs.Kinds.{same}
+use Rattle.ae_syntax.specs.Inner.SameKinds.{same}
 use Rattle.ae_syntax.specs.Parts.{Part, token}
 use Rattle.ae_syntax.specs.Grammar.{of_settings}
-use Rattle.ae_syntax.specs.Machine.{Want, an_expr, an_atom, a_post, keep, pass, more, more_post, make, begin, set, build, change, call, brace, brace_name, update_wants, on_post, then_wants, take, refuse, act, row_wants, kept, the_word, the_sign, after, feed, finish, onward, run, Outcome, limited, judge}
-use Rattle.ae_syntax.specs.Reading.{IsAt, Stands, Lacks, Sets, SetsNone, record_wants, change_wants}
-use Rattle.ae_syntax.proofs.ComposedSteps.{Reaches, start, then_takes, then_keeps, then_passes, joined, judge_is, judge_act, judge_at, went, went_take}
-use Rattle.ae_syntax.proofs.ComposedLevels.{deeper_plain_list, plain_post}
-use Rattle.ae_syntax.proofs.ComposedForms.{begin_1, begins_brace}
+use Rattle.ae_syntax.specs.Inner.Machine.{Want, an_expr, an_atom, a_post, keep, pass, more, more_post, make, begin, set, build, change, call, brace, brace_name, update_wants, on_post, then_wants, take, refuse, act, items_wants, kept, the_word, the_sign, after, feed, finish, onward, run, Outcome, limited, judge}
+use Rattle.ae_syntax.specs.Inner.Reading.{IsAt, Stands, Lacks, Sets, SetsNone, record_wants, change_wants}
+use Rattle.ae_syntax.proofs.ParserMeetsMachine.Steps.{Reaches, start, then_takes, then_keeps, then_passes, joined, judge_is, judge_act, judge_at, went, went_take}
+use Rattle.ae_syntax.proofs.ParserMeetsMachine.Levels.{deeper_plain_list}
+use Rattle.ae_syntax.proofs.Acts.{plain_post}
+use Rattle.ae_syntax.proofs.ParserMeetsMachine.OpenExprs.{begin_1, begins_brace}
+use Rattle.ae_syntax.specs.declared.cursor.TheConstants.{DEPTH_LIMIT}
 
 -- two ways to one place
 back : {T : List Token} {W W' W'' : List Want} {G G' G'' : List Part} {at at' at'' : ℕ} → Reaches T W G at W'' G'' at'' → Reaches T W' G' at' W'' G'' at'' → at ≤ at' → Reaches T W G at W' G' at'
 back r q l = record { runs = λ ss v. r.runs ss v ∙ sym (q.runs ss v); further = l; within = let f = q.further in let w = q.within in omega (arith, f, w) }
 
-record_steps : (T : List Token) (at d : ℕ) (o : Token) → at ≤ length T → suc d ≤ 1000 → Sets T at → Reaches T (brace d ∷ []) (token o ∷ []) at (record_wants (suc d) d) (token o ∷ []) at
+record_steps : (T : List Token) (at d : ℕ) (o : Token) → at ≤ length T → suc d ≤ DEPTH_LIMIT → Sets T at → Reaches T (brace d ∷ []) (token o ∷ []) at (record_wants (suc d) d) (token o ∷ []) at
 record_steps T at d o w l s = let i = s.name in let e = s.equals in
     back
     (then_takes (suc d) (an_expr (suc d) ∷ make set ∷ make begin ∷ more of_settings (suc d) ∷ kept sign.CloseBrace d ∷ make build ∷ []) (token i.token ∷ token o ∷ []) e.token
@@ -39,7 +41,7 @@ record_steps T at d o w l s = let i = s.name in let e = s.equals in
 
 -- after a name, on another token than `=`
 rest_wants : ℕ → List Want → List Want
-rest_wants d ss = row_wants of_settings (suc d) ++ kept sign.CloseBrace d ∷ make change ∷ ss
+rest_wants d ss = items_wants of_settings (suc d) ++ kept sign.CloseBrace d ∷ make change ∷ ss
 
 brace_case : (d : ℕ) (i t : Token) (ts : List Token) (ss : List Want) (v : List Part) (k : TokenKind) → same k (the_sign sign.Equal) ≡ false → onward (after (act (brace_name d) (token i ∷ v) t k) (λ u. feed ss u t) ss) (λ s v. run ts s v) (suc (length ts)) ≡ onward (after (act (call (suc d)) (token i ∷ v) t k) (λ u. after (act (more_post (suc d)) u t k) (λ u. after (act (pass (the_word word.With) (suc d)) u t k) (λ u. feed (rest_wants d ss) u t) (rest_wants d ss)) (pass (the_word word.With) (suc d) ∷ rest_wants d ss)) (more_post (suc d) ∷ pass (the_word word.With) (suc d) ∷ rest_wants d ss)) (λ s v. run ts s v) (suc (length ts))
 unfolding rest_wants
@@ -60,7 +62,7 @@ unfolding run finish
 other_steps d [] ss v n = refl
 other_steps d (t ∷ ts) ss v n = judge_is t ts (brace d) ss v ∙ ap (λ b. went (cond b (take (suc d) (brace_name d ∷ []) (token t ∷ v)) (then_wants (on_post (suc d) v t t.kind) (update_wants d))) ss t ts) (n t ts refl) ∙ deeper_plain_list (on_post (suc d) v t t.kind) (update_wants d) ss t ts (plain_post (suc d) v t t.kind) ∙ sym (judge_is t ts (a_post (suc d)) (update_wants d ++ ss) v)
 
-change_steps : (T : List Token) (at d : ℕ) (o : Token) → at ≤ length T → suc d ≤ 1000 → SetsNone T at → Reaches T (brace d ∷ []) (token o ∷ []) at (change_wants (suc d) d) (token o ∷ []) at
+change_steps : (T : List Token) (at d : ℕ) (o : Token) → at ≤ length T → suc d ≤ DEPTH_LIMIT → SetsNone T at → Reaches T (brace d ∷ []) (token o ∷ []) at (change_wants (suc d) d) (token o ∷ []) at
 change_steps T at d o w l (inl n) = record { runs = λ ss v. other_steps d (drop at T) ss (token o ∷ v) n.none; further = omega arith; within = w }
 change_steps T at d o w l (inr p) = let s = p.0 in let n = p.1 in record {
   runs = λ ss v. judge_at T at s.token (brace d) ss (token o ∷ v) _ (record { next = s.next; within = s.within }) (act_name (token o ∷ v) s.token (let t = s.token in t.kind) s.is) ∙ went_take (suc d) (brace_name d ∷ []) (token s.token ∷ token o ∷ v) ss s.token (drop (at + 1) T) l ∙ name_steps d s.token (drop (at + 1) T) ss (token o ∷ v) n.none ∙ sym (judge_at T at s.token (a_post (suc d)) (update_wants d ++ ss) (token o ∷ v) _ (record { next = s.next; within = s.within }) (act_post (token o ∷ v) s.token (let t = s.token in t.kind) s.is) ∙ went_take (suc d) (call (suc d) ∷ more_post (suc d) ∷ []) (token s.token ∷ token o ∷ v) (update_wants d ++ ss) s.token (drop (at + 1) T) l);
@@ -76,8 +78,8 @@ change_steps T at d o w l (inr p) = let s = p.0 in let n = p.1 in record {
     act_post v t kind.Ident h = refl
     act_post v t k h = absurd (false≢true h)
 
-pub record_0 : (T : List Token) (at d n : ℕ) (o : Token) → IsAt T at o → same o.kind (the_sign sign.OpenBrace) ≡ true → n ≡ suc d → n ≤ 1000 → Sets T (at + 1) → Reaches T (an_atom d ∷ []) [] at (record_wants n d) (token o ∷ []) (at + 1)
+pub record_0 : (T : List Token) (at d n : ℕ) (o : Token) → IsAt T at o → same o.kind (the_sign sign.OpenBrace) ≡ true → n ≡ suc d → n ≤ DEPTH_LIMIT → Sets T (at + 1) → Reaches T (an_atom d ∷ []) [] at (record_wants n d) (token o ∷ []) (at + 1)
 record_0 T at d n o i h e l s = subst (λ n. Reaches T (an_atom d ∷ []) [] at (record_wants n d) (token o ∷ []) (at + 1)) (sym e) (joined (begin_1 (an_atom d) (suc d) (brace d ∷ []) T at o (begins_brace T at d (suc d) o i h refl) (omega (arith, e, l))) (record_steps T (at + 1) d o (let w = i.within in omega (arith, w)) (omega (arith, e, l)) s))
 
-pub change_0 : (T : List Token) (at d n : ℕ) (o : Token) → IsAt T at o → same o.kind (the_sign sign.OpenBrace) ≡ true → n ≡ suc d → n ≤ 1000 → SetsNone T (at + 1) → Reaches T (an_atom d ∷ []) [] at (change_wants n d) (token o ∷ []) (at + 1)
+pub change_0 : (T : List Token) (at d n : ℕ) (o : Token) → IsAt T at o → same o.kind (the_sign sign.OpenBrace) ≡ true → n ≡ suc d → n ≤ DEPTH_LIMIT → SetsNone T (at + 1) → Reaches T (an_atom d ∷ []) [] at (change_wants n d) (token o ∷ []) (at + 1)
 change_0 T at d n o i h e l s = subst (λ n. Reaches T (an_atom d ∷ []) [] at (change_wants n d) (token o ∷ []) (at + 1)) (sym e) (joined (begin_1 (an_atom d) (suc d) (brace d ∷ []) T at o (begins_brace T at d (suc d) o i h refl) (omega (arith, e, l))) (change_steps T (at + 1) d o (let w = i.within in omega (arith, w)) (omega (arith, e, l)) s))

@@ -7,13 +7,13 @@ use Rattle.ae_lex.specs.declared.kinds.Reserved.TheVariants as word
 use Rattle.ae_lex.specs.declared.kinds.Sign.{Sign}
 use Rattle.ae_lex.specs.declared.kinds.Sign.TheVariants as sign
 use Rattle.ae_syntax.specs.declared.exprs.Expr.{Expr}
-use Rattle.ae_syntax.specs.declared.exprs.Form as form
+use Rattle.ae_syntax.specs.declared.exprs.ExprKind as expr_kind
 use Rattle.ae_syntax.specs.declared.faults.Refusal.{Refusal}
 use Rattle.ae_syntax.specs.declared.faults.Refusal.TheVariants.{Wrong, Deep, Memory}
-use Rattle.ae_syntax.specs.Kinds.{same}
+use Rattle.ae_syntax.specs.Inner.SameKinds.{same}
 use Rattle.ae_syntax.specs.Parts.{Part, tree, span, expression}
-use Rattle.ae_syntax.specs.Grammar.{Row, of_exprs, of_settings, of_names, of_constructors}
-use Rattle.ae_syntax.specs.Machine.{Want, a_post, a_type, pass, past, kept, make, all_differ, ascribe, build, change, the_word, the_sign, row_wants, constant, judge, wrong, deep}
+use Rattle.ae_syntax.specs.Grammar.{Items, of_exprs, of_settings, of_names, of_constructors}
+use Rattle.ae_syntax.specs.Inner.Machine.{Want, a_post, a_type, pass, past, kept, make, all_differ, ascribe, build, change, the_word, the_sign, items_wants, constant, judge, wrong, deep}
 
 -- how strongly a token goes on with what stands before it, from 1 for an arrow to 7 for a point; a relation counts nothing
 abbrev pub grip_of : TokenKind → ℕ
@@ -80,7 +80,7 @@ pub record Lacks (kind : TokenKind) (tokens : List Token) (at : ℕ) : Type 0 wh
 
 -- what comes after the word `distinct`
 abbrev pub distinct_wants : ℕ → List Want
-distinct_wants d = past sign.OpenParen (suc d) ∷ row_wants of_exprs (suc d) ++ kept sign.CloseParen d ∷ make all_differ ∷ []
+distinct_wants d = past sign.OpenParen (suc d) ∷ items_wants of_exprs (suc d) ++ kept sign.CloseParen d ∷ make all_differ ∷ []
 
 -- the sort of an expression in brackets, after its colon, where d is the depth of the bracket that closes them
 abbrev pub ascribed_wants : ℕ → ℕ → List Want
@@ -88,14 +88,14 @@ ascribed_wants n d = a_type n ∷ kept sign.CloseParen d ∷ make ascribe ∷ []
 
 -- the values of a record's fields, and its bracket
 abbrev pub record_wants : ℕ → ℕ → List Want
-record_wants n d = row_wants of_settings n ++ kept sign.CloseBrace d ∷ make build ∷ []
+record_wants n d = items_wants of_settings n ++ kept sign.CloseBrace d ∷ make build ∷ []
 
 -- a record, the values of the fields that are changed, and the bracket
 abbrev pub change_wants : ℕ → ℕ → List Want
-change_wants n d = a_post n ∷ pass (the_word word.With) n ∷ row_wants of_settings n ++ kept sign.CloseBrace d ∷ make change ∷ []
+change_wants n d = a_post n ∷ pass (the_word word.With) n ∷ items_wants of_settings n ++ kept sign.CloseBrace d ∷ make change ∷ []
 
 -- identifiers are parted by this sign
-abbrev pub AreNames : Row → Sign → Type 0
+abbrev pub AreNames : Items → Sign → Type 0
 AreNames of_names s = s ≡ sign.Comma
 AreNames of_constructors s = s ≡ sign.Bar
 AreNames _ s = ⊥
@@ -110,7 +110,7 @@ abbrev pub SetsNone : List Token → ℕ → Type 0
 SetsNone tokens at = Lacks kind.Ident tokens at ⊎ (Stands kind.Ident tokens at × Lacks (the_sign sign.Equal) tokens (at + 1))
 
 -- what an atom of one token is, at its place
-abbrev pub placed : Token → Option form.Form → Option Expr
+abbrev pub placed : Token → Option expr_kind.ExprKind → Option Expr
 placed t (Some f) = Some (expression (span t) f)
 placed t None = None
 

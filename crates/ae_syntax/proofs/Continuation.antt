@@ -8,11 +8,11 @@ use Rattle.ae_lex.specs.declared.kinds.Reserved.TheVariants as word
 use Rattle.ae_lex.specs.declared.kinds.Sign.TheVariants as sign
 use Rattle.ae_syntax.specs.Parts.{Part}
 use Rattle.ae_syntax.specs.Grammar.{of_names, of_constructors, of_settings, file, expr, orC, andC, notC, rel, sum, prod, unary, post, atom, a_type as type_level, a_result as result_level, file_none, decl_type, decl_enumeration, params_none, result_prop, type_name, expr_orE, orC_andC, andC_notC, notC_rel, rel_sum, sum_prod, prod_unary, unary_post, post_atom, atom_name, atom_brackets, atom_record, formals_none, brackets_none, squares_none, id_value, is_id, decl_logic, arguments_none, ac_none}
-use Rattle.ae_syntax.specs.Machine.{Rule, Want, an_expr, an_or, an_and, an_not, a_rel, a_sum, a_prod, a_unary, a_post, an_atom, a_type, more_arrow, more_or, more_and, more_rel, more_sum, more_prod, more_post, more_type, more, keep, pass, make, call, bracket_end, brace, brace_name, triggers_or_dot, a_file, type_head, type_body, type_form, type_end, logic_head, logic_sorts, after_sort, a_result, formals_end, predicate_head, Act, skip, take, opens, refuse, act, idle, unchained, Outcome, read, stops, mark, ended, finish, feed, run}
+use Rattle.ae_syntax.specs.Inner.Machine.{Rule, Want, an_expr, an_or, an_and, an_not, a_rel, a_sum, a_prod, a_unary, a_post, an_atom, a_type, more_arrow, more_or, more_and, more_rel, more_sum, more_prod, more_post, more_type, more, keep, pass, make, call, bracket_end, brace, brace_name, triggers_or_dot, a_file, type_head, type_body, type_definition, type_end, logic_head, logic_sorts, after_sort, a_result, formals_end, predicate_head, Act, skip, take, opens, refuse, act, idle, unchained, Outcome, read, stops, mark, ended, finish, feed, run}
 use Rattle.ae_syntax.proofs.Steps.{went, run_is, went_take, went_opens, went_skip, went_refuse}
-use Rattle.ae_syntax.proofs.Complete.{marks}
+use Rattle.ae_syntax.proofs.GrammarToMachine.{marks}
 use Rattle.ae_syntax.proofs.Pieces.{Some_of, one_of, one, closed, lone, Piece, Cut, Split, cut}
-use Rattle.ae_syntax.proofs.Viable.{Good, good, real, whole_cut, to_open, no_arrow, no_or, no_and, no_rel, no_sum, no_prod, no_post, no_type, no_more, no_call, no_file, no_body, no_end, no_after}
+use Rattle.ae_syntax.proofs.ViablePrefix.{Good, good, real, whole_cut, to_open, no_arrow, no_or, no_and, no_rel, no_sum, no_prod, no_post, no_type, no_more, no_call, no_file, no_body, no_end, no_after}
 
 -- ---- something that each stack can read
 a_token : TokenKind → Token
@@ -88,8 +88,8 @@ d_brace_name n = (
 d_brace : (n : ℕ) → Default (brace n)
 d_brace n = let d = d_brace_name n in (name_token ∷ d.0, λ o ho. d.1 o name_token ho name_is)
 
-d_type_form : Default type_form
-d_type_form = (name_token ∷ [], λ t m e h hm he. let p = one_of of_constructors (name_token ∷ []) (record { value = name_token; is = is_id name_token name_is }) in record { value = _; is = decl_enumeration (name_token ∷ []) t m e h hm he p.is })
+d_type_definition : Default type_definition
+d_type_definition = (name_token ∷ [], λ t m e h hm he. let p = one_of of_constructors (name_token ∷ []) (record { value = name_token; is = is_id name_token name_is }) in record { value = _; is = decl_enumeration (name_token ∷ []) t m e h hm he p.is })
 
 d_type_head : Default type_head
 d_type_head = (name_token ∷ [], λ t h. record { value = _; is = decl_type [] t name_token h params_none name_is })
@@ -149,7 +149,7 @@ readable (triggers_or_dot n ∷ ss) c = with_default (triggers_or_dot n) ss (a_t
 readable (a_file ∷ ss) c = with_none a_file ss no_file (readable ss false)
 readable (type_head ∷ ss) c = with_default type_head ss d_type_head (readable ss false)
 readable (type_body ∷ ss) c = with_none type_body ss no_body (readable ss false)
-readable (type_form ∷ ss) c = with_default type_form ss d_type_form (readable ss false)
+readable (type_definition ∷ ss) c = with_default type_definition ss d_type_definition (readable ss false)
 readable (type_end ∷ ss) c = with_none type_end ss no_end (readable ss false)
 readable (logic_head ∷ ss) c = with_default logic_head ss d_logic_head (readable ss false)
 readable (logic_sorts ∷ ss) c = with_default logic_sorts ss (prop_token ∷ [], lone (prop_token ∷ []) a_result_is) (readable ss false)

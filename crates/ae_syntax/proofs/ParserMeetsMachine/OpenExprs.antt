@@ -10,22 +10,24 @@ use Rattle.ae_syntax.specs.declared.exprs.Quantifier.{Quantifier}
 use Rattle.ae_syntax.specs.declared.exprs.Expr.{Expr}
 use Rattle.ae_syntax.specs.declared.faults.Refusal.{Refusal}
 use Rattle.ae_syntax.specs.declared.faults.Refusal.TheVariants.{Wrong, Deep, Memory}
-use Rattle.ae_syntax.specs.Kinds.{same, quantifies}
+use Rattle.ae_syntax.specs.Kinds.{quantifies}
+use Rattle.ae_syntax.specs.Inner.SameKinds.{same}
 use Rattle.ae_syntax.specs.Parts.{Part, token, tree, negation, negative, alone, and_then, bare}
-use Rattle.ae_syntax.specs.Grammar.{Row, of_exprs, separator}
-use Rattle.ae_syntax.specs.Machine.{Want, Rule, Act, an_expr, an_not, a_rel, a_unary, a_post, an_atom, more, more_post, make, negate, oppose, begin, add, be_bare, call_it, call, bracket_end, brace, apply, skip, take, opens, refuse, act, idle, if_some, on_atom, on_not, on_rel, constant, row_wants, element_wants, let_wants, if_wants, block_wants, kept, the_word, the_sign, judge}
-use Rattle.ae_syntax.specs.Reading.{Done, Fails, Sinks, Answered, IsAt, Stands, Lacks, grip, distinct_wants}
-use Rattle.ae_syntax.proofs.ComposedSteps.{Reaches, Skips, Refuses, start, then_takes, then_makes, then_skips, then_reads, then_keeps, joined, moved, done, relay, weaker, fails_on, sinking, refusing, judge_at, went_skip}
+use Rattle.ae_syntax.specs.Grammar.{Items, of_exprs, separator}
+use Rattle.ae_syntax.specs.Inner.Machine.{Want, Rule, Act, an_expr, an_not, a_rel, a_unary, a_post, an_atom, more, more_post, make, negate, oppose, begin, add, be_bare, call_it, call, bracket_end, brace, apply, skip, take, opens, refuse, act, idle, if_some, on_atom, on_not, on_rel, constant, items_wants, element_wants, let_wants, if_wants, block_wants, kept, the_word, the_sign, judge}
+use Rattle.ae_syntax.specs.Inner.Reading.{Done, Fails, Sinks, Answered, IsAt, Stands, Lacks, grip, distinct_wants}
+use Rattle.ae_syntax.proofs.ParserMeetsMachine.Steps.{Reaches, Skips, Refuses, start, then_takes, then_makes, then_skips, then_reads, then_keeps, joined, moved, done, relay, weaker, fails_on, sinking, refusing, judge_at, went_skip}
+use Rattle.ae_syntax.specs.declared.cursor.TheConstants.{DEPTH_LIMIT}
 
 -- ---- a token that begins something
 pub record Begins (s : Want) (n : ℕ) (new : List Want) (T : List Token) (at : ℕ) (t : Token) : Type 0 where
   pub here : IsAt T at t
   pub acts : (v : List Part) → act s v t t.kind ≡ take n new (token t ∷ v)
 
-pub begin_deep : {A : Type 0} (part : A → Part) (s : Want) (n : ℕ) (new : List Want) (T : List Token) (at bound : ℕ) (t : Token) (e : Refusal) → Begins s n new T at t → 1000 < n → e ≡ Deep at → Answered part (s ∷ []) [] T bound at (Err e)
+pub begin_deep : {A : Type 0} (part : A → Part) (s : Want) (n : ℕ) (new : List Want) (T : List Token) (at bound : ℕ) (t : Token) (e : Refusal) → Begins s n new T at t → DEPTH_LIMIT < n → e ≡ Deep at → Answered part (s ∷ []) [] T bound at (Err e)
 begin_deep part s n new T at bound t e b l h = let i = b.here in sinking part bound n new (λ v. token t ∷ v) t e (start T (s ∷ []) [] at (let w = i.within in omega (arith, w))) i l (λ v. b.acts v) h
 
-pub begin_1 : (s : Want) (n : ℕ) (new : List Want) (T : List Token) (at : ℕ) (t : Token) → Begins s n new T at t → n ≤ 1000 → Reaches T (s ∷ []) [] at (new ++ []) (token t ∷ []) (at + 1)
+pub begin_1 : (s : Want) (n : ℕ) (new : List Want) (T : List Token) (at : ℕ) (t : Token) → Begins s n new T at t → n ≤ DEPTH_LIMIT → Reaches T (s ∷ []) [] at (new ++ []) (token t ∷ []) (at + 1)
 begin_1 s n new T at t b l = let i = b.here in then_takes n new (token t ∷ []) t (start T (s ∷ []) [] at (let w = i.within in omega (arith, w))) i l (λ v. b.acts v)
 
 act_not : (d : ℕ) (v : List Part) (t : Token) (k : TokenKind) → same k (kind.Reserved word.Not) ≡ true → on_not d v t k ≡ take (suc d) (an_not (suc d) ∷ make negate ∷ []) (token t ∷ v)
@@ -76,16 +78,16 @@ pub begins_distinct : (T : List Token) (at d : ℕ) (t : Token) → IsAt T at t 
 begins_distinct T at d t i h = record { here = i; acts = λ v. act_distinct d v t t.kind h }
 
 -- ---- `not` and `-`
-pub not_done : (T : List Token) (at d n to bound : ℕ) (t : Token) (a whole : Expr) → Begins (an_not d) n (an_not n ∷ make negate ∷ []) T at t → n ≤ 1000 → Done (an_not n ∷ []) [] T bound (at + 1) to (tree a) → whole ≡ negation t a → Done (an_not d ∷ []) [] T bound at to (tree whole)
+pub not_done : (T : List Token) (at d n to bound : ℕ) (t : Token) (a whole : Expr) → Begins (an_not d) n (an_not n ∷ make negate ∷ []) T at t → n ≤ DEPTH_LIMIT → Done (an_not n ∷ []) [] T bound (at + 1) to (tree a) → whole ≡ negation t a → Done (an_not d ∷ []) [] T bound at to (tree whole)
 not_done T at d n to bound t a whole b l g e = subst (λ w. Done (an_not d ∷ []) [] T bound at to (tree w)) (sym e) (done (then_makes (tree (negation t a) ∷ []) (then_reads (an_not n ∷ []) (make negate ∷ []) [] (token t ∷ []) (begin_1 (an_not d) n (an_not n ∷ make negate ∷ []) T at t b l) g) (λ v. refl)) g.weak)
 
-pub not_fails : (T : List Token) (at d n bound bound' : ℕ) (t : Token) (e : Refusal) → Begins (an_not d) n (an_not n ∷ make negate ∷ []) T at t → n ≤ 1000 → Answered (λ p. tree p) (an_not n ∷ []) [] T bound' (at + 1) (Err e) → Answered (λ p. tree p) (an_not d ∷ []) [] T bound at (Err e)
+pub not_fails : (T : List Token) (at d n bound bound' : ℕ) (t : Token) (e : Refusal) → Begins (an_not d) n (an_not n ∷ make negate ∷ []) T at t → n ≤ DEPTH_LIMIT → Answered (λ p. tree p) (an_not n ∷ []) [] T bound' (at + 1) (Err e) → Answered (λ p. tree p) (an_not d ∷ []) [] T bound at (Err e)
 not_fails T at d n bound bound' t e b l g = fails_on (λ p. tree p) (λ p. tree p) bound bound' (an_not n ∷ []) (make negate ∷ []) [] (token t ∷ []) e (begin_1 (an_not d) n (an_not n ∷ make negate ∷ []) T at t b l) g
 
-pub minus_done : (T : List Token) (at d n to bound : ℕ) (t : Token) (a whole : Expr) → Begins (a_unary d) n (a_unary n ∷ make oppose ∷ []) T at t → n ≤ 1000 → Done (a_unary n ∷ []) [] T bound (at + 1) to (tree a) → whole ≡ negative t a → Done (a_unary d ∷ []) [] T bound at to (tree whole)
+pub minus_done : (T : List Token) (at d n to bound : ℕ) (t : Token) (a whole : Expr) → Begins (a_unary d) n (a_unary n ∷ make oppose ∷ []) T at t → n ≤ DEPTH_LIMIT → Done (a_unary n ∷ []) [] T bound (at + 1) to (tree a) → whole ≡ negative t a → Done (a_unary d ∷ []) [] T bound at to (tree whole)
 minus_done T at d n to bound t a whole b l g e = subst (λ w. Done (a_unary d ∷ []) [] T bound at to (tree w)) (sym e) (done (then_makes (tree (negative t a) ∷ []) (then_reads (a_unary n ∷ []) (make oppose ∷ []) [] (token t ∷ []) (begin_1 (a_unary d) n (a_unary n ∷ make oppose ∷ []) T at t b l) g) (λ v. refl)) g.weak)
 
-pub minus_fails : (T : List Token) (at d n bound bound' : ℕ) (t : Token) (e : Refusal) → Begins (a_unary d) n (a_unary n ∷ make oppose ∷ []) T at t → n ≤ 1000 → Answered (λ p. tree p) (a_unary n ∷ []) [] T bound' (at + 1) (Err e) → Answered (λ p. tree p) (a_unary d ∷ []) [] T bound at (Err e)
+pub minus_fails : (T : List Token) (at d n bound bound' : ℕ) (t : Token) (e : Refusal) → Begins (a_unary d) n (a_unary n ∷ make oppose ∷ []) T at t → n ≤ DEPTH_LIMIT → Answered (λ p. tree p) (a_unary n ∷ []) [] T bound' (at + 1) (Err e) → Answered (λ p. tree p) (a_unary d ∷ []) [] T bound at (Err e)
 minus_fails T at d n bound bound' t e b l g = fails_on (λ p. tree p) (λ p. tree p) bound bound' (a_unary n ∷ []) (make oppose ∷ []) [] (token t ∷ []) e (begin_1 (a_unary d) n (a_unary n ∷ make oppose ∷ []) T at t b l) g
 
 -- ---- open forms: what their words do
@@ -116,34 +118,34 @@ opens_if d n t h e v = subst (λ n. act (an_not d) v t t.kind ≡ opens n (if_wa
 pub opens_block : (d n : ℕ) (t : Token) (q : Quantifier) → quantifies t.kind ≡ Some q → n ≡ suc d → (v : List Part) → act (an_not d) v t t.kind ≡ opens n (block_wants n) (token t ∷ v)
 opens_block d n t q h e v = subst (λ n. act (an_not d) v t t.kind ≡ opens n (block_wants n) (token t ∷ v)) (sym e) (act_quantifies d v t t.kind q h)
 
--- ---- rows: one or more of a kind, parted by a sign
-pub row_first : (r : Row) (T : List Token) (at d to bound : ℕ) (p q : Part) → at ≤ length T → Done (element_wants r d) [] T bound at to p → q ≡ alone p → Reaches T (row_wants r d) [] at (more r d ∷ []) (q ∷ []) to
-row_first r T at d to bound p q w g e = subst (λ q. Reaches T (row_wants r d) [] at (more r d ∷ []) (q ∷ []) to) (sym e) (then_makes (alone p ∷ []) (then_reads (element_wants r d) (make begin ∷ more r d ∷ []) [] [] (start T (row_wants r d) [] at w) g) (λ v. refl))
+-- ---- items: one or more of a kind, parted by a sign
+pub items_first : (r : Items) (T : List Token) (at d to bound : ℕ) (p q : Part) → at ≤ length T → Done (element_wants r d) [] T bound at to p → q ≡ alone p → Reaches T (items_wants r d) [] at (more r d ∷ []) (q ∷ []) to
+items_first r T at d to bound p q w g e = subst (λ q. Reaches T (items_wants r d) [] at (more r d ∷ []) (q ∷ []) to) (sym e) (then_makes (alone p ∷ []) (then_reads (element_wants r d) (make begin ∷ more r d ∷ []) [] [] (start T (items_wants r d) [] at w) g) (λ v. refl))
 
-pub row_first_fails : {A B : Type 0} (part : A → Part) (inner : B → Part) (r : Row) (T : List Token) (at d bound bound' : ℕ) (e : Refusal) → at ≤ length T → Answered inner (element_wants r d) [] T bound' at (Err e) → Answered part (row_wants r d) [] T bound at (Err e)
-row_first_fails part inner r T at d bound bound' e w g = fails_on part inner bound bound' (element_wants r d) (make begin ∷ more r d ∷ []) [] [] e (start T (row_wants r d) [] at w) g
+pub items_first_fails : {A B : Type 0} (part : A → Part) (inner : B → Part) (r : Items) (T : List Token) (at d bound bound' : ℕ) (e : Refusal) → at ≤ length T → Answered inner (element_wants r d) [] T bound' at (Err e) → Answered part (items_wants r d) [] T bound at (Err e)
+items_first_fails part inner r T at d bound bound' e w g = fails_on part inner bound bound' (element_wants r d) (make begin ∷ more r d ∷ []) [] [] e (start T (items_wants r d) [] at w) g
 
-go_more : (r : Row) (d : ℕ) (v : List Part) (t : Token) (k : TokenKind) → same k (the_sign (separator r)) ≡ true → act (more r d) v t k ≡ take d (element_wants r d ++ make add ∷ more r d ∷ []) v
+go_more : (r : Items) (d : ℕ) (v : List Part) (t : Token) (k : TokenKind) → same k (the_sign (separator r)) ≡ true → act (more r d) v t k ≡ take d (element_wants r d ++ make add ∷ more r d ∷ []) v
 go_more r d v t k h = ap (λ b. cond b (take d (element_wants r d ++ make add ∷ more r d ∷ []) v) (skip v)) h
 
-row_next : (r : Row) (T : List Token) (from at d : ℕ) (q : Part) → Reaches T (row_wants r d) [] from (more r d ∷ []) (q ∷ []) at → Stands (the_sign (separator r)) T at → d ≤ 1000 → Reaches T (row_wants r d) [] from ((element_wants r d ++ make add ∷ more r d ∷ []) ++ []) (q ∷ []) (at + 1)
-row_next r T from at d q p s l = then_takes d (element_wants r d ++ make add ∷ more r d ∷ []) (q ∷ []) s.token p (record { next = s.next; within = s.within }) l (λ v. go_more r d (q ∷ v) s.token (let t = s.token in t.kind) s.is)
+items_next : (r : Items) (T : List Token) (from at d : ℕ) (q : Part) → Reaches T (items_wants r d) [] from (more r d ∷ []) (q ∷ []) at → Stands (the_sign (separator r)) T at → d ≤ DEPTH_LIMIT → Reaches T (items_wants r d) [] from ((element_wants r d ++ make add ∷ more r d ∷ []) ++ []) (q ∷ []) (at + 1)
+items_next r T from at d q p s l = then_takes d (element_wants r d ++ make add ∷ more r d ∷ []) (q ∷ []) s.token p (record { next = s.next; within = s.within }) l (λ v. go_more r d (q ∷ v) s.token (let t = s.token in t.kind) s.is)
 
 append_none : (xs : List Want) → xs ++ [] ≡ xs
 append_none [] = refl
 append_none (x ∷ xs) = ap (λ z. x ∷ z) (append_none xs)
 
-row_next_0 : (r : Row) (T : List Token) (from at d : ℕ) (q : Part) → Reaches T (row_wants r d) [] from (more r d ∷ []) (q ∷ []) at → Stands (the_sign (separator r)) T at → d ≤ 1000 → Reaches T (row_wants r d) [] from (element_wants r d ++ make add ∷ more r d ∷ []) (q ∷ []) (at + 1)
-row_next_0 r T from at d q p s l = subst (λ w. Reaches T (row_wants r d) [] from w (q ∷ []) (at + 1)) (append_none (element_wants r d ++ make add ∷ more r d ∷ [])) (row_next r T from at d q p s l)
+items_next_0 : (r : Items) (T : List Token) (from at d : ℕ) (q : Part) → Reaches T (items_wants r d) [] from (more r d ∷ []) (q ∷ []) at → Stands (the_sign (separator r)) T at → d ≤ DEPTH_LIMIT → Reaches T (items_wants r d) [] from (element_wants r d ++ make add ∷ more r d ∷ []) (q ∷ []) (at + 1)
+items_next_0 r T from at d q p s l = subst (λ w. Reaches T (items_wants r d) [] from w (q ∷ []) (at + 1)) (append_none (element_wants r d ++ make add ∷ more r d ∷ [])) (items_next r T from at d q p s l)
 
-pub row_more : (r : Row) (T : List Token) (from at d to bound : ℕ) (q p q' : Part) → Reaches T (row_wants r d) [] from (more r d ∷ []) (q ∷ []) at → Stands (the_sign (separator r)) T at → d ≤ 1000 → Done (element_wants r d) [] T bound (at + 1) to p → q' ≡ and_then q p → Reaches T (row_wants r d) [] from (more r d ∷ []) (q' ∷ []) to
-row_more r T from at d to bound q p q' h s l g e = subst (λ z. Reaches T (row_wants r d) [] from (more r d ∷ []) (z ∷ []) to) (sym e) (then_makes (and_then q p ∷ []) (then_reads (element_wants r d) (make add ∷ more r d ∷ []) [] (q ∷ []) (row_next_0 r T from at d q h s l) g) (λ v. refl))
+pub items_more : (r : Items) (T : List Token) (from at d to bound : ℕ) (q p q' : Part) → Reaches T (items_wants r d) [] from (more r d ∷ []) (q ∷ []) at → Stands (the_sign (separator r)) T at → d ≤ DEPTH_LIMIT → Done (element_wants r d) [] T bound (at + 1) to p → q' ≡ and_then q p → Reaches T (items_wants r d) [] from (more r d ∷ []) (q' ∷ []) to
+items_more r T from at d to bound q p q' h s l g e = subst (λ z. Reaches T (items_wants r d) [] from (more r d ∷ []) (z ∷ []) to) (sym e) (then_makes (and_then q p ∷ []) (then_reads (element_wants r d) (make add ∷ more r d ∷ []) [] (q ∷ []) (items_next_0 r T from at d q h s l) g) (λ v. refl))
 
-pub row_more_fails : {A B : Type 0} (part : A → Part) (inner : B → Part) (r : Row) (T : List Token) (from at d bound bound' : ℕ) (q : Part) (e : Refusal) → Reaches T (row_wants r d) [] from (more r d ∷ []) (q ∷ []) at → Stands (the_sign (separator r)) T at → d ≤ 1000 → Answered inner (element_wants r d) [] T bound' (at + 1) (Err e) → Answered part (row_wants r d) [] T bound from (Err e)
-row_more_fails part inner r T from at d bound bound' q e h s l g = fails_on part inner bound bound' (element_wants r d) (make add ∷ more r d ∷ []) [] (q ∷ []) e (row_next_0 r T from at d q h s l) g
+pub items_more_fails : {A B : Type 0} (part : A → Part) (inner : B → Part) (r : Items) (T : List Token) (from at d bound bound' : ℕ) (q : Part) (e : Refusal) → Reaches T (items_wants r d) [] from (more r d ∷ []) (q ∷ []) at → Stands (the_sign (separator r)) T at → d ≤ DEPTH_LIMIT → Answered inner (element_wants r d) [] T bound' (at + 1) (Err e) → Answered part (items_wants r d) [] T bound from (Err e)
+items_more_fails part inner r T from at d bound bound' q e h s l g = fails_on part inner bound bound' (element_wants r d) (make add ∷ more r d ∷ []) [] (q ∷ []) e (items_next_0 r T from at d q h s l) g
 
-pub row_ends : (r : Row) (T : List Token) (from at d bound : ℕ) (q : Part) → Reaches T (row_wants r d) [] from (more r d ∷ []) (q ∷ []) at → Lacks (the_sign (separator r)) T at → grip (drop at T) < bound → Done (row_wants r d) [] T bound from at q
-row_ends r T from at d bound q h n g = done (then_skips (q ∷ []) h (λ v. record { here = λ t ts e. ap (λ b. cond b (take d (element_wants r d ++ make add ∷ more r d ∷ []) (q ∷ v)) (skip (q ∷ v))) (n.none t ts e); end = refl })) g
+pub items_ends : (r : Items) (T : List Token) (from at d bound : ℕ) (q : Part) → Reaches T (items_wants r d) [] from (more r d ∷ []) (q ∷ []) at → Lacks (the_sign (separator r)) T at → grip (drop at T) < bound → Done (items_wants r d) [] T bound from at q
+items_ends r T from at d bound q h n g = done (then_skips (q ∷ []) h (λ v. record { here = λ t ts e. ap (λ b. cond b (take d (element_wants r d ++ make add ∷ more r d ∷ []) (q ∷ v)) (skip (q ∷ v))) (n.none t ts e); end = refl })) g
 
 -- ---- the parts of a whole, at its end
 pub made : {T : List Token} {W : List Want} {G : List Part} {at : ℕ} {rule : Rule} {G' : List Part} {to : ℕ} (bound : ℕ) (e whole : Expr) → Reaches T W G at (make rule ∷ []) G' to → ((v : List Part) → apply rule (G' ++ v) ≡ tree e ∷ v) → whole ≡ e → grip (drop to T) < bound → Done W G T bound at to (tree whole)

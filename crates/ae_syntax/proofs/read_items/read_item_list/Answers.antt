@@ -1,7 +1,7 @@
 use Rattle.std.proofs.Common.{ap, ◌∙◌, refl, [], ◌∷◌, ◌++◌}
 use Rattle.std.proofs.lemmas.Result.{err_from_is_err_and}
-use Rattle.ae_syntax.proofs.ComposedDecls.{names_start, names_none, names_step, names_fail, names_end}
-use Rattle.ae_syntax.proofs.read_rows.read_row.Goals as goal
+use Rattle.ae_syntax.proofs.ParserMeetsMachine.Decls.{names_start, names_none, names_step, names_fail, names_end}
+use Rattle.ae_syntax.proofs.read_items.read_item_list.Goals as goal
 
 pub returns-in_err-first : goal.returns-in_err-first
 returns-in_err-first c = let p = err_from_is_err_and c.from_residual.result c.from_residual.ensures.1 in rw (p.1, p.2) (names_none c.args.separator c.requires.within c.in_err-first.ensures.lacks c.in_err-first.ensures.wrong)

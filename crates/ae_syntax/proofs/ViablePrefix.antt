@@ -1,4 +1,4 @@
--- What an act leaves can be read is read by the want that acts: one lemma for each row of the table.
+-- What an act leaves can be read is read by the want that acts: one lemma for each line of the table.
 use Rattle.std.proofs.Common.{ℕ, suc, Bool, true, false, cond, List, [], ◌∷◌, ◌++◌, ◌≡◌, Option, Some, None, refl, sym, ap, ◌∙◌, subst, append_assoc, append-nil}
 use Rattle.ae_lex.specs.declared.kinds.Token.{Token}
 use Rattle.ae_lex.specs.declared.kinds.TokenKind.{TokenKind}
@@ -10,13 +10,14 @@ use Rattle.ae_syntax.specs.declared.exprs.BinaryOp.{BinaryOp}
 use Rattle.ae_syntax.specs.declared.exprs.Quantifier.{Quantifier}
 use Rattle.ae_syntax.specs.declared.exprs.Number.TheVariants as number
 use Rattle.ae_syntax.specs.declared.exprs.Expr.{Expr}
-use Rattle.ae_syntax.specs.Kinds.{arrow, relation, additive, multiplicative, quantifies, numeral, same}
+use Rattle.ae_syntax.specs.Kinds.{arrow, relation, additive, multiplicative, quantifies, numeral}
+use Rattle.ae_syntax.specs.Inner.SameKinds.{same}
 use Rattle.ae_syntax.specs.Parts.{Part}
-use Rattle.ae_syntax.specs.Grammar.{IsWord, IsSign, IsIdent, IsTypeVar, of_names, of_constructors, of_vars, of_types, of_fields, of_formals, of_groups, of_exprs, of_triggers, of_settings, separator, Row, Level, file, a_decl, ac, params, formals, in_squares, a_result as result_level, a_type as type_level, expr, orE, orC, andE, andC, notE, notC, rel, sum, prod, unary, post, atom, some, element, Is, file_decl, decl_type, decl_record, decl_enumeration, decl_logic, decl_function, decl_predicate, decl_axiom, decl_goal, is_id, ac_none, ac_word, params_none, params_var, params_vars, id_type, formals_none, formals_some, brackets_none, brackets_some, arguments_none, arguments_some, result_type, result_prop, type_int, type_real, type_bool, type_unit, type_var, type_name, type_postfix, type_brackets, expr_arrow, expr_orE, orE_or, orE_andE, orC_or, orC_andC, andE_and, andE_notE, andC_and, andC_notC, notE_not, notE_open, notE_rel, notC_not, notC_rel, open_quantified, open_let, open_if, squares_none, squares_some, rel_two, rel_sum, sum_two, sum_prod, prod_two, prod_unary, unary_minus, unary_post, post_field, post_atom, atom_name, atom_call, atom_numeral, atom_true, atom_false, atom_void, atom_brackets, atom_ascribed, atom_distinct, atom_record, atom_update, id_value}
-use Rattle.ae_syntax.specs.Machine.{Rule, begin, add, join, negate, oppose, quantify, bind_name, choose, take_field, call_it, enclose, ascribe, all_differ, set, build, change, bracket_sorts, more_params, give_type, be_record, be_choice, be_symbols, be_function, be_predicate, be_axiom, be_goal, sort_result, Want, an_expr, an_or, an_and, an_not, a_rel, a_sum, a_prod, a_unary, a_post, an_atom, a_type, more_arrow, more_or, more_and, more_rel, more_sum, more_prod, more_post, more_type, more, keep, pass, make, call, bracket_end, brace, brace_name, triggers_or_dot, a_file, type_head, type_body, type_form, type_end, logic_head, logic_sorts, after_sort, a_result, formals_end, predicate_head, Act, skip, take, opens, refuse, then_wants, if_some, the_word, the_sign, element_wants, constant, base_type, operand, on_atom, on_post, on_unary, on_prod, on_sum, on_rel, on_not, on_and, on_or, on_expr, on_type, on_result, on_brace_name, update_wants, act, unchained}
-use Rattle.ae_syntax.proofs.Levels.{Firm, Plain, plain_atom, plain_post, plain_unary, plain_prod, plain_sum, firm_not, firm_and, firm_or, plain_cond, plain_some, plain_take, plain_refuse}
-use Rattle.ae_syntax.proofs.Alike.{never, same_is}
-use Rattle.ae_syntax.proofs.Pieces.{Some_of, one_of, more_of, one, Closed, closed, Arity, lone, full, or_level, and_level, not_level, Piece, Cut, Chain, Split, cut, unchain, sew, prefixed, Bit, want, row, mk, Pieces, last, next, expand, reals, quiet, gather, element_of, all_rows}
+use Rattle.ae_syntax.specs.Grammar.{IsWord, IsSign, IsIdent, IsTypeVar, of_names, of_constructors, of_vars, of_types, of_fields, of_formals, of_groups, of_exprs, of_triggers, of_settings, separator, Items, Level, file, a_decl, ac, params, formals, in_squares, a_result as result_level, a_type as type_level, expr, orE, orC, andE, andC, notE, notC, rel, sum, prod, unary, post, atom, some, element, Is, file_decl, decl_type, decl_record, decl_enumeration, decl_logic, decl_function, decl_predicate, decl_axiom, decl_goal, is_id, ac_none, ac_word, params_none, params_var, params_vars, id_type, formals_none, formals_some, brackets_none, brackets_some, arguments_none, arguments_some, result_type, result_prop, type_int, type_real, type_bool, type_unit, type_var, type_name, type_postfix, type_brackets, expr_arrow, expr_orE, orE_or, orE_andE, orC_or, orC_andC, andE_and, andE_notE, andC_and, andC_notC, notE_not, notE_open, notE_rel, notC_not, notC_rel, open_quantified, open_let, open_if, squares_none, squares_some, rel_two, rel_sum, sum_two, sum_prod, prod_two, prod_unary, unary_minus, unary_post, post_field, post_atom, atom_name, atom_call, atom_numeral, atom_true, atom_false, atom_void, atom_brackets, atom_ascribed, atom_distinct, atom_record, atom_update, id_value}
+use Rattle.ae_syntax.specs.Inner.Machine.{Rule, begin, add, join, negate, oppose, quantify, bind_name, choose, take_field, call_it, enclose, ascribe, all_differ, set, build, change, bracket_sorts, more_params, give_type, be_record, be_choice, be_symbols, be_function, be_predicate, be_axiom, be_goal, sort_result, Want, an_expr, an_or, an_and, an_not, a_rel, a_sum, a_prod, a_unary, a_post, an_atom, a_type, more_arrow, more_or, more_and, more_rel, more_sum, more_prod, more_post, more_type, more, keep, pass, make, call, bracket_end, brace, brace_name, triggers_or_dot, a_file, type_head, type_body, type_definition, type_end, logic_head, logic_sorts, after_sort, a_result, formals_end, predicate_head, Act, skip, take, opens, refuse, then_wants, if_some, the_word, the_sign, element_wants, constant, base_type, operand, on_atom, on_post, on_unary, on_prod, on_sum, on_rel, on_not, on_and, on_or, on_expr, on_type, on_result, on_brace_name, update_wants, act, unchained}
+use Rattle.ae_syntax.proofs.Acts.{Firm, Plain, plain_atom, plain_post, plain_unary, plain_prod, plain_sum, firm_not, firm_and, firm_or, plain_cond, plain_some, plain_take, plain_refuse}
+use Rattle.ae_syntax.proofs.SameKinds.{never, same_is}
+use Rattle.ae_syntax.proofs.Pieces.{Some_of, one_of, more_of, one, Closed, closed, Arity, lone, full, or_level, and_level, not_level, Piece, Cut, Chain, Split, cut, unchain, sew, prefixed, Bit, want, items, mk, Pieces, last, next, expand, reals, quiet, gather, element_of, all_items}
 
 clash : {A : Type 0} {B : Type 0} {x : A} → ◌≡◌ {A = Option A} None (Some x) → B
 clash {A} {B} {x} e = absurd (go e)
@@ -94,7 +95,7 @@ whole_cut (make r) e ss y k = never e
 whole_cut s e ss y k = k
 
 good_bits : (s : Want) → real s ≡ true → (bs : List Bit) → quiet bs ≡ true → (ss : List Want) (t : Token) (d : ℕ) (u : List Part) → ((e : Bool) (w : List Token) → Pieces (reals bs) w → Piece s e (t ∷ w)) → Good s ss t (take d (expand bs) u)
-good_bits s r bs q ss t d u f = good_take s ss t d (expand bs) u (λ y p. whole_cut s r ss (t ∷ y) (prefixed t y f (gather bs q (all_rows bs) ss false y p)))
+good_bits s r bs q ss t d u f = good_take s ss t d (expand bs) u (λ y p. whole_cut s r ss (t ∷ y) (prefixed t y f (gather bs q (all_items bs) ss false y p)))
 
 good_one : (s : Want) → real s ≡ true → (ss : List Want) (t : Token) (d : ℕ) (u : List Part) → Piece s false (t ∷ []) → Good s ss t (take d [] u)
 good_one s r ss t d u f = good_take s ss t d [] u (λ y p. whole_cut s r ss (t ∷ y) (cut false (t ∷ []) y f p))
@@ -198,7 +199,7 @@ no_post n x q = unread post x q
 pub no_type : (n : ℕ) → Piece (more_type n) false []
 no_type n x q = unread type_level x q
 
-pub no_more : (r : Row) (n : ℕ) → Piece (more r n) false []
+pub no_more : (r : Items) (n : ℕ) → Piece (more r n) false []
 no_more r n x q = unread (some r) x q
 
 pub no_call : (n : ℕ) → Piece (call n) false []
@@ -227,9 +228,9 @@ by_brace : (n : ℕ) (t : Token) → IsSign sign.OpenBrace t → (e : Bool) (w :
 by_brace n t h e w (last _ _ p) = p t h
 
 distinct_bits : ℕ → List Bit
-distinct_bits n = want (pass (kind.Sign sign.OpenParen) (suc n)) ∷ row of_exprs (suc n) ∷ want (keep (kind.Sign sign.CloseParen) n) ∷ mk all_differ ∷ []
+distinct_bits n = want (pass (kind.Sign sign.OpenParen) (suc n)) ∷ items of_exprs (suc n) ∷ want (keep (kind.Sign sign.CloseParen) n) ∷ mk all_differ ∷ []
 
-by_distinct : (n : ℕ) (t : Token) → IsWord word.Distinct t → (e : Bool) (w : List Token) → Pieces (want (pass (kind.Sign sign.OpenParen) (suc n)) ∷ row of_exprs (suc n) ∷ want (keep (kind.Sign sign.CloseParen) n) ∷ []) w → Some_of atom (t ∷ w)
+by_distinct : (n : ℕ) (t : Token) → IsWord word.Distinct t → (e : Bool) (w : List Token) → Pieces (want (pass (kind.Sign sign.OpenParen) (suc n)) ∷ items of_exprs (suc n) ∷ want (keep (kind.Sign sign.CloseParen) n) ∷ []) w → Some_of atom (t ∷ w)
 by_distinct n t h e _ (next _ _ _ (one o ho) (next _ w _ p (last _ _ (one c hc)))) = record { value = _; is = atom_distinct w t o c h ho p.is hc }
 
 constant_is : (t : Token) (k : TokenKind) (a : Expr) → t.kind ≡ k → constant t k ≡ Some a → Some_of atom (t ∷ [])
@@ -271,7 +272,7 @@ good_rel n v t ss = good_plain (on_sum n v t t.kind) (a_sum n) (more_rel n ∷ [
 
 -- ---- open forms
 good_open : (n : ℕ) (bs : List Bit) → quiet bs ≡ true → (ss : List Want) (t : Token) (d : ℕ) (u : List Part) → ((w : List Token) → Pieces (reals bs) w → Some_of notE (t ∷ w)) → Good (an_not n) ss t (opens d (expand bs) u)
-good_open n bs q ss t d u f = good_opens (an_not n) ss t d (expand bs) u (λ y p. go y (gather bs q (all_rows bs) (unchained ss) false y p))
+good_open n bs q ss t d u f = good_opens (an_not n) ss t d (expand bs) u (λ y p. go y (gather bs q (all_items bs) (unchained ss) false y p))
   where
     go : (y : List Token) → Cut (λ d u. Pieces (reals bs) u) (Split (unchained ss)) y → Cut (Piece (an_not n)) (Split ss) (t ∷ y)
     go y k = record { open_end = true; here = t ∷ k.here; there = k.there; whole = ap (λ z. t ∷ z) k.whole; is = f k.here k.is; more = unchain ss k.open_end k.there k.more }
@@ -289,9 +290,9 @@ by_if : (n : ℕ) (t : Token) → IsWord word.If t → (w : List Token) → Piec
 by_if n t h _ (next _ c _ p (next _ _ _ (one m hm) (next _ a _ q (next _ _ _ (one l hl) (last _ b r))))) = subst (λ z. Some_of notE (t ∷ z)) (append_assoc c (m ∷ a) (l ∷ b)) record { value = _; is = notE_open (open_if c a b t m l h p.is hm q.is hl r.is) }
 
 block_bits : ℕ → List Bit
-block_bits n = row of_groups n ∷ want (triggers_or_dot n) ∷ want (an_expr n) ∷ mk quantify ∷ []
+block_bits n = items of_groups n ∷ want (triggers_or_dot n) ∷ want (an_expr n) ∷ mk quantify ∷ []
 
-by_block : (n : ℕ) (t : Token) (b : Quantifier) → quantifies t.kind ≡ Some b → (w : List Token) → Pieces (row of_groups n ∷ want (triggers_or_dot n) ∷ want (an_expr n) ∷ []) w → Some_of notE (t ∷ w)
+by_block : (n : ℕ) (t : Token) (b : Quantifier) → quantifies t.kind ≡ Some b → (w : List Token) → Pieces (items of_groups n ∷ want (triggers_or_dot n) ∷ want (an_expr n) ∷ []) w → Some_of notE (t ∷ w)
 by_block n t b h _ (next _ u _ p (next _ _ _ (closed x d r hd) (last _ w q))) = subst (λ z. Some_of notE (t ∷ z)) (append_assoc u x (d ∷ w) ∙ ap (λ z. u ++ z) (sym (append_assoc x (d ∷ []) w))) record { value = _; is = notE_open (open_quantified u x w t d b h p.is r.is hd q.is) }
 
 good_not : (n : ℕ) (v : List Part) (t : Token) (ss : List Want) → Good (an_not n) ss t (on_not n v t t.kind)
@@ -362,7 +363,7 @@ by_name m n t h e x (last _ _ k) = λ z q. regroup type_level z t [] x (k (z ++ 
 good_more_type : (n : ℕ) (v : List Part) (t : Token) (ss : List Want) → Good (more_type n) ss t (act (more_type n) v t t.kind)
 good_more_type n v t ss = good_kind (more_type n) ss t kind.Ident _ _ (λ h. good_bits (more_type n) refl (want (more_type (suc n)) ∷ []) refl ss t (suc n) _ (by_name (suc n) n t h)) (good_none (more_type n) refl ss t v (no_type n))
 
-good_more : (r : Row) (n : ℕ) (v : List Part) (t : Token) (ss : List Want) → Good (more r n) ss t (act (more r n) v t t.kind)
+good_more : (r : Items) (n : ℕ) (v : List Part) (t : Token) (ss : List Want) → Good (more r n) ss t (act (more r n) v t t.kind)
 good_more r n v t ss = good_kind (more r n) ss t (the_sign (separator r)) _ _
     (λ h. good_take (more r n) ss t n _ v (λ y p. prefixed {piece = λ d u. (z : List Token) → Some_of (some r) z → Some_of (some r) (z ++ t ∷ u)} {whole = Piece (more r n)} {after = Split ss} t y (λ d u f. f)
     (sew {first = λ d u. Some_of (element r) u} {second = Piece (more r n)} {both = λ d u. (z : List Token) → Some_of (some r) z → Some_of (some r) (z ++ t ∷ u)} {after = Split ss} y (λ c d u x p k z q. regroup (some r) z t u x (k (z ++ t ∷ u) (more_of r z u t q h p)))
@@ -377,9 +378,9 @@ good_pass : (j : TokenKind) (n : ℕ) (v : List Part) (t : Token) (ss : List Wan
 good_pass j n v t ss = good_kind (pass j n) ss t j _ _ (λ h. good_one (pass j n) refl ss t n _ (one t h)) (good_refuse (pass j n) ss t)
 
 call_bits : ℕ → List Bit
-call_bits n = row of_exprs (suc n) ∷ want (keep (kind.Sign sign.CloseParen) n) ∷ mk call_it ∷ []
+call_bits n = items of_exprs (suc n) ∷ want (keep (kind.Sign sign.CloseParen) n) ∷ mk call_it ∷ []
 
-by_terms : (n : ℕ) (t : Token) → IsSign sign.OpenParen t → (e : Bool) (w : List Token) → Pieces (row of_exprs (suc n) ∷ want (keep (kind.Sign sign.CloseParen) n) ∷ []) w → Piece (call n) e (t ∷ w)
+by_terms : (n : ℕ) (t : Token) → IsSign sign.OpenParen t → (e : Bool) (w : List Token) → Pieces (items of_exprs (suc n) ∷ want (keep (kind.Sign sign.CloseParen) n) ∷ []) w → Piece (call n) e (t ∷ w)
 by_terms n t h e _ (next _ w _ p (last _ _ (one c hc))) = λ m hm. record { value = _; is = atom_call w m t c hm h p.is hc }
 
 good_call : (n : ℕ) (v : List Part) (t : Token) (ss : List Want) → Good (call n) ss t (act (call n) v t t.kind)
@@ -399,14 +400,14 @@ good_bracket_end n v t ss =
 by_brace_name : (n : ℕ) (t : Token) → IsIdent t → (e : Bool) (w : List Token) → Pieces (want (brace_name n) ∷ []) w → Piece (brace n) e (t ∷ w)
 by_brace_name n t h e w (last _ _ p) = λ o ho. p o t ho h
 
-update_is : (n : ℕ) (w : List Token) → Pieces (want (a_post (suc n)) ∷ want (pass (kind.Reserved word.With) (suc n)) ∷ row of_settings (suc n) ∷ want (keep (kind.Sign sign.CloseBrace) n) ∷ []) w → (o : Token) → IsSign sign.OpenBrace o → Some_of atom (o ∷ w)
+update_is : (n : ℕ) (w : List Token) → Pieces (want (a_post (suc n)) ∷ want (pass (kind.Reserved word.With) (suc n)) ∷ items of_settings (suc n) ∷ want (keep (kind.Sign sign.CloseBrace) n) ∷ []) w → (o : Token) → IsSign sign.OpenBrace o → Some_of atom (o ∷ w)
 update_is n _ (next _ u _ p (next _ _ _ (one h hh) (next _ w _ q (last _ _ (one c hc))))) o ho = subst (λ z. Some_of atom (o ∷ z)) (append_assoc u (h ∷ w) (c ∷ [])) record { value = _; is = atom_update u w o h c ho p.is hh q.is hc }
 
 update_bits : ℕ → List Bit
-update_bits n = want (pass (kind.Reserved word.With) (suc n)) ∷ row of_settings (suc n) ∷ want (keep (kind.Sign sign.CloseBrace) n) ∷ mk change ∷ []
+update_bits n = want (pass (kind.Reserved word.With) (suc n)) ∷ items of_settings (suc n) ∷ want (keep (kind.Sign sign.CloseBrace) n) ∷ mk change ∷ []
 
 update_level : (n : ℕ) (ss : List Want) (y : List Token) → Split (a_post (suc n) ∷ update_wants n ++ ss) false y → Split (brace n ∷ ss) false y
-update_level n ss y k = recut y (λ d u p. update_is n u p) (gather (want (a_post (suc n)) ∷ want (pass (kind.Reserved word.With) (suc n)) ∷ row of_settings (suc n) ∷ want (keep (kind.Sign sign.CloseBrace) n) ∷ mk change ∷ []) refl (all_rows (want (a_post (suc n)) ∷ want (pass (kind.Reserved word.With) (suc n)) ∷ row of_settings (suc n) ∷ want (keep (kind.Sign sign.CloseBrace) n) ∷ mk change ∷ [])) ss false y k)
+update_level n ss y k = recut y (λ d u p. update_is n u p) (gather (want (a_post (suc n)) ∷ want (pass (kind.Reserved word.With) (suc n)) ∷ items of_settings (suc n) ∷ want (keep (kind.Sign sign.CloseBrace) n) ∷ mk change ∷ []) refl (all_items (want (a_post (suc n)) ∷ want (pass (kind.Reserved word.With) (suc n)) ∷ items of_settings (suc n) ∷ want (keep (kind.Sign sign.CloseBrace) n) ∷ mk change ∷ [])) ss false y k)
 
 good_brace : (n : ℕ) (v : List Part) (t : Token) (ss : List Want) → Good (brace n) ss t (act (brace n) v t t.kind)
 good_brace n v t ss =
@@ -421,36 +422,36 @@ by_equal n t h e _ (next _ u _ p (next _ w _ q (last _ _ (one c hc)))) = λ o m 
 record_after : (u w : List Token) (o h c : Token) → IsSign sign.OpenBrace o → Some_of post u → IsWord word.With h → Some_of (some of_settings) w → IsSign sign.CloseBrace c → Some_of atom (o ∷ (u ++ h ∷ (w ++ c ∷ [])))
 record_after u w o h c ho p hh q hc = subst (λ z. Some_of atom (o ∷ z)) (append_assoc u (h ∷ w) (c ∷ [])) record { value = _; is = atom_update u w o h c ho p.is hh q.is hc }
 
-by_call_there : (n : ℕ) (t : Token) → IsSign sign.OpenParen t → (e : Bool) (w : List Token) → Pieces (row of_exprs (suc (suc n)) ∷ want (keep (kind.Sign sign.CloseParen) (suc n)) ∷ want (more_post (suc n)) ∷ want (pass (kind.Reserved word.With) (suc n)) ∷ row of_settings (suc n) ∷ want (keep (kind.Sign sign.CloseBrace) n) ∷ []) w → Piece (brace_name n) e (t ∷ w)
+by_call_there : (n : ℕ) (t : Token) → IsSign sign.OpenParen t → (e : Bool) (w : List Token) → Pieces (items of_exprs (suc (suc n)) ∷ want (keep (kind.Sign sign.CloseParen) (suc n)) ∷ want (more_post (suc n)) ∷ want (pass (kind.Reserved word.With) (suc n)) ∷ items of_settings (suc n) ∷ want (keep (kind.Sign sign.CloseBrace) n) ∷ []) w → Piece (brace_name n) e (t ∷ w)
 by_call_there n t h e _ (next _ a _ p (next _ _ _ (one c hc) (next _ x _ k (next _ _ _ (one g hg) (next _ w _ q (last _ _ (one f hf))))))) = λ o m ho hm.
     let r = k (m ∷ t ∷ (a ++ c ∷ [])) record { value = _; is = post_atom (atom_call a m t c hm h p.is hc) } in
     subst (λ z. Some_of atom (o ∷ m ∷ t ∷ z)) (append_assoc (a ++ c ∷ []) x (g ∷ (w ++ f ∷ [])) ∙ append_assoc a (c ∷ []) (x ++ g ∷ (w ++ f ∷ [])))
     (record_after (m ∷ t ∷ (a ++ c ∷ []) ++ x) w o g f ho r hg q hf)
 
-by_field_there : (n : ℕ) (t : Token) → IsSign sign.Dot t → (e : Bool) (w : List Token) → Pieces (want (keep kind.Ident (suc (suc n))) ∷ want (more_post (suc (suc n))) ∷ want (pass (kind.Reserved word.With) (suc n)) ∷ row of_settings (suc n) ∷ want (keep (kind.Sign sign.CloseBrace) n) ∷ []) w → Piece (brace_name n) e (t ∷ w)
+by_field_there : (n : ℕ) (t : Token) → IsSign sign.Dot t → (e : Bool) (w : List Token) → Pieces (want (keep kind.Ident (suc (suc n))) ∷ want (more_post (suc (suc n))) ∷ want (pass (kind.Reserved word.With) (suc n)) ∷ items of_settings (suc n) ∷ want (keep (kind.Sign sign.CloseBrace) n) ∷ []) w → Piece (brace_name n) e (t ∷ w)
 by_field_there n t h e _ (next _ _ _ (one i hi) (next _ x _ k (next _ _ _ (one g hg) (next _ w _ q (last _ _ (one f hf)))))) = λ o m ho hm.
     record_after (m ∷ t ∷ i ∷ x) w o g f ho (k (m ∷ t ∷ i ∷ []) record { value = _; is = post_field (m ∷ []) t i (post_atom (atom_name m hm)) h hi }) hg q hf
 
-by_with : (n : ℕ) (t : Token) → IsWord word.With t → (e : Bool) (w : List Token) → Pieces (row of_settings (suc n) ∷ want (keep (kind.Sign sign.CloseBrace) n) ∷ []) w → Piece (brace_name n) e (t ∷ w)
+by_with : (n : ℕ) (t : Token) → IsWord word.With t → (e : Bool) (w : List Token) → Pieces (items of_settings (suc n) ∷ want (keep (kind.Sign sign.CloseBrace) n) ∷ []) w → Piece (brace_name n) e (t ∷ w)
 by_with n t h e _ (next _ w _ q (last _ _ (one f hf))) = λ o m ho hm. record_after (m ∷ []) w o t f ho record { value = _; is = post_atom (atom_name m hm) } h q hf
 
 good_brace_name : (n : ℕ) (v : List Part) (t : Token) (ss : List Want) → Good (brace_name n) ss t (on_brace_name n v t t.kind)
 unfolding update_bits
 good_brace_name n v t ss =
     good_kind (brace_name n) ss t (the_sign sign.Equal) _ _ (λ h. good_bits (brace_name n) refl (want (an_expr (suc n)) ∷ mk set ∷ mk begin ∷ want (more of_settings (suc n)) ∷ want (keep (kind.Sign sign.CloseBrace) n) ∷ mk build ∷ []) refl ss t (suc n) v (by_equal n t h))
-    (good_kind (brace_name n) ss t (the_sign sign.OpenParen) _ _ (λ h. good_bits (brace_name n) refl (row of_exprs (suc (suc n)) ∷ want (keep (kind.Sign sign.CloseParen) (suc n)) ∷ mk call_it ∷ want (more_post (suc n)) ∷ update_bits n) refl ss t (suc (suc n)) v (by_call_there n t h))
+    (good_kind (brace_name n) ss t (the_sign sign.OpenParen) _ _ (λ h. good_bits (brace_name n) refl (items of_exprs (suc (suc n)) ∷ want (keep (kind.Sign sign.CloseParen) (suc n)) ∷ mk call_it ∷ want (more_post (suc n)) ∷ update_bits n) refl ss t (suc (suc n)) v (by_call_there n t h))
     (good_kind (brace_name n) ss t (the_sign sign.Dot) _ _ (λ h. good_bits (brace_name n) refl (want (keep kind.Ident (suc (suc n))) ∷ mk take_field ∷ want (more_post (suc (suc n))) ∷ update_bits n) refl ss t (suc (suc n)) _ (by_field_there n t h))
-    (good_kind (brace_name n) ss t (the_word word.With) _ _ (λ h. good_bits (brace_name n) refl (row of_settings (suc n) ∷ want (keep (kind.Sign sign.CloseBrace) n) ∷ mk change ∷ []) refl ss t (suc n) _ (by_with n t h))
+    (good_kind (brace_name n) ss t (the_word word.With) _ _ (λ h. good_bits (brace_name n) refl (items of_settings (suc n) ∷ want (keep (kind.Sign sign.CloseBrace) n) ∷ mk change ∷ []) refl ss t (suc n) _ (by_with n t h))
     (good_refuse (brace_name n) ss t))))
 
 -- ---- triggers
-by_squares : (n : ℕ) (t : Token) → IsSign sign.OpenBracket t → (e : Bool) (w : List Token) → Pieces (row of_triggers (suc n) ∷ want (pass (kind.Sign sign.CloseBracket) n) ∷ want (pass (kind.Sign sign.Dot) n) ∷ []) w → Piece (triggers_or_dot n) e (t ∷ w)
+by_squares : (n : ℕ) (t : Token) → IsSign sign.OpenBracket t → (e : Bool) (w : List Token) → Pieces (items of_triggers (suc n) ∷ want (pass (kind.Sign sign.CloseBracket) n) ∷ want (pass (kind.Sign sign.Dot) n) ∷ []) w → Piece (triggers_or_dot n) e (t ∷ w)
 by_squares n t h e _ (next _ w _ p (next _ _ _ (one c hc) (last _ _ (one f hf)))) = subst (λ z. Closed in_squares (kind.Sign sign.Dot) (t ∷ z)) (append_assoc w (c ∷ []) (f ∷ [])) (closed (t ∷ (w ++ c ∷ [])) f record { value = _; is = squares_some w t c h p.is hc } hf)
 
 good_triggers : (n : ℕ) (v : List Part) (t : Token) (ss : List Want) → Good (triggers_or_dot n) ss t (act (triggers_or_dot n) v t t.kind)
 good_triggers n v t ss =
     good_kind (triggers_or_dot n) ss t (the_sign sign.Dot) _ _ (λ h. good_one (triggers_or_dot n) refl ss t n _ (closed [] t record { value = _; is = squares_none } h))
-    (good_kind (triggers_or_dot n) ss t (the_sign sign.OpenBracket) _ _ (λ h. good_bits (triggers_or_dot n) refl (row of_triggers (suc n) ∷ want (pass (kind.Sign sign.CloseBracket) n) ∷ want (pass (kind.Sign sign.Dot) n) ∷ []) refl ss t (suc n) v (by_squares n t h))
+    (good_kind (triggers_or_dot n) ss t (the_sign sign.OpenBracket) _ _ (λ h. good_bits (triggers_or_dot n) refl (items of_triggers (suc n) ∷ want (pass (kind.Sign sign.CloseBracket) n) ∷ want (pass (kind.Sign sign.Dot) n) ∷ []) refl ss t (suc n) v (by_squares n t h))
     (good_refuse (triggers_or_dot n) ss t))
 
 -- ---- types
@@ -466,7 +467,7 @@ base_is t k a h e = clash e
 by_base : (n : ℕ) (t : Token) (a : WrittenType) → base_type t t.kind ≡ Some a → (e : Bool) (w : List Token) → Pieces (want (more_type n) ∷ []) w → Some_of type_level (t ∷ w)
 by_base n t a h e x (last _ _ k) = k (t ∷ []) (base_is t t.kind a refl h)
 
-by_sorts : (n : ℕ) (t : Token) → IsSign sign.OpenParen t → (e : Bool) (w : List Token) → Pieces (want (a_type (suc n)) ∷ want (pass (kind.Sign sign.Comma) (suc n)) ∷ row of_types (suc n) ∷ want (pass (kind.Sign sign.CloseParen) n) ∷ want (keep kind.Ident (suc n)) ∷ want (more_type (suc n)) ∷ []) w → Some_of type_level (t ∷ w)
+by_sorts : (n : ℕ) (t : Token) → IsSign sign.OpenParen t → (e : Bool) (w : List Token) → Pieces (want (a_type (suc n)) ∷ want (pass (kind.Sign sign.Comma) (suc n)) ∷ items of_types (suc n) ∷ want (pass (kind.Sign sign.CloseParen) n) ∷ want (keep kind.Ident (suc n)) ∷ want (more_type (suc n)) ∷ []) w → Some_of type_level (t ∷ w)
 by_sorts n t h e _ (next _ u _ p (next _ _ _ (one m hm) (next _ w _ q (next _ _ _ (one c hc) (next _ _ _ (one i hi) (last _ x k)))))) =
     let r = k (t ∷ ((u ++ m ∷ w) ++ c ∷ i ∷ [])) record { value = _; is = type_brackets u w t m c i h p.is hm q.is hc hi } in
     subst (λ z. Some_of type_level (t ∷ z)) (append_assoc (u ++ m ∷ w) (c ∷ i ∷ []) x ∙ append_assoc u (m ∷ w) (c ∷ i ∷ x)) r
@@ -474,7 +475,7 @@ by_sorts n t h e _ (next _ u _ p (next _ _ _ (one m hm) (next _ w _ q (next _ _ 
 good_type : (n : ℕ) (v : List Part) (t : Token) (ss : List Want) → Good (a_type n) ss t (on_type n v t t.kind)
 good_type n v t ss =
     good_some (a_type n) ss t (base_type t t.kind) _ _ (λ a h. good_bits (a_type n) refl (want (more_type n) ∷ []) refl ss t n _ (by_base n t a h))
-    (good_kind (a_type n) ss t (the_sign sign.OpenParen) _ _ (λ h. good_bits (a_type n) refl (want (a_type (suc n)) ∷ want (pass (kind.Sign sign.Comma) (suc n)) ∷ row of_types (suc n) ∷ want (pass (kind.Sign sign.CloseParen) n) ∷ want (keep kind.Ident (suc n)) ∷ mk bracket_sorts ∷ want (more_type (suc n)) ∷ []) refl ss t (suc n) _ (by_sorts n t h))
+    (good_kind (a_type n) ss t (the_sign sign.OpenParen) _ _ (λ h. good_bits (a_type n) refl (want (a_type (suc n)) ∷ want (pass (kind.Sign sign.Comma) (suc n)) ∷ items of_types (suc n) ∷ want (pass (kind.Sign sign.CloseParen) n) ∷ want (keep kind.Ident (suc n)) ∷ mk bracket_sorts ∷ want (more_type (suc n)) ∷ []) refl ss t (suc n) _ (by_sorts n t h))
     (good_refuse (a_type n) ss t))
 
 plain_type : (n : ℕ) (v : List Part) (t : Token) (k : TokenKind) → Plain (on_type n v t k)
@@ -487,7 +488,7 @@ by_type_name t h e w (last _ _ p) = λ f hf. p f t hf h
 by_type_var : (t : Token) → IsTypeVar t → (e : Bool) (w : List Token) → Pieces (want (keep kind.Ident 0) ∷ want type_end ∷ []) w → Piece type_head e (t ∷ w)
 by_type_var t h e _ (next _ _ _ (one m hm) (last _ _ q)) = λ f hf. q f hf (t ∷ []) record { value = _; is = params_var t h } m hm
 
-by_type_vars : (t : Token) → IsSign sign.OpenParen t → (e : Bool) (w : List Token) → Pieces (want (keep kind.TypeVar 1) ∷ want (pass (kind.Sign sign.Comma) 1) ∷ row of_vars 1 ∷ want (pass (kind.Sign sign.CloseParen) 0) ∷ want (keep kind.Ident 0) ∷ want type_end ∷ []) w → Piece type_head e (t ∷ w)
+by_type_vars : (t : Token) → IsSign sign.OpenParen t → (e : Bool) (w : List Token) → Pieces (want (keep kind.TypeVar 1) ∷ want (pass (kind.Sign sign.Comma) 1) ∷ items of_vars 1 ∷ want (pass (kind.Sign sign.CloseParen) 0) ∷ want (keep kind.Ident 0) ∷ want type_end ∷ []) w → Piece type_head e (t ∷ w)
 by_type_vars t h e _ (next _ _ _ (one a ha) (next _ _ _ (one k hk) (next _ w _ p (next _ _ _ (one c hc) (next _ _ _ (one m hm) (last _ x q)))))) = λ f hf.
     subst (λ z. Some_of a_decl (f ∷ t ∷ a ∷ k ∷ z)) (append_assoc w (c ∷ []) (m ∷ x)) (q f hf (t ∷ a ∷ k ∷ (w ++ c ∷ [])) record { value = _; is = params_vars w t a k c h ha hk p.is hc } m hm)
 
@@ -495,42 +496,42 @@ good_type_head : (v : List Part) (t : Token) (ss : List Want) → Good type_head
 good_type_head v t ss =
     good_kind type_head ss t kind.Ident _ _ (λ h. good_bits type_head refl (want type_body ∷ []) refl ss t 0 _ (by_type_name t h))
     (good_kind type_head ss t kind.TypeVar _ _ (λ h. good_bits type_head refl (want (keep kind.Ident 0) ∷ want type_end ∷ []) refl ss t 0 _ (by_type_var t h))
-    (good_kind type_head ss t (the_sign sign.OpenParen) _ _ (λ h. good_bits type_head refl (want (keep kind.TypeVar 1) ∷ want (pass (kind.Sign sign.Comma) 1) ∷ row of_vars 1 ∷ want (pass (kind.Sign sign.CloseParen) 0) ∷ mk more_params ∷ want (keep kind.Ident 0) ∷ want type_end ∷ []) refl ss t 1 v (by_type_vars t h))
+    (good_kind type_head ss t (the_sign sign.OpenParen) _ _ (λ h. good_bits type_head refl (want (keep kind.TypeVar 1) ∷ want (pass (kind.Sign sign.Comma) 1) ∷ items of_vars 1 ∷ want (pass (kind.Sign sign.CloseParen) 0) ∷ mk more_params ∷ want (keep kind.Ident 0) ∷ want type_end ∷ []) refl ss t 1 v (by_type_vars t h))
     (good_refuse type_head ss t)))
 
-by_body : (t : Token) → IsSign sign.Equal t → (e : Bool) (w : List Token) → Pieces (want type_form ∷ []) w → Piece type_body e (t ∷ w)
+by_body : (t : Token) → IsSign sign.Equal t → (e : Bool) (w : List Token) → Pieces (want type_definition ∷ []) w → Piece type_body e (t ∷ w)
 by_body t h e w (last _ _ p) = λ f m hf hm. p f m t hf hm h
 
 good_type_body : (v : List Part) (t : Token) (ss : List Want) → Good type_body ss t (act type_body v t t.kind)
-good_type_body v t ss = good_kind type_body ss t (the_sign sign.Equal) _ _ (λ h. good_bits type_body refl (want type_form ∷ []) refl ss t 0 v (by_body t h)) (good_none type_body refl ss t _ no_body)
+good_type_body v t ss = good_kind type_body ss t (the_sign sign.Equal) _ _ (λ h. good_bits type_body refl (want type_definition ∷ []) refl ss t 0 v (by_body t h)) (good_none type_body refl ss t _ no_body)
 
 record_is : (x w : List Token) (t m e o c : Token) → IsWord word.Type_ t → Some_of params x → IsIdent m → IsSign sign.Equal e → IsSign sign.OpenBrace o → Some_of (some of_fields) w → IsSign sign.CloseBrace c → Some_of a_decl (t ∷ (x ++ m ∷ e ∷ o ∷ (w ++ c ∷ [])))
 record_is x w t m e o c h q hm he ho p hc = subst (λ z. Some_of a_decl (t ∷ z)) (append_assoc x (m ∷ e ∷ o ∷ w) (c ∷ [])) record { value = _; is = decl_record x w t m e o c h q.is hm he ho p.is hc }
 
-by_fields : (t : Token) → IsSign sign.OpenBrace t → (e : Bool) (w : List Token) → Pieces (row of_fields 1 ∷ want (keep (kind.Sign sign.CloseBrace) 0) ∷ []) w → Piece type_form e (t ∷ w)
+by_fields : (t : Token) → IsSign sign.OpenBrace t → (e : Bool) (w : List Token) → Pieces (items of_fields 1 ∷ want (keep (kind.Sign sign.CloseBrace) 0) ∷ []) w → Piece type_definition e (t ∷ w)
 by_fields t h e _ (next _ w _ p (last _ _ (one c hc))) = λ f m q hf hm hq. record_is [] w f m q t c hf record { value = _; is = params_none } hm hq h p hc
 
-by_constructors : (t : Token) → IsIdent t → (e : Bool) (w : List Token) → Pieces (want (more of_constructors 0) ∷ []) w → Piece type_form e (t ∷ w)
+by_constructors : (t : Token) → IsIdent t → (e : Bool) (w : List Token) → Pieces (want (more of_constructors 0) ∷ []) w → Piece type_definition e (t ∷ w)
 by_constructors t h e w (last _ _ p) = λ f m q hf hm hq. let r = p (t ∷ []) (one_of of_constructors (t ∷ []) (record { value = t; is = is_id t h })) in record { value = _; is = decl_enumeration (t ∷ w) f m q hf hm hq r.is }
 
-good_type_form : (v : List Part) (t : Token) (ss : List Want) → Good type_form ss t (act type_form v t t.kind)
-good_type_form v t ss =
-    good_kind type_form ss t (the_sign sign.OpenBrace) _ _ (λ h. good_bits type_form refl (row of_fields 1 ∷ want (keep (kind.Sign sign.CloseBrace) 0) ∷ mk be_record ∷ []) refl ss t 1 v (by_fields t h))
-    (good_kind type_form ss t kind.Ident _ _ (λ h. good_bits type_form refl (mk begin ∷ want (more of_constructors 0) ∷ mk be_choice ∷ []) refl ss t 0 _ (by_constructors t h))
-    (good_refuse type_form ss t))
+good_type_definition : (v : List Part) (t : Token) (ss : List Want) → Good type_definition ss t (act type_definition v t t.kind)
+good_type_definition v t ss =
+    good_kind type_definition ss t (the_sign sign.OpenBrace) _ _ (λ h. good_bits type_definition refl (items of_fields 1 ∷ want (keep (kind.Sign sign.CloseBrace) 0) ∷ mk be_record ∷ []) refl ss t 1 v (by_fields t h))
+    (good_kind type_definition ss t kind.Ident _ _ (λ h. good_bits type_definition refl (mk begin ∷ want (more of_constructors 0) ∷ mk be_choice ∷ []) refl ss t 0 _ (by_constructors t h))
+    (good_refuse type_definition ss t))
 
-by_type_end : (t : Token) → IsSign sign.Equal t → (e : Bool) (w : List Token) → Pieces (want (pass (kind.Sign sign.OpenBrace) 1) ∷ row of_fields 1 ∷ want (keep (kind.Sign sign.CloseBrace) 0) ∷ []) w → Piece type_end e (t ∷ w)
+by_type_end : (t : Token) → IsSign sign.Equal t → (e : Bool) (w : List Token) → Pieces (want (pass (kind.Sign sign.OpenBrace) 1) ∷ items of_fields 1 ∷ want (keep (kind.Sign sign.CloseBrace) 0) ∷ []) w → Piece type_end e (t ∷ w)
 by_type_end t h e _ (next _ _ _ (one o ho) (next _ w _ p (last _ _ (one c hc)))) = λ f hf x q m hm. record_is x w f m t o c hf q hm h ho p hc
 
 good_type_end : (v : List Part) (t : Token) (ss : List Want) → Good type_end ss t (act type_end v t t.kind)
-good_type_end v t ss = good_kind type_end ss t (the_sign sign.Equal) _ _ (λ h. good_bits type_end refl (want (pass (kind.Sign sign.OpenBrace) 1) ∷ row of_fields 1 ∷ want (keep (kind.Sign sign.CloseBrace) 0) ∷ mk be_record ∷ []) refl ss t 0 v (by_type_end t h)) (good_none type_end refl ss t _ no_end)
+good_type_end v t ss = good_kind type_end ss t (the_sign sign.Equal) _ _ (λ h. good_bits type_end refl (want (pass (kind.Sign sign.OpenBrace) 1) ∷ items of_fields 1 ∷ want (keep (kind.Sign sign.CloseBrace) 0) ∷ mk be_record ∷ []) refl ss t 0 v (by_type_end t h)) (good_none type_end refl ss t _ no_end)
 
 -- ---- declarations of symbols
 logic_is : (t : Token) → IsWord word.Logic t → (u : List Token) → Some_of ac u → (x : List Token) → Some_of (some of_names) x → (c : Token) → IsSign sign.Colon c → (z : List Token) → Arity z → Some_of a_decl (t ∷ (u ++ (x ++ c ∷ z)))
 logic_is t h u a x p c hc z (lone _ r) = subst (λ z. Some_of a_decl (t ∷ z)) (append_assoc (u ++ x) (c ∷ []) z ∙ append_assoc u x (c ∷ z)) record { value = _; is = decl_logic u x [] z t c h a.is p.is hc arguments_none r.is }
 logic_is t h u a x p c hc _ (full w y b q hb r) = subst (λ z. Some_of a_decl (t ∷ z)) (append_assoc (u ++ x) (c ∷ (w ++ b ∷ [])) y ∙ append_assoc u x (c ∷ ((w ++ b ∷ []) ++ y)) ∙ ap (λ z. u ++ (x ++ c ∷ z)) (append_assoc w (b ∷ []) y)) record { value = _; is = decl_logic u x (w ++ b ∷ []) y t c h a.is p.is hc (arguments_some w b q.is hb) r.is }
 
-by_ac : (t : Token) → IsWord word.Ac t → (e : Bool) (w : List Token) → Pieces (row of_names 0 ∷ want (pass (kind.Sign sign.Colon) 0) ∷ want logic_sorts ∷ []) w → Piece logic_head e (t ∷ w)
+by_ac : (t : Token) → IsWord word.Ac t → (e : Bool) (w : List Token) → Pieces (items of_names 0 ∷ want (pass (kind.Sign sign.Colon) 0) ∷ want logic_sorts ∷ []) w → Piece logic_head e (t ∷ w)
 by_ac t h e _ (next _ x _ p (next _ _ _ (one c hc) (last _ z a))) = λ f hf. logic_is f hf (t ∷ []) record { value = _; is = ac_word t h } x p c hc z a
 
 by_symbols : (t : Token) → IsIdent t → (e : Bool) (w : List Token) → Pieces (want (more of_names 0) ∷ want (pass (kind.Sign sign.Colon) 0) ∷ want logic_sorts ∷ []) w → Piece logic_head e (t ∷ w)
@@ -538,7 +539,7 @@ by_symbols t h e _ (next _ x _ p (next _ _ _ (one c hc) (last _ z a))) = λ f hf
 
 good_logic_head : (v : List Part) (t : Token) (ss : List Want) → Good logic_head ss t (act logic_head v t t.kind)
 good_logic_head v t ss =
-    good_kind logic_head ss t (the_word word.Ac) _ _ (λ h. good_bits logic_head refl (row of_names 0 ∷ want (pass (kind.Sign sign.Colon) 0) ∷ want logic_sorts ∷ []) refl ss t 0 _ (by_ac t h))
+    good_kind logic_head ss t (the_word word.Ac) _ _ (λ h. good_bits logic_head refl (items of_names 0 ∷ want (pass (kind.Sign sign.Colon) 0) ∷ want logic_sorts ∷ []) refl ss t 0 _ (by_ac t h))
     (good_kind logic_head ss t kind.Ident _ _ (λ h. good_bits logic_head refl (mk begin ∷ want (more of_names 0) ∷ want (pass (kind.Sign sign.Colon) 0) ∷ want logic_sorts ∷ []) refl ss t 0 _ (by_symbols t h))
     (good_refuse logic_head ss t))
 
@@ -593,12 +594,12 @@ good_predicate_head v t ss =
     (good_refuse predicate_head ss t))
 
 -- ---- files
-file_row : (bs : List Bit) → quiet bs ≡ true → (ss : List Want) (t : Token) (u : List Part) → ((w : List Token) → Pieces (reals bs) w → Some_of a_decl (t ∷ w)) → Good a_file ss t (take 0 (expand bs ++ make add ∷ a_file ∷ []) u)
-file_row bs q ss t u f = good_take a_file ss t 0 (expand bs ++ make add ∷ a_file ∷ []) u (λ y p.
+file_items : (bs : List Bit) → quiet bs ≡ true → (ss : List Want) (t : Token) (u : List Part) → ((w : List Token) → Pieces (reals bs) w → Some_of a_decl (t ∷ w)) → Good a_file ss t (take 0 (expand bs ++ make add ∷ a_file ∷ []) u)
+file_items bs q ss t u f = good_take a_file ss t 0 (expand bs ++ make add ∷ a_file ∷ []) u (λ y p.
     prefixed {piece = λ d u. (z : List Token) → Some_of file z → Some_of file (z ++ t ∷ u)} {whole = Piece a_file} {after = Split ss} t y (λ d u g. g)
     (sew {first = λ d u. Pieces (reals bs) u} {second = Piece a_file} {both = λ d u. (z : List Token) → Some_of file z → Some_of file (z ++ t ∷ u)} {after = Split ss} y
     (λ c d u x p k z r. let g = f u p in regroup file z t u x (k (z ++ t ∷ u) record { value = _; is = file_decl z (t ∷ u) r.is g.is }))
-    (gather bs q (all_rows bs) (make add ∷ a_file ∷ ss) false y (subst (λ z. Split z false y) (append_assoc (expand bs) (make add ∷ a_file ∷ []) ss) p))))
+    (gather bs q (all_items bs) (make add ∷ a_file ∷ ss) false y (subst (λ z. Split z false y) (append_assoc (expand bs) (make add ∷ a_file ∷ []) ss) p))))
 
 by_type_decl : (t : Token) → IsWord word.Type_ t → (w : List Token) → Pieces (want type_head ∷ []) w → Some_of a_decl (t ∷ w)
 by_type_decl t h w (last _ _ p) = p t h
@@ -620,12 +621,12 @@ by_goal : (t : Token) → IsWord word.Goal t → (w : List Token) → Pieces (wa
 by_goal t h _ (next _ _ _ (one m hm) (next _ _ _ (one c hc) (last _ w k))) = record { value = _; is = decl_goal w t m c h hm hc k.is }
 
 good_file : (v : List Part) (t : Token) (ss : List Want) (k : TokenKind) → t.kind ≡ k → Good a_file ss t (act a_file v t k)
-good_file v t ss (kind.Reserved word.Type_) h = file_row (want type_head ∷ []) refl ss t _ (by_type_decl t h)
-good_file v t ss (kind.Reserved word.Logic) h = file_row (want logic_head ∷ []) refl ss t _ (by_logic t h)
-good_file v t ss (kind.Reserved word.Function) h = file_row (want (keep kind.Ident 0) ∷ want (pass (kind.Sign sign.OpenParen) 1) ∷ want formals_end ∷ want (pass (kind.Sign sign.Colon) 0) ∷ want (a_type 0) ∷ want (pass (kind.Sign sign.Equal) 0) ∷ want (an_expr 0) ∷ mk be_function ∷ []) refl ss t _ (by_function t h)
-good_file v t ss (kind.Reserved word.Predicate) h = file_row (want (keep kind.Ident 0) ∷ want predicate_head ∷ want (an_expr 0) ∷ mk be_predicate ∷ []) refl ss t _ (by_predicate t h)
-good_file v t ss (kind.Reserved word.Axiom) h = file_row (want (keep kind.Ident 0) ∷ want (pass (kind.Sign sign.Colon) 0) ∷ want (an_expr 0) ∷ mk be_axiom ∷ []) refl ss t _ (by_axiom t h)
-good_file v t ss (kind.Reserved word.Goal) h = file_row (want (keep kind.Ident 0) ∷ want (pass (kind.Sign sign.Colon) 0) ∷ want (an_expr 0) ∷ mk be_goal ∷ []) refl ss t _ (by_goal t h)
+good_file v t ss (kind.Reserved word.Type_) h = file_items (want type_head ∷ []) refl ss t _ (by_type_decl t h)
+good_file v t ss (kind.Reserved word.Logic) h = file_items (want logic_head ∷ []) refl ss t _ (by_logic t h)
+good_file v t ss (kind.Reserved word.Function) h = file_items (want (keep kind.Ident 0) ∷ want (pass (kind.Sign sign.OpenParen) 1) ∷ want formals_end ∷ want (pass (kind.Sign sign.Colon) 0) ∷ want (a_type 0) ∷ want (pass (kind.Sign sign.Equal) 0) ∷ want (an_expr 0) ∷ mk be_function ∷ []) refl ss t _ (by_function t h)
+good_file v t ss (kind.Reserved word.Predicate) h = file_items (want (keep kind.Ident 0) ∷ want predicate_head ∷ want (an_expr 0) ∷ mk be_predicate ∷ []) refl ss t _ (by_predicate t h)
+good_file v t ss (kind.Reserved word.Axiom) h = file_items (want (keep kind.Ident 0) ∷ want (pass (kind.Sign sign.Colon) 0) ∷ want (an_expr 0) ∷ mk be_axiom ∷ []) refl ss t _ (by_axiom t h)
+good_file v t ss (kind.Reserved word.Goal) h = file_items (want (keep kind.Ident 0) ∷ want (pass (kind.Sign sign.Colon) 0) ∷ want (an_expr 0) ∷ mk be_goal ∷ []) refl ss t _ (by_goal t h)
 good_file v t ss k h = good_none a_file refl ss t v no_file
 
 -- ---- every want
@@ -661,7 +662,7 @@ good (triggers_or_dot n) v t ss = good_triggers n v t ss
 good a_file v t ss = good_file v t ss t.kind refl
 good type_head v t ss = good_type_head v t ss
 good type_body v t ss = good_type_body v t ss
-good type_form v t ss = good_type_form v t ss
+good type_definition v t ss = good_type_definition v t ss
 good type_end v t ss = good_type_end v t ss
 good logic_head v t ss = good_logic_head v t ss
 good logic_sorts v t ss = good_logic_sorts v t ss

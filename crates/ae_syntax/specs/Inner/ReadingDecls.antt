@@ -13,9 +13,10 @@ use Rattle.ae_syntax.specs.declared.faults.SyntaxFault.{SyntaxFault}
 use Rattle.ae_syntax.specs.declared.faults.SyntaxFault.TheVariants as fault
 use Rattle.ae_syntax.specs.Files.{place, next_is_outside}
 use Rattle.ae_syntax.specs.Parts.{Part, names, typeds, sorts, decls}
-use Rattle.ae_syntax.specs.Grammar.{Row, of_types, separator}
-use Rattle.ae_syntax.specs.Machine.{Want, keep, more, a_file, element_wants, row_wants, typed_wants, judge, all, wrong, deep}
-use Rattle.ae_syntax.specs.Reading.{Fails, Sinks, Answered}
+use Rattle.ae_syntax.specs.Grammar.{Items, of_types, separator}
+use Rattle.ae_syntax.specs.Inner.Machine.{Want, keep, more, a_file, element_wants, items_wants, typed_wants, judge, all, wrong, deep}
+use Rattle.ae_syntax.specs.Inner.Reading.{Fails, Sinks, Answered}
+use Rattle.ae_syntax.specs.declared.cursor.TheConstants.{DEPTH_LIMIT}
 
 -- from one place to another the tokens turn these wants and parts into those, whatever else is
 pub record Leads (wants : List Want) (given : List Part) (tokens : List Token) (at : ℕ) (wants' : List Want) (given' : List Part) (to : ℕ) : Type 0 where
@@ -34,13 +35,13 @@ abbrev pub Turns : {A : Type 0} → List Want → List Part → List Token → �
 Turns wants given tokens at wants' parts (Ok p) = Leads wants given tokens at wants' (parts p.0) p.1
 Turns wants given tokens at wants' parts (Err e) = Halts wants given tokens at e
 
--- a row of tokens of a kind, parted by a sign, at each depth
+-- items that are tokens of a kind, parted by a sign, at each depth
 abbrev pub NamesRead : TokenKind → Sign → List Token → ℕ → Result (List Span × ℕ) Refusal → Type 0
-NamesRead k s tokens at r = (w : Row) (d : ℕ) → element_wants w d ≡ keep k d ∷ [] → separator w ≡ s → d ≤ 1000 → Answered (λ ns. names ns) (row_wants w d) [] tokens 8 at r
+NamesRead k s tokens at r = (w : Items) (d : ℕ) → element_wants w d ≡ keep k d ∷ [] → separator w ≡ s → d ≤ DEPTH_LIMIT → Answered (λ ns. names ns) (items_wants w d) [] tokens 8 at r
 
--- a row of names with their types, in brackets
+-- names with their types, in brackets
 abbrev pub TypedsRead : Sign → List Token → ℕ → Result (List TypedName × ℕ) Refusal → Type 0
-TypedsRead s tokens at r = (w : Row) → element_wants w 1 ≡ typed_wants 1 → separator w ≡ s → Answered (λ ns. typeds ns) (row_wants w 1) [] tokens 8 at r
+TypedsRead s tokens at r = (w : Items) → element_wants w 1 ≡ typed_wants 1 → separator w ≡ s → Answered (λ ns. typeds ns) (items_wants w 1) [] tokens 8 at r
 
 -- more types were found after these ones, and they go on whatever list there is
 pub record SortsGoOn (before found : List WrittenType) (d : ℕ) (tokens : List Token) (at to : ℕ) (wants : List Want) : Type 0 where

@@ -5,10 +5,11 @@ use Rattle.ae_lex.specs.declared.kinds.Token.{Token}
 use Rattle.ae_lex.specs.declared.kinds.TokenKind.{TokenKind}
 use Rattle.ae_syntax.specs.declared.faults.Refusal.{Refusal}
 use Rattle.ae_syntax.specs.declared.faults.Refusal.TheVariants.{Wrong, Deep, Memory}
-use Rattle.ae_syntax.specs.Kinds.{same}
+use Rattle.ae_syntax.specs.Inner.SameKinds.{same}
 use Rattle.ae_syntax.specs.Parts.{Part, token}
-use Rattle.ae_syntax.specs.Machine.{Want, keep, pass, make, Rule, apply, Act, skip, take, opens, refuse, act, idle, unchained, Outcome, read, stops, mark, Fed, fed, unfed, after, feed, ended, finish, onward, run, Verdict, all, wrong, deep, limited, judge}
-use Rattle.ae_syntax.specs.Reading.{Done, Fails, Sinks, Answered, IsAt, Stands, Lacks, grip}
+use Rattle.ae_syntax.specs.Inner.Machine.{Want, keep, pass, make, Rule, apply, Act, skip, take, opens, refuse, act, idle, unchained, Outcome, read, stops, mark, Fed, fed, unfed, after, feed, ended, finish, onward, run, Verdict, all, wrong, deep, limited, judge}
+use Rattle.ae_syntax.specs.Inner.Reading.{Done, Fails, Sinks, Answered, IsAt, Stands, Lacks, grip}
+use Rattle.ae_syntax.specs.declared.cursor.TheConstants.{DEPTH_LIMIT}
 
 -- ---- one step
 -- what follows an act
@@ -30,25 +31,25 @@ one_less : (n : ℕ) (o : Outcome) → limited (suc n - 1) o ≡ limited n o
 one_less n o = let e : suc n - 1 ≡ n = omega arith in ap (λ n. limited n o) e
 
 -- a mark that is within the limit, and one that is not
-marked : (d n : ℕ) (o : Outcome) → d ≤ 1000 → limited (suc n) (mark d o) ≡ limited n o
-marked d n o l = ap (λ b. cond b (limited (suc n - 1) o) (deep (suc n))) (le_true d 1000 l) ∙ one_less n o
+marked : (d n : ℕ) (o : Outcome) → d ≤ DEPTH_LIMIT → limited (suc n) (mark d o) ≡ limited n o
+marked d n o l = ap (λ b. cond b (limited (suc n - 1) o) (deep (suc n))) (le_true d DEPTH_LIMIT l) ∙ one_less n o
 
-marked_deep : (d n : ℕ) (o : Outcome) → 1000 < d → limited (suc n) (mark d o) ≡ deep (suc n)
-marked_deep d n o l = ap (λ b. cond b (limited (suc n - 1) o) (deep (suc n))) (le_false d 1000 l)
+marked_deep : (d n : ℕ) (o : Outcome) → DEPTH_LIMIT < d → limited (suc n) (mark d o) ≡ deep (suc n)
+marked_deep d n o l = ap (λ b. cond b (limited (suc n - 1) o) (deep (suc n))) (le_false d DEPTH_LIMIT l)
 
-pub went_take : (d : ℕ) (new : List Want) (u : List Part) (ss : List Want) (t : Token) (ts : List Token) → d ≤ 1000 → went (take d new u) ss t ts ≡ judge ts (new ++ ss) u
+pub went_take : (d : ℕ) (new : List Want) (u : List Part) (ss : List Want) (t : Token) (ts : List Token) → d ≤ DEPTH_LIMIT → went (take d new u) ss t ts ≡ judge ts (new ++ ss) u
 unfolding went run feed
 went_take d new u ss t ts l = marked d (length ts) (run ts (new ++ ss) u) l
 
-pub went_deep : (d : ℕ) (new : List Want) (u : List Part) (ss : List Want) (t : Token) (ts : List Token) → 1000 < d → went (take d new u) ss t ts ≡ deep (suc (length ts))
+pub went_deep : (d : ℕ) (new : List Want) (u : List Part) (ss : List Want) (t : Token) (ts : List Token) → DEPTH_LIMIT < d → went (take d new u) ss t ts ≡ deep (suc (length ts))
 unfolding went run feed
 went_deep d new u ss t ts l = marked_deep d (length ts) (run ts (new ++ ss) u) l
 
-pub went_opens : (d : ℕ) (new : List Want) (u : List Part) (ss : List Want) (t : Token) (ts : List Token) → d ≤ 1000 → went (opens d new u) ss t ts ≡ judge ts (new ++ unchained ss) u
+pub went_opens : (d : ℕ) (new : List Want) (u : List Part) (ss : List Want) (t : Token) (ts : List Token) → d ≤ DEPTH_LIMIT → went (opens d new u) ss t ts ≡ judge ts (new ++ unchained ss) u
 unfolding went run feed
 went_opens d new u ss t ts l = marked d (length ts) (run ts (new ++ unchained ss) u) l
 
-pub went_opens_deep : (d : ℕ) (new : List Want) (u : List Part) (ss : List Want) (t : Token) (ts : List Token) → 1000 < d → went (opens d new u) ss t ts ≡ deep (suc (length ts))
+pub went_opens_deep : (d : ℕ) (new : List Want) (u : List Part) (ss : List Want) (t : Token) (ts : List Token) → DEPTH_LIMIT < d → went (opens d new u) ss t ts ≡ deep (suc (length ts))
 unfolding went run feed
 went_opens_deep d new u ss t ts l = marked_deep d (length ts) (run ts (new ++ unchained ss) u) l
 
@@ -110,7 +111,7 @@ pub record Reaches (T : List Token) (W : List Want) (G : List Part) (at : ℕ) (
 pub start : (T : List Token) (W : List Want) (G : List Part) (at : ℕ) → at ≤ length T → Reaches T W G at W G at
 start T W G at w = record { runs = λ ss v. refl; further = omega arith; within = w }
 
-pub then_takes : {T : List Token} {W : List Want} {G : List Part} {at : ℕ} {s : Want} {W' : List Want} {G' : List Part} {at' : ℕ} (d : ℕ) (new : List Want) (u : List Part) (t : Token) → Reaches T W G at (s ∷ W') G' at' → IsAt T at' t → d ≤ 1000 → ((v : List Part) → act s (G' ++ v) t t.kind ≡ take d new (u ++ v)) → Reaches T W G at (new ++ W') u (at' + 1)
+pub then_takes : {T : List Token} {W : List Want} {G : List Part} {at : ℕ} {s : Want} {W' : List Want} {G' : List Part} {at' : ℕ} (d : ℕ) (new : List Want) (u : List Part) (t : Token) → Reaches T W G at (s ∷ W') G' at' → IsAt T at' t → d ≤ DEPTH_LIMIT → ((v : List Part) → act s (G' ++ v) t t.kind ≡ take d new (u ++ v)) → Reaches T W G at (new ++ W') u (at' + 1)
 then_takes {T} {W} {G} {at} {s} {W'} {G'} {at'} d new u t r i l a = record {
   runs = λ ss v. r.runs ss v ∙ judge_at T at' t s (W' ++ ss) (G' ++ v) (take d new (u ++ v)) i (a v) ∙ went_take d new (u ++ v) (W' ++ ss) t (drop (at' + 1) T) l ∙ ap (λ z. judge (drop (at' + 1) T) z (u ++ v)) (sym (append_assoc new W' ss));
   further = let f = r.further in omega (arith, f);
@@ -186,12 +187,12 @@ lacks_keep part {T} {W} {G} {at} {k} {d} {W'} {G'} {at'} bound e r l h = refusin
 pub lacks_pass : {A : Type 0} (part : A → Part) {T : List Token} {W : List Want} {G : List Part} {at : ℕ} {k : TokenKind} {d : ℕ} {W' : List Want} {G' : List Part} {at' : ℕ} (bound : ℕ) (e : Refusal) → Reaches T W G at (pass k d ∷ W') G' at' → Lacks k T at' → e ≡ Wrong at' → Answered part W G T bound at (Err e)
 lacks_pass part {T} {W} {G} {at} {k} {d} {W'} {G'} {at'} bound e r l h = refusing part bound e r (λ v. no_pass k d (G' ++ v) T at' l) h
 
-pub then_keeps : {T : List Token} {W : List Want} {G : List Part} {at : ℕ} {k : TokenKind} {d : ℕ} {W' : List Want} {G' : List Part} {at' : ℕ} (t : Token) → Reaches T W G at (keep k d ∷ W') G' at' → IsAt T at' t → same t.kind k ≡ true → d ≤ 1000 → Reaches T W G at W' (token t ∷ G') (at' + 1)
+pub then_keeps : {T : List Token} {W : List Want} {G : List Part} {at : ℕ} {k : TokenKind} {d : ℕ} {W' : List Want} {G' : List Part} {at' : ℕ} (t : Token) → Reaches T W G at (keep k d ∷ W') G' at' → IsAt T at' t → same t.kind k ≡ true → d ≤ DEPTH_LIMIT → Reaches T W G at W' (token t ∷ G') (at' + 1)
 then_keeps {T} {W} {G} {at} {k} {d} {W'} {G'} {at'} t r i h l = then_takes d [] (token t ∷ G') t r i l (λ v. ap (λ b. cond b (take d [] (token t ∷ G' ++ v)) refuse) h)
 
-pub then_passes : {T : List Token} {W : List Want} {G : List Part} {at : ℕ} {k : TokenKind} {d : ℕ} {W' : List Want} {G' : List Part} {at' : ℕ} (t : Token) → Reaches T W G at (pass k d ∷ W') G' at' → IsAt T at' t → same t.kind k ≡ true → d ≤ 1000 → Reaches T W G at W' G' (at' + 1)
+pub then_passes : {T : List Token} {W : List Want} {G : List Part} {at : ℕ} {k : TokenKind} {d : ℕ} {W' : List Want} {G' : List Part} {at' : ℕ} (t : Token) → Reaches T W G at (pass k d ∷ W') G' at' → IsAt T at' t → same t.kind k ≡ true → d ≤ DEPTH_LIMIT → Reaches T W G at W' G' (at' + 1)
 then_passes {T} {W} {G} {at} {k} {d} {W'} {G'} {at'} t r i h l = then_takes d [] G' t r i l (λ v. ap (λ b. cond b (take d [] (G' ++ v)) refuse) h)
 
 -- a token that is too deep
-pub sinking : {A : Type 0} (part : A → Part) {T : List Token} {W : List Want} {G : List Part} {at : ℕ} {s : Want} {W' : List Want} {G' : List Part} {at' : ℕ} (bound d : ℕ) (new : List Want) (u : List Part → List Part) (t : Token) (e : Refusal) → Reaches T W G at (s ∷ W') G' at' → IsAt T at' t → 1000 < d → ((v : List Part) → act s (G' ++ v) t t.kind ≡ take d new (u v)) → e ≡ Deep at' → Answered part W G T bound at (Err e)
+pub sinking : {A : Type 0} (part : A → Part) {T : List Token} {W : List Want} {G : List Part} {at : ℕ} {s : Want} {W' : List Want} {G' : List Part} {at' : ℕ} (bound d : ℕ) (new : List Want) (u : List Part → List Part) (t : Token) (e : Refusal) → Reaches T W G at (s ∷ W') G' at' → IsAt T at' t → DEPTH_LIMIT < d → ((v : List Part) → act s (G' ++ v) t t.kind ≡ take d new (u v)) → e ≡ Deep at' → Answered part W G T bound at (Err e)
 sinking part {T} {W} {G} {at} {s} {W'} {G'} {at'} bound d new u t e r i l a h = subst (λ e. Answered part W G T bound at (Err e)) (sym h) (record { runs = λ ss v. r.runs ss v ∙ judge_at T at' t s (W' ++ ss) (G' ++ v) (take d new (u v)) i (a v) ∙ went_deep d new (u v) (W' ++ ss) t (drop (at' + 1) T) l ∙ ap deep (left_at T at' t i); within = i.within })

@@ -15,11 +15,12 @@ use Rattle.ae_syntax.specs.declared.exprs.Group.{Group}
 use Rattle.ae_syntax.specs.declared.exprs.Expr.{Expr}
 use Rattle.ae_syntax.specs.Kinds.{arrow, relation, additive, multiplicative, quantifies, numeral}
 use Rattle.ae_syntax.specs.Parts.{Part, token, tree, triggers, groups, number_at, quantified}
-use Rattle.ae_syntax.specs.Grammar.{Level, Is, Row, separator, element, file, a_decl, id, var, ac, params, formals, in_brackets, arguments, in_squares, typed_id, set_id, a_result, a_type, expr, orE, orC, andE, andC, notE, notC, open_form, a_group, a_trigger, rel, sum, prod, unary, post, atom, some, of_names, of_constructors, of_vars, of_types, of_groups, of_exprs, of_triggers, of_settings, file_none, file_decl, some_one, some_more, decl_type, decl_record, decl_enumeration, decl_logic, decl_function, decl_predicate, decl_axiom, decl_goal, is_id, is_var, ac_none, ac_word, params_none, params_var, params_vars, id_type, formals_none, formals_some, brackets_none, brackets_some, arguments_none, arguments_some, result_type, result_prop, type_int, type_real, type_bool, type_unit, type_var, type_name, type_postfix, type_brackets, expr_arrow, expr_orE, orE_or, orE_andE, orC_or, orC_andC, andE_and, andE_notE, andC_and, andC_notC, notE_not, notE_open, notE_rel, notC_not, notC_rel, open_quantified, open_let, open_if, group_type, squares_none, squares_some, trigger_exprs, rel_two, rel_sum, sum_two, sum_prod, prod_two, prod_unary, unary_minus, unary_post, post_field, post_atom, atom_name, atom_call, atom_numeral, atom_true, atom_false, atom_void, atom_brackets, atom_ascribed, atom_distinct, atom_record, atom_update, id_value}
+use Rattle.ae_syntax.specs.Grammar.{Level, Is, Items, separator, element, file, a_decl, id, var, ac, params, formals, in_brackets, arguments, in_squares, typed_id, set_id, a_result, a_type, expr, orE, orC, andE, andC, notE, notC, open_expr, a_group, a_trigger, rel, sum, prod, unary, post, atom, some, of_names, of_constructors, of_vars, of_types, of_groups, of_exprs, of_triggers, of_settings, file_none, file_decl, some_one, some_more, decl_type, decl_record, decl_enumeration, decl_logic, decl_function, decl_predicate, decl_axiom, decl_goal, is_id, is_var, ac_none, ac_word, params_none, params_var, params_vars, id_type, formals_none, formals_some, brackets_none, brackets_some, arguments_none, arguments_some, result_type, result_prop, type_int, type_real, type_bool, type_unit, type_var, type_name, type_postfix, type_brackets, expr_arrow, expr_orE, orE_or, orE_andE, orC_or, orC_andC, andE_and, andE_notE, andC_and, andC_notC, notE_not, notE_open, notE_rel, notC_not, notC_rel, open_quantified, open_let, open_if, group_type, squares_none, squares_some, trigger_exprs, rel_two, rel_sum, sum_two, sum_prod, prod_two, prod_unary, unary_minus, unary_post, post_field, post_atom, atom_name, atom_call, atom_numeral, atom_true, atom_false, atom_void, atom_brackets, atom_ascribed, atom_distinct, atom_record, atom_update, id_value}
 use Rattle.ae_syntax.specs.Depth.{depths, in_chain}
-use Rattle.ae_syntax.specs.Machine.{begin, add, join, negate, oppose, quantify, bind_name, choose, take_field, call_it, enclose, ascribe, all_differ, set, build, change, match_terms, quantified_by, bracket_sorts, give_type, group_names, apply, Want, an_expr, an_or, an_and, an_not, a_rel, a_sum, a_prod, a_unary, a_post, an_atom, more_arrow, more_or, more_and, more_rel, more_sum, more_prod, more_post, more_type, more, keep, pass, make, call, bracket_end, brace, brace_name, triggers_or_dot, skip, take, opens, act, then_wants, on_post, operand, typed_wants, element_wants, row_wants, block_wants, update_wants, unchained, Outcome, mark, run, a_type as a_type_want}
+use Rattle.ae_syntax.specs.Inner.Machine.{begin, add, join, negate, oppose, quantify, bind_name, choose, take_field, call_it, enclose, ascribe, all_differ, set, build, change, match_terms, quantified_by, bracket_sorts, give_type, group_names, apply, Want, an_expr, an_or, an_and, an_not, a_rel, a_sum, a_prod, a_unary, a_post, an_atom, more_arrow, more_or, more_and, more_rel, more_sum, more_prod, more_post, more_type, more, keep, pass, make, call, bracket_end, brace, brace_name, triggers_or_dot, skip, take, opens, act, then_wants, on_post, operand, typed_wants, element_wants, items_wants, block_wants, update_wants, unchained, Outcome, mark, run, a_type as a_type_want}
 use Rattle.ae_syntax.proofs.Steps.{run_is, run_act, step_take, step_opens, step_skip, makes, pull_of, pull, pulls, no_arrow, no_or, no_and, no_rel, no_sum, no_prod, no_post, no_type, no_call, no_more_exprs}
-use Rattle.ae_syntax.proofs.Levels.{as_post, as_prod, as_sum, as_rel, as_and, as_or, as_expr, as_not, as_unary, starts_atom, starts_rel, atom_begins_rel, BeginsAtom, BeginsRel, begins_atom_more, begins_rel_more, past_chains, deeper_plain, plain_post}
+use Rattle.ae_syntax.proofs.Levels.{as_post, as_prod, as_sum, as_rel, as_and, as_or, as_expr, as_not, as_unary, starts_atom, starts_rel, atom_begins_rel, BeginsAtom, BeginsRel, begins_atom_more, begins_rel_more, past_chains, deeper_plain}
+use Rattle.ae_syntax.proofs.Acts.{plain_post}
 
 -- the depths of tokens that were taken, before what follows
 abbrev pub marks : List ℕ → Outcome → Outcome
@@ -46,14 +47,14 @@ wants_of andE d = an_and d ∷ []
 wants_of andC d = an_and d ∷ []
 wants_of notE d = an_not d ∷ []
 wants_of notC d = an_not d ∷ []
-wants_of open_form d = an_not d ∷ []
+wants_of open_expr d = an_not d ∷ []
 wants_of rel d = a_rel d ∷ []
 wants_of sum d = a_sum d ∷ []
 wants_of prod d = a_prod d ∷ []
 wants_of unary d = a_unary d ∷ []
 wants_of post d = a_post d ∷ []
 wants_of atom d = an_atom d ∷ []
-wants_of (some r) d = row_wants r d
+wants_of (some r) d = items_wants r d
 wants_of _ d = []
 
 abbrev pub left_of : Level → ℕ → ℕ → List Want
@@ -66,7 +67,7 @@ left_of a_type d n = more_type n ∷ []
 left_of (some r) d n = more r d ∷ []
 left_of _ d n = []
 
-abbrev pub bound_of : Row → ℕ
+abbrev pub bound_of : Items → ℕ
 bound_of of_triggers = 2
 bound_of of_exprs = 3
 bound_of of_settings = 3
@@ -107,28 +108,28 @@ Inner in_squares = ⊥
 Inner a_result = ⊥
 Inner _ = Unit {0}
 
-pub inner_element : (r : Row) → Inner (element r)
+pub inner_element : (r : Items) → Inner (element r)
 inner_element of_names = tt
 inner_element r = tt
 
--- ---- rows
-wants_element : (r : Row) (d : ℕ) → wants_of (element r) d ≡ element_wants r d
+-- ---- items
+wants_element : (r : Items) (d : ℕ) → wants_of (element r) d ≡ element_wants r d
 wants_element of_names d = refl
 wants_element r d = refl
 
-bound_element : (r : Row) (n : ℕ) → n < bound_of r → n < bound (element r)
+bound_element : (r : Items) (n : ℕ) → n < bound_of r → n < bound (element r)
 bound_element of_names n l = omega arith
 bound_element r n l = omega arith
 
-separator_pulls : (r : Row) → pull_of (kind.Sign (separator r)) < bound_of r
+separator_pulls : (r : Items) → pull_of (kind.Sign (separator r)) < bound_of r
 separator_pulls of_names = omega arith
 separator_pulls r = omega arith
 
-more_takes : (r : Row) (d : ℕ) (v : List Part) (t : Token) → act (more r d) v t (kind.Sign (separator r)) ≡ take d (element_wants r d ++ make add ∷ more r d ∷ []) v
+more_takes : (r : Items) (d : ℕ) (v : List Part) (t : Token) → act (more r d) v t (kind.Sign (separator r)) ≡ take d (element_wants r d ++ make add ∷ more r d ∷ []) v
 more_takes of_names d v t = refl
 more_takes r d v t = refl
 
-pub drop_left : (r : Row) (d n : ℕ) (rest : List Token) (ss : List Want) (v : List Part) → pull rest < bound_of r → run rest (left_of (element r) d n ++ ss) v ≡ run rest ss v
+pub drop_left : (r : Items) (d n : ℕ) (rest : List Token) (ss : List Want) (v : List Part) → pull rest < bound_of r → run rest (left_of (element r) d n ++ ss) v ≡ run rest ss v
 drop_left of_types d n rest ss v l = no_type n rest ss v (omega arith)
 drop_left of_names d n rest ss v l = refl
 drop_left r d n rest ss v l = refl
@@ -246,17 +247,17 @@ marks2 a b c o = marks_append (a ++ b) c o ∙ marks_append a b (marks c o)
 pub marks3 : (a b c e : List ℕ) (o : Outcome) → marks (((a ++ b) ++ c) ++ e) o ≡ marks a (marks b (marks c (marks e o)))
 marks3 a b c e o = marks_append ((a ++ b) ++ c) e o ∙ marks2 a b c (marks e o)
 
--- a closing token, or one that begins what follows, lets a row end
-pub row_ends : (r : Row) (d : ℕ) (t : Token) (ts : List Token) (ss : List Want) (v : List Part) (k : TokenKind) → t.kind ≡ k → act (more r d) v t k ≡ skip v → run (t ∷ ts) (more r d ∷ ss) v ≡ run (t ∷ ts) ss v
-row_ends r d t ts ss v k h e = step_skip t ts (more r d) ss v k v h e
+-- a closing token, or one that begins what follows, lets items end
+pub items_ends : (r : Items) (d : ℕ) (t : Token) (ts : List Token) (ss : List Want) (v : List Part) (k : TokenKind) → t.kind ≡ k → act (more r d) v t k ≡ skip v → run (t ∷ ts) (more r d ∷ ss) v ≡ run (t ∷ ts) ss v
+items_ends r d t ts ss v k h e = step_skip t ts (more r d) ss v k v h e
 
 squares_pull : {w : List Token} {p : Part} (h : Is in_squares w p) (c : Token) (rest : List Token) → c.kind ≡ (kind.Sign sign.Dot) → pull (w ++ c ∷ rest) < 10
 squares_pull squares_none c rest hc = pulls c _ (kind.Sign sign.Dot) _ hc (omega arith)
 squares_pull (squares_some w o e ho p he) c rest hc = pulls o _ (kind.Sign sign.OpenBracket) _ ho (omega arith)
 
 squares_end : {w : List Token} {p : Part} (h : Is in_squares w p) (d : ℕ) (c : Token) (rest : List Token) (ss : List Want) (v : List Part) → c.kind ≡ (kind.Sign sign.Dot) → run (w ++ c ∷ rest) (more of_groups d ∷ ss) v ≡ run (w ++ c ∷ rest) ss v
-squares_end squares_none d c rest ss v hc = row_ends of_groups d c _ _ _ (kind.Sign sign.Dot) hc refl
-squares_end (squares_some w o e ho p he) d c rest ss v hc = row_ends of_groups d o _ _ _ (kind.Sign sign.OpenBracket) ho refl
+squares_end squares_none d c rest ss v hc = items_ends of_groups d c _ _ _ (kind.Sign sign.Dot) hc refl
+squares_end (squares_some w o e ho p he) d c rest ss v hc = items_ends of_groups d o _ _ _ (kind.Sign sign.OpenBracket) ho refl
 
 quantify_is : (t : Token) (q : Quantifier) (gs : List Group) (ts : List Trigger) (e : Expr) (rest : List Token) (ss : List Want) (v : List Part) → quantifies t.kind ≡ Some q → run rest (unchained ss) (apply quantify (tree e ∷ triggers ts ∷ groups gs ∷ token t ∷ v)) ≡ run rest (unchained ss) (tree (quantified t q gs ts e) ∷ v)
 quantify_is t q gs ts e rest ss v h = ap (λ o. run rest (unchained ss) (quantified_by t gs ts e v o)) h
@@ -282,14 +283,14 @@ set_begins (some_one of_settings p) i = set_begins p tt
 set_begins (some_more of_settings u w t p h e) i = let s = set_begins p tt in record { name = s.name; equal = s.equal; rest = s.rest ++ t ∷ w; whole = ap (λ z. z ++ t ∷ w) s.whole; is_name = s.is_name; is_sign = s.is_sign }
 set_begins _ i = absurd i
 
-as_record : {w : List Token} {p : Part} → Is (some of_settings) w p → (d : ℕ) (rest : List Token) (ss : List Want) (v : List Part) → run (w ++ rest) (brace d ∷ ss) v ≡ run (w ++ rest) (row_wants of_settings (suc d) ++ keep (kind.Sign sign.CloseBrace) d ∷ make build ∷ ss) v
+as_record : {w : List Token} {p : Part} → Is (some of_settings) w p → (d : ℕ) (rest : List Token) (ss : List Want) (v : List Part) → run (w ++ rest) (brace d ∷ ss) v ≡ run (w ++ rest) (items_wants of_settings (suc d) ++ keep (kind.Sign sign.CloseBrace) d ∷ make build ∷ ss) v
 as_record h d rest ss v =
     let s = set_begins h tt in
     ap (λ z. run (z ++ rest) (brace d ∷ ss) v) s.whole
     ∙ step_take s.name _ (brace d) ss v kind.Ident (suc d) _ _ s.is_name refl
     ∙ ap (mark (suc d)) (step_take s.equal _ (brace_name d) ss _ (kind.Sign sign.Equal) (suc d) _ _ s.is_sign refl)
     ∙ sym (step_take s.name _ (keep kind.Ident (suc d)) _ v kind.Ident (suc d) [] _ s.is_name refl ∙ ap (mark (suc d)) (step_take s.equal _ (pass (kind.Sign sign.Equal) (suc d)) _ _ (kind.Sign sign.Equal) (suc d) [] _ s.is_sign refl))
-    ∙ ap (λ z. run (z ++ rest) (row_wants of_settings (suc d) ++ keep (kind.Sign sign.CloseBrace) d ∷ make build ∷ ss) v) (sym s.whole)
+    ∙ ap (λ z. run (z ++ rest) (items_wants of_settings (suc d) ++ keep (kind.Sign sign.CloseBrace) d ∷ make build ∷ ss) v) (sym s.whole)
 
 -- what follows a name that begins a record to be changed
 data Follows : List Token → Type 0 where
@@ -394,7 +395,7 @@ mutual
   reads (some_one {p} {w} r h) i d rest ss v n = ap (λ z. run (w ++ rest) z v) (append_assoc (element_wants r d) (make begin ∷ more r d ∷ []) ss ∙ ap (λ z. z ++ make begin ∷ more r d ∷ ss) (sym (wants_element r d)))
       ∙ reads h (inner_element r) d rest (make begin ∷ more r d ∷ ss) v (bound_element r _ n)
       ∙ ap (marks (depths h d)) (drop_left r d _ rest _ _ n ∙ makes begin rest _ _)
-  reads (some_more {ps} {p} r u w t h g e) i d rest ss v n = ap (λ z. run z (row_wants r d ++ ss) v) (append_assoc u (t ∷ w) rest)
+  reads (some_more {ps} {p} r u w t h g e) i d rest ss v n = ap (λ z. run z (items_wants r d ++ ss) v) (append_assoc u (t ∷ w) rest)
       ∙ reads h tt d (t ∷ w ++ rest) ss v (pulls t _ (kind.Sign (separator r)) _ g (separator_pulls r))
       ∙ ap (marks (depths h d)) (step_take t (w ++ rest) (more r d) ss (ps ∷ v) (kind.Sign (separator r)) d _ _ g (more_takes r d (ps ∷ v) t)
       ∙ ap (mark d) (ap (λ z. run (w ++ rest) z (ps ∷ v)) (append_assoc (element_wants r d) (make add ∷ more r d ∷ []) ss ∙ ap (λ z. z ++ make add ∷ more r d ∷ ss) (sym (wants_element r d)))
@@ -423,7 +424,7 @@ mutual
       ∙ ap (marks (depths p (suc d))) (no_type _ _ _ _ (pulls m _ (kind.Sign sign.Comma) _ hm (omega arith))
       ∙ step_take m _ (pass (kind.Sign sign.Comma) (suc d)) _ _ (kind.Sign sign.Comma) (suc d) [] _ hm refl
       ∙ ap (mark (suc d)) (reads q tt (suc d) (c ∷ e ∷ rest) _ _ (pulls c _ (kind.Sign sign.CloseParen) _ hc (omega arith))
-      ∙ ap (marks (depths q (suc d))) (row_ends of_types (suc d) c _ _ _ (kind.Sign sign.CloseParen) hc refl
+      ∙ ap (marks (depths q (suc d))) (items_ends of_types (suc d) c _ _ _ (kind.Sign sign.CloseParen) hc refl
       ∙ step_take c _ (pass (kind.Sign sign.CloseParen) d) _ _ (kind.Sign sign.CloseParen) d [] _ hc refl
       ∙ ap (mark d) (step_take e rest (keep kind.Ident (suc d)) _ _ kind.Ident (suc d) [] _ he refl
       ∙ ap (mark (suc d)) (makes bracket_sorts rest _ _)))))
@@ -498,7 +499,7 @@ mutual
       ∙ sym (marks2 (depths p (suc d)) (suc d ∷ depths q (suc d)) (suc d ∷ depths r (suc d)) _))
   reads (group_type u w c p hc q) i d rest ss v n = ap (λ z. run z (element_wants of_groups d ++ ss) v) (append_assoc u (c ∷ w) rest)
       ∙ reads p tt d (c ∷ w ++ rest) _ v (pulls c _ (kind.Sign sign.Colon) _ hc (omega arith))
-      ∙ ap (marks (depths p d)) (row_ends of_names d c _ _ _ (kind.Sign sign.Colon) hc refl
+      ∙ ap (marks (depths p d)) (items_ends of_names d c _ _ _ (kind.Sign sign.Colon) hc refl
       ∙ step_take c _ (pass (kind.Sign sign.Colon) d) _ _ (kind.Sign sign.Colon) d [] _ hc refl
       ∙ ap (mark d) (reads q tt d rest (make group_names ∷ ss) _ (omega arith)
       ∙ ap (marks (depths q d)) (no_type _ rest _ _ n ∙ makes group_names rest _ _)))
@@ -541,7 +542,7 @@ mutual
       ∙ step_take m _ (an_atom d) ss v kind.Ident d _ _ hm refl
       ∙ ap (mark d) (step_take o _ (call d) ss _ (kind.Sign sign.OpenParen) (suc d) _ _ ho refl
       ∙ ap (mark (suc d)) (reads p tt (suc d) (c ∷ rest) _ _ (pulls c _ (kind.Sign sign.CloseParen) _ hc (omega arith))
-      ∙ ap (marks (depths p (suc d))) (row_ends of_exprs (suc d) c _ _ _ (kind.Sign sign.CloseParen) hc refl
+      ∙ ap (marks (depths p (suc d))) (items_ends of_exprs (suc d) c _ _ _ (kind.Sign sign.CloseParen) hc refl
       ∙ step_take c rest (keep (kind.Sign sign.CloseParen) d) _ _ (kind.Sign sign.CloseParen) d [] _ hc refl
       ∙ ap (mark d) (makes call_it rest _ _))
       ∙ sym (marks_append (depths p (suc d)) (d ∷ []) _)))
@@ -567,7 +568,7 @@ mutual
       ∙ step_take t _ (an_atom d) ss v (kind.Reserved word.Distinct) d _ _ ht refl
       ∙ ap (mark d) (step_take o _ (pass (kind.Sign sign.OpenParen) (suc d)) _ _ (kind.Sign sign.OpenParen) (suc d) [] _ ho refl
       ∙ ap (mark (suc d)) (reads p tt (suc d) (c ∷ rest) _ _ (pulls c _ (kind.Sign sign.CloseParen) _ hc (omega arith))
-      ∙ ap (marks (depths p (suc d))) (row_ends of_exprs (suc d) c _ _ _ (kind.Sign sign.CloseParen) hc refl
+      ∙ ap (marks (depths p (suc d))) (items_ends of_exprs (suc d) c _ _ _ (kind.Sign sign.CloseParen) hc refl
       ∙ step_take c rest (keep (kind.Sign sign.CloseParen) d) _ _ (kind.Sign sign.CloseParen) d [] _ hc refl
       ∙ ap (mark d) (makes all_differ rest _ _))
       ∙ sym (marks_append (depths p (suc d)) (d ∷ []) _)))
@@ -575,7 +576,7 @@ mutual
       ∙ step_take o _ (an_atom d) ss v (kind.Sign sign.OpenBrace) (suc d) _ _ ho refl
       ∙ ap (mark (suc d)) (as_record p d (c ∷ rest) ss (token o ∷ v)
       ∙ reads p tt (suc d) (c ∷ rest) _ _ (pulls c _ (kind.Sign sign.CloseBrace) _ hc (omega arith))
-      ∙ ap (marks (depths p (suc d))) (row_ends of_settings (suc d) c _ _ _ (kind.Sign sign.CloseBrace) hc refl
+      ∙ ap (marks (depths p (suc d))) (items_ends of_settings (suc d) c _ _ _ (kind.Sign sign.CloseBrace) hc refl
       ∙ step_take c rest (keep (kind.Sign sign.CloseBrace) d) _ _ (kind.Sign sign.CloseBrace) d [] _ hc refl
       ∙ ap (mark d) (makes build rest _ _))
       ∙ sym (marks_append (depths p (suc d)) (d ∷ []) _))
@@ -586,7 +587,7 @@ mutual
       ∙ ap (marks (depths p (suc d))) (no_post _ _ _ _ (pulls m _ (kind.Reserved word.With) _ hm (omega arith))
       ∙ step_take m _ (pass (kind.Reserved word.With) (suc d)) _ _ (kind.Reserved word.With) (suc d) [] _ hm refl
       ∙ ap (mark (suc d)) (reads q tt (suc d) (c ∷ rest) _ _ (pulls c _ (kind.Sign sign.CloseBrace) _ hc (omega arith))
-      ∙ ap (marks (depths q (suc d))) (row_ends of_settings (suc d) c _ _ _ (kind.Sign sign.CloseBrace) hc refl
+      ∙ ap (marks (depths q (suc d))) (items_ends of_settings (suc d) c _ _ _ (kind.Sign sign.CloseBrace) hc refl
       ∙ step_take c rest (keep (kind.Sign sign.CloseBrace) d) _ _ (kind.Sign sign.CloseBrace) d [] _ hc refl
       ∙ ap (mark d) (makes change rest _ _))))
       ∙ sym (marks2 (depths p (suc d)) (suc d ∷ depths q (suc d)) (d ∷ []) _))
@@ -600,7 +601,7 @@ mutual
   reads_squares (squares_some w o e ho p he) d c rest ss v hc = ap (λ z. run (o ∷ z) (triggers_or_dot d ∷ ss) v) (append_assoc w (e ∷ []) (c ∷ rest))
       ∙ step_take o _ (triggers_or_dot d) ss v (kind.Sign sign.OpenBracket) (suc d) _ _ ho refl
       ∙ ap (mark (suc d)) (reads p tt (suc d) (e ∷ c ∷ rest) _ _ (pulls e _ (kind.Sign sign.CloseBracket) _ he (omega arith))
-      ∙ ap (marks (depths p (suc d))) (row_ends of_triggers (suc d) e _ _ _ (kind.Sign sign.CloseBracket) he refl
+      ∙ ap (marks (depths p (suc d))) (items_ends of_triggers (suc d) e _ _ _ (kind.Sign sign.CloseBracket) he refl
       ∙ step_take e _ (pass (kind.Sign sign.CloseBracket) d) _ _ (kind.Sign sign.CloseBracket) d [] _ he refl
       ∙ ap (mark d) (step_take c rest (pass (kind.Sign sign.Dot) d) _ _ (kind.Sign sign.Dot) d [] _ hc refl))
       ∙ sym (marks_append (depths p (suc d)) (d ∷ []) _))

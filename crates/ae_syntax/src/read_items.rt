@@ -1,7 +1,7 @@
-//! Reading of names in a row.
+//! Reading of names parted by a sign.
 
 ghost use Rattle.std.specs.Prelude.{◌≤◌, ◌-◌, length};
-ghost use Rattle.ae_syntax.specs.ReadingDecls.{NamesRead};
+ghost use Rattle.ae_syntax.specs.Inner.ReadingDecls.{NamesRead};
 
 use crate::cursor::{stands_sign, take};
 use crate::faults::Refusal;
@@ -11,7 +11,7 @@ use ae_lex::{Sign, Token, TokenKind};
 use std::alloc::Global;
 
 /// One or more tokens of a kind, parted by a sign.
-pub fn read_row(
+pub fn read_item_list(
     alloc: Global,
     tokens: &[Token],
     at: usize,

@@ -10,12 +10,14 @@ use Rattle.ae_syntax.specs.declared.exprs.BinaryOp.TheVariants as op
 use Rattle.ae_syntax.specs.declared.exprs.Expr.{Expr}
 use Rattle.ae_syntax.specs.declared.faults.Refusal.{Refusal}
 use Rattle.ae_syntax.specs.declared.faults.Refusal.TheVariants.{Wrong, Deep, Memory}
-use Rattle.ae_syntax.specs.Kinds.{same, arrow, relation, additive, multiplicative}
+use Rattle.ae_syntax.specs.Kinds.{arrow, relation, additive, multiplicative}
+use Rattle.ae_syntax.specs.Inner.SameKinds.{same}
 use Rattle.ae_syntax.specs.Parts.{Part, token, tree, binary}
-use Rattle.ae_syntax.specs.Machine.{Want, Rule, join, an_expr, an_or, an_and, an_not, a_rel, a_sum, a_prod, a_unary, a_post, an_atom, more_arrow, more_or, more_and, more_rel, more_sum, more_prod, more_post, make, apply, skip, take, refuse, act, idle, operand, judge}
-use Rattle.ae_syntax.specs.Reading.{Done, Fails, Sinks, Answered, IsAt, Stands, Lacks, grip}
-use Rattle.ae_syntax.proofs.ComposedSteps.{Reaches, Skips, start, then_takes, then_makes, then_skips, then_reads, joined, moved, done, relay, weaker, fails_on, sinking, refusing, Refuses}
-use Rattle.ae_syntax.proofs.ComposedLevels.{as_post, as_prod, as_and, expr_levels, sum_levels, rel_levels, past_or, past_and, past_post, past_rel, past_arrow, past_sum, past_prod, NoneOf}
+use Rattle.ae_syntax.specs.Inner.Machine.{Want, Rule, join, an_expr, an_or, an_and, an_not, a_rel, a_sum, a_prod, a_unary, a_post, an_atom, more_arrow, more_or, more_and, more_rel, more_sum, more_prod, more_post, make, apply, skip, take, refuse, act, idle, operand, judge}
+use Rattle.ae_syntax.specs.Inner.Reading.{Done, Fails, Sinks, Answered, IsAt, Stands, Lacks, grip}
+use Rattle.ae_syntax.proofs.ParserMeetsMachine.Steps.{Reaches, Skips, start, then_takes, then_makes, then_skips, then_reads, joined, moved, done, relay, weaker, fails_on, sinking, refusing, Refuses}
+use Rattle.ae_syntax.proofs.ParserMeetsMachine.Levels.{as_post, as_prod, as_and, expr_levels, sum_levels, rel_levels, past_or, past_and, past_post, past_rel, past_arrow, past_sum, past_prod, NoneOf}
+use Rattle.ae_syntax.specs.declared.cursor.TheConstants.{DEPTH_LIMIT}
 
 pub level : (T : List Token) (at : ℕ) (s : Want) (W : List Want) → ((rest : List Token) (ss : List Want) (v : List Part) → judge rest (s ∷ ss) v ≡ judge rest (W ++ ss) v) → at ≤ length T → Reaches T (s ∷ []) [] at W [] at
 level T at s W e w = record { runs = λ ss v. e (drop at T) ss v; further = omega arith; within = w }
@@ -72,25 +74,25 @@ pub takes_prod : (T : List Token) (at d n : ℕ) (t : Token) (o : BinaryOp) → 
 takes_prod T at d n t o i h e = subst (λ n. Takes (more_prod d) n (a_unary n ∷ make (join o) ∷ more_prod n ∷ []) T at) (sym e) (record { t = t; here = i; acts = λ v. ap (λ r. operand (suc d) v a_unary (more_prod (suc d) ∷ []) r) h })
 
 -- the operator is too deep
-pub chain_deep : (s : Want) (n : ℕ) (new : List Want) (T : List Token) (at bound : ℕ) (left : Expr) (e : Refusal) → Takes s n new T at → 1000 < n → e ≡ Deep at → Answered (λ p. tree p) (s ∷ []) (tree left ∷ []) T bound at (Err e)
+pub chain_deep : (s : Want) (n : ℕ) (new : List Want) (T : List Token) (at bound : ℕ) (left : Expr) (e : Refusal) → Takes s n new T at → DEPTH_LIMIT < n → e ≡ Deep at → Answered (λ p. tree p) (s ∷ []) (tree left ∷ []) T bound at (Err e)
 chain_deep s n new T at bound left e t l h = let i = t.here in sinking (λ p. tree p) bound n new (λ v. tree left ∷ v) t.t e (start T (s ∷ []) (tree left ∷ []) at (let w = i.within in omega (arith, w))) i l (λ v. t.acts (tree left ∷ v)) h
 
-pub chain_1 : (s : Want) (n : ℕ) (new : List Want) (T : List Token) (at : ℕ) (left : Expr) → Takes s n new T at → n ≤ 1000 → Reaches T (s ∷ []) (tree left ∷ []) at (new ++ []) (tree left ∷ []) (at + 1)
+pub chain_1 : (s : Want) (n : ℕ) (new : List Want) (T : List Token) (at : ℕ) (left : Expr) → Takes s n new T at → n ≤ DEPTH_LIMIT → Reaches T (s ∷ []) (tree left ∷ []) at (new ++ []) (tree left ∷ []) (at + 1)
 chain_1 s n new T at left t l = let i = t.here in then_takes n new (tree left ∷ []) t.t (start T (s ∷ []) (tree left ∷ []) at (let w = i.within in omega (arith, w))) i l (λ v. t.acts (tree left ∷ v))
 
 -- its operand is refused
-pub chain_fails : (s inner : Want) (o : BinaryOp) (more : List Want) (n : ℕ) (T : List Token) (at bound bound' : ℕ) (left : Expr) (e : Refusal) → Takes s n (inner ∷ make (join o) ∷ more) T at → n ≤ 1000 → Answered (λ p. tree p) (inner ∷ []) [] T bound' (at + 1) (Err e) → Answered (λ p. tree p) (s ∷ []) (tree left ∷ []) T bound at (Err e)
+pub chain_fails : (s inner : Want) (o : BinaryOp) (more : List Want) (n : ℕ) (T : List Token) (at bound bound' : ℕ) (left : Expr) (e : Refusal) → Takes s n (inner ∷ make (join o) ∷ more) T at → n ≤ DEPTH_LIMIT → Answered (λ p. tree p) (inner ∷ []) [] T bound' (at + 1) (Err e) → Answered (λ p. tree p) (s ∷ []) (tree left ∷ []) T bound at (Err e)
 chain_fails s inner o more n T at bound bound' left e t l d = fails_on (λ p. tree p) (λ p. tree p) bound bound' (inner ∷ []) (make (join o) ∷ more ++ []) [] (tree left ∷ []) e (chain_1 s n (inner ∷ make (join o) ∷ more) T at left t l) d
 
-chain_2 : (s inner : Want) (o : BinaryOp) (more : List Want) (n : ℕ) (T : List Token) (at to bound : ℕ) (left right whole : Expr) → Takes s n (inner ∷ make (join o) ∷ more) T at → n ≤ 1000 → Done (inner ∷ []) [] T bound (at + 1) to (tree right) → whole ≡ binary o left right → Reaches T (s ∷ []) (tree left ∷ []) at (more ++ []) (tree whole ∷ []) to
+chain_2 : (s inner : Want) (o : BinaryOp) (more : List Want) (n : ℕ) (T : List Token) (at to bound : ℕ) (left right whole : Expr) → Takes s n (inner ∷ make (join o) ∷ more) T at → n ≤ DEPTH_LIMIT → Done (inner ∷ []) [] T bound (at + 1) to (tree right) → whole ≡ binary o left right → Reaches T (s ∷ []) (tree left ∷ []) at (more ++ []) (tree whole ∷ []) to
 chain_2 s inner o more n T at to bound left right whole t l d e = subst (λ w. Reaches T (s ∷ []) (tree left ∷ []) at (more ++ []) (tree w ∷ []) to) (sym e) (then_makes (tree (binary o left right) ∷ []) (then_reads (inner ∷ []) (make (join o) ∷ more ++ []) [] (tree left ∷ []) (chain_1 s n (inner ∷ make (join o) ∷ more) T at left t l) d) (λ v. refl))
 
 -- the chain goes on after it
-pub chain_again : (s inner m : Want) (o : BinaryOp) (n : ℕ) (T : List Token) (at to bound bound' : ℕ) (left right whole : Expr) (r : Result (Expr × ℕ) Refusal) → Takes s n (inner ∷ make (join o) ∷ m ∷ []) T at → n ≤ 1000 → Done (inner ∷ []) [] T bound' (at + 1) to (tree right) → whole ≡ binary o left right → Answered (λ p. tree p) (m ∷ []) (tree whole ∷ []) T bound to r → Answered (λ p. tree p) (s ∷ []) (tree left ∷ []) T bound at r
+pub chain_again : (s inner m : Want) (o : BinaryOp) (n : ℕ) (T : List Token) (at to bound bound' : ℕ) (left right whole : Expr) (r : Result (Expr × ℕ) Refusal) → Takes s n (inner ∷ make (join o) ∷ m ∷ []) T at → n ≤ DEPTH_LIMIT → Done (inner ∷ []) [] T bound' (at + 1) to (tree right) → whole ≡ binary o left right → Answered (λ p. tree p) (m ∷ []) (tree whole ∷ []) T bound to r → Answered (λ p. tree p) (s ∷ []) (tree left ∷ []) T bound at r
 chain_again s inner m o n T at to bound bound' left right whole r t l d e a = relay (λ p. tree p) bound r (chain_2 s inner o (m ∷ []) n T at to bound' left right whole t l d e) a
 
 -- or ends there
-pub chain_once : (s inner : Want) (o : BinaryOp) (n : ℕ) (T : List Token) (at to bound bound' : ℕ) (left right whole : Expr) → Takes s n (inner ∷ make (join o) ∷ []) T at → n ≤ 1000 → Done (inner ∷ []) [] T bound' (at + 1) to (tree right) → whole ≡ binary o left right → grip (drop to T) < bound → Done (s ∷ []) (tree left ∷ []) T bound at to (tree whole)
+pub chain_once : (s inner : Want) (o : BinaryOp) (n : ℕ) (T : List Token) (at to bound bound' : ℕ) (left right whole : Expr) → Takes s n (inner ∷ make (join o) ∷ []) T at → n ≤ DEPTH_LIMIT → Done (inner ∷ []) [] T bound' (at + 1) to (tree right) → whole ≡ binary o left right → grip (drop to T) < bound → Done (s ∷ []) (tree left ∷ []) T bound at to (tree whole)
 chain_once s inner o n T at to bound bound' left right whole t l d e g = done (chain_2 s inner o [] n T at to bound' left right whole t l d e) g
 
 -- ---- a chain that ends
