@@ -19,13 +19,13 @@ use Rattle.ae_core.specs.declared.problems.Item.TheVariants.{Axiom}
 use Rattle.ae_core.specs.declared.proofs.EqLine.{EqLine}
 use Rattle.ae_core.specs.declared.proofs.Scaled.{Scaled}
 use Rattle.ae_core.specs.declared.proofs.Relation.TheVariants.{Equal, AtMost, Below}
-use Rattle.ae_models.specs.Truth.{FreshValues, IsSorted, IsTrue}
+use Rattle.ae_models.specs.Truth.{FreshValues, KeepSorts, IsTrue}
 use Rattle.ae_models.specs.Consequence.{AxiomsAreTrue}
 use Rattle.ae_models.specs.Examples.{example_signature, example}
 
 -- values for the fresh constants, each of its sort
 abbrev pub Values : Type 0
-Values = (fresh : FreshValues example) × IsSorted example_signature example fresh
+Values = (fresh : FreshValues example) × KeepSorts example_signature example fresh
 
 -- the formula is true
 abbrev pub Says : Values → Formula → Type 0

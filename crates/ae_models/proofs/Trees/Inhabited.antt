@@ -5,6 +5,7 @@ use Rattle.std.specs.List.{AllByRecursion, list_all, list_any}
 use Rattle.std.proofs.Common.{refl, sym, ap, ◌∙◌, subst, true≢false, arith}
 use Rattle.std.proofs.lemmas.Bool.{and_parts, eqb-true, ltb-true}
 use Rattle.std.proofs.lemmas.List.{length-map}
+use Rattle.std.proofs.lemmas.List.Folds.{list_all-map}
 use Rattle.ae_math.specs.Fractions.{ℚ, zero_ℚ, whole}
 use Rattle.ae_core.specs.Induction.{by_sorts}
 use Rattle.ae_base.specs.Options.{◌>>=◌, or_else}
@@ -47,15 +48,11 @@ is_among [] k c e = never_some c e
 is_among (d ∷ cs) zero c e = (λ i. nat_eq c (same_Some d c e i) || list_any (nat_eq c) cs) ∙ ap (λ b. b || list_any (nat_eq c) cs) (nat_eq_itself c)
 is_among (d ∷ cs) (suc k) c e = ap (λ b. nat_eq c d || b) (is_among cs k c e) ∙ or_true (nat_eq c d)
 
-all_map_test : {A : Type 0} (f : A → Bool) (xs : List A) → list_all (λ b. b) (map f xs) ≡ list_all f xs
-all_map_test f [] = refl
-all_map_test f (x ∷ xs) = ap (λ b. f x && b) (all_map_test f xs)
-
 names_below_named : (n h : ℕ) (ss : List Sort) → names_below n (Named h ss) ≡ nat_lt h n && list_all (names_below n) ss
 unfolding names_below
 names_below_named n h ss =
     ap (names_below n) (sym (rolls-Named h ss)) ∙ fold-roll-Sort Bool (names_below_step n) (sort_layer.Named h ss)
-    ∙ ap (λ b. nat_lt h n && b) (all_map_test (names_below n) ss)
+    ∙ ap (λ b. nat_lt h n && b) (list_all-map (λ b. b) (names_below n) ss)
 
 module _ (sig : Signature) (lawful : HasLawfulEntries sig) where
   abbrev pub Inhabited : Sort → Type 0
