@@ -7,5 +7,6 @@ pub mod Standing
 pub mod Propagation
 pub mod Blocks
 pub mod LinearLaws
+pub mod FlatLaws
 pub mod SortedLines
 pub mod Defining
