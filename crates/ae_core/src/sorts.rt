@@ -9,8 +9,8 @@ ghost use Rattle.ae_base.specs.Options as options;
 use crate::copies::{copy_sort, copy_sorts};
 use crate::formulas::{Formula, Quant};
 use crate::lists::{List, at};
-use crate::putting::{put_sort, put_sorts};
 use crate::problems::{FieldEntry, Kind, Signature, SymbolEntry, TypeEntry};
+use crate::putting::{put_sort, put_sorts};
 use crate::terms::{Head, Op, Sort, Term};
 use std::alloc::{AllocError, Global};
 
