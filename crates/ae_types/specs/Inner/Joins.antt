@@ -11,7 +11,7 @@ use Rattle.ae_types.specs.declared.graph.Class.TheVariants as class
 use Rattle.ae_types.specs.declared.graph.Root.{Root}
 use Rattle.ae_types.specs.declared.joins.Pair.{Pair}
 use Rattle.ae_types.specs.Clashes.{IsClash, IsPair}
-use Rattle.ae_types.specs.Graphs.{Slot, Free, Link, Plain, Built, slot_at, slots_of, class_at, known_slot, node_at, Same, Solves, GraphWell, origin}
+use Rattle.ae_types.specs.Inner.Graphs.{Slot, Free, Link, Plain, Built, slot_at, slots_of, class_at, known_slot, node_at, Same, Solves, GraphWell, origin}
 
 -- ---- the root of a place
 -- links go down

@@ -1,5 +1,5 @@
 -- Marked places of a trail.
-use Rattle.std.specs.Prelude.{◌≡◌, ◌≢◌, ℕ, zero, suc, ◌+◌, ◌<◌, ◌≤◌, ◌==◌, ◌&&◌, Bool, true, false, List, [], ◌∷◌, length, slice_index_or, Option, Some, None, if◌then◌else◌}
+use Rattle.std.specs.Prelude.{◌≡◌, ◌≢◌, ℕ, zero, suc, ◌+◌, ◌<◌, ◌≤◌, ◌==◌, ◌&&◌, Bool, true, false, List, [], ◌∷◌, ◌++◌, length, slice_index_or, Option, Some, None, if◌then◌else◌}
 use Rattle.std.specs.List.{Contains}
 use Rattle.ae_rules.specs.Clauses.{Clause, opposite}
 use Rattle.ae_core.specs.declared.formulas.Lit.{Lit}
@@ -105,12 +105,11 @@ unfoldable pub lits_below : List Assigned → List Mark → ℕ → List Lit
 lits_below trail marks zero = []
 lits_below trail marks (suc n) = if kept marks n then (at trail n).lit ∷ lits_below trail marks n else lits_below trail marks n
 
-abbrev pub by_of : Option ℕ → ℕ
-by_of None = 0
-by_of (Some k) = k
+abbrev pub reasons : Option ℕ → List ℕ
+reasons None = []
+reasons (Some k) = k ∷ []
 
 -- the reasons of the resolved places from q on, `left` places, and the last clause behind them
 unfoldable pub hints_from : List Assigned → List Mark → ℕ → ℕ → ℕ → List ℕ
 hints_from trail marks last q zero = last ∷ []
-hints_from trail marks last q (suc left) =
-    if resolved marks q then by_of (at trail q).by ∷ hints_from trail marks last (suc q) left else hints_from trail marks last (suc q) left
+hints_from trail marks last q (suc left) = (if resolved marks q then reasons (at trail q).by else []) ++ hints_from trail marks last (suc q) left

@@ -12,7 +12,7 @@ use Rattle.ae_types.specs.declared.graph.Class.{Class}
 use Rattle.ae_types.specs.declared.graph.Class.TheVariants as class
 use Rattle.ae_types.specs.declared.graph.Graph.{Graph}
 use Rattle.ae_types.specs.declared.joins.Pair.{Pair}
-use Rattle.ae_types.specs.Graphs.{node_at, class_at, GraphWell, origin}
+use Rattle.ae_types.specs.Inner.Graphs.{node_at, class_at, GraphWell, origin}
 
 -- a graph with the places of its variables
 pub record Sheet : Type 0 where

@@ -7,12 +7,12 @@ use Rattle.ae_types.specs.declared.cycles.Mark.{Mark}
 use Rattle.ae_types.specs.declared.cycles.Mark.TheVariants.{New, Open, Done}
 use Rattle.ae_types.specs.declared.cycles.Frame.{Frame}
 use Rattle.ae_types.specs.declared.cycles.Walk.{Walk}
-use Rattle.ae_types.specs.Graphs.{Slot, Free, Link, Plain, Built, origin, slot_at}
-use Rattle.ae_types.specs.Levels.{Levelled, empties}
+use Rattle.ae_types.specs.Inner.Graphs.{Slot, Free, Link, Plain, Built, origin, slot_at}
+use Rattle.ae_types.specs.Inner.Levels.{Levelled, empties}
 use Rattle.ae_core.specs.declared.terms.Sort.{Sort, Named}
 use Rattle.ae_types.specs.declared.pairs.SortPair.{SortPair}
 use Rattle.ae_types.specs.Clashes.{Follows, IsPair, count_of}
-use Rattle.ae_types.specs.Joins.{Follow}
+use Rattle.ae_types.specs.Inner.Joins.{Follow}
 
 -- the places that a place's sort is made of
 abbrev pub refs : Slot → List ℕ

@@ -1,7 +1,7 @@
 -- Levels: numbers of places, such that what a place's sort is made of has lower ones. A graph has them exactly where it has a solution.
 use Rattle.std.specs.Prelude.{ℕ, zero, suc, ◌+◌, ◌<◌, ◌≤◌, List, [], ◌∷◌, ◌≡◌, length}
 use Rattle.std.proofs.Common.{get_or}
-use Rattle.ae_types.specs.Graphs.{Slot, Free, Link, Plain, Built, slot_at}
+use Rattle.ae_types.specs.Inner.Graphs.{Slot, Free, Link, Plain, Built, slot_at}
 
 -- all places that a slot names have a level
 abbrev pub Ready : List ℕ → Slot → Type 0

@@ -6,7 +6,7 @@ use Rattle.std.proofs.lemmas.Bool.{and_from, and_parts, or_left, or_right, ltb-t
 use Rattle.std.proofs.lemmas.Option.{same_Some, slice_get-map, none-some}
 use Rattle.std.specs.Option.{option_map}
 use Rattle.std.proofs.lemmas.List.{length-reverse, length-append, reverse-append, map-append}
-use Rattle.ae_core.specs.Induction.{by_terms, by_formulas}
+use Rattle.ae_core.specs.Inner.Induction.{by_terms, by_formulas}
 use Rattle.ae_core.specs.Sorts.{sort_in, sort_of, sorts_of, is_closed_sort, head_sort, variable_sort, formula_in, formula_ok, quant_in, trigger_ok, applied_ok, predicate_ok, same_known, same_numeric, is_numeric, same_sorts, term_ok}
 use Rattle.ae_base.specs.Options.{known, ◌>>=◌, or_else, only, when, all_known}
 use Rattle.ae_core.specs.Putting.{put_terms, put_formula, put_formula_in, put_quant_in, variable_at}
