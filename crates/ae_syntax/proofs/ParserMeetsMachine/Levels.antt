@@ -1,5 +1,5 @@
 -- The levels of an expression: a looser level is a tighter one with a chain after it; how strongly the next token goes on.
-use Rattle.std.proofs.Common.{ℕ, suc, ◌+◌, ◌-◌, ◌≤◌, ◌<◌, Bool, true, false, cond, List, [], ◌∷◌, ◌++◌, ◌≡◌, Option, Some, None, Result, Ok, Err, length, drop, refl, sym, ap, ◌∙◌, subst, append_assoc, arith}
+use Rattle.std.proofs.Common.{ℕ, suc, ◌+◌, ◌≤◌, ◌<◌, false, List, [], ◌∷◌, ◌++◌, ◌≡◌, Option, Some, None, Result, Ok, Err, length, drop, refl, sym, ap, ◌∙◌, subst, arith}
 use Rattle.std.proofs.lemmas.Bool.{false≢true}
 use Rattle.ae_lex.specs.declared.kinds.Token.{Token}
 use Rattle.ae_lex.specs.declared.kinds.TokenKind.{TokenKind}
@@ -7,19 +7,18 @@ use Rattle.ae_lex.specs.declared.kinds.TokenKind.TheVariants as kind
 use Rattle.ae_lex.specs.declared.kinds.Reserved.TheVariants as word
 use Rattle.ae_lex.specs.declared.kinds.Sign.TheVariants as sign
 use Rattle.ae_syntax.specs.declared.exprs.BinaryOp.{BinaryOp}
-use Rattle.ae_syntax.specs.declared.exprs.BinaryOp.TheVariants as op
 use Rattle.ae_syntax.specs.declared.faults.Refusal.{Refusal}
 use Rattle.ae_syntax.specs.declared.faults.Refusal.TheVariants.{Wrong, Deep, Memory}
-use Rattle.ae_syntax.specs.Kinds.{arrow, relation, additive, multiplicative}
+use Rattle.ae_syntax.specs.Kinds.{arrow, additive, multiplicative}
 use Rattle.ae_syntax.specs.Inner.SameKinds.{same}
 use Rattle.ae_syntax.specs.Parts.{Part, token}
-use Rattle.ae_syntax.specs.Inner.Machine.{Want, an_expr, an_or, an_and, an_not, a_rel, a_sum, a_prod, a_unary, a_post, an_atom, more_arrow, more_or, more_and, more_rel, more_sum, more_prod, more_post, make, apply, Act, skip, take, opens, refuse, then_wants, act, idle, if_some, on_atom, on_post, on_unary, on_prod, on_sum, on_rel, on_not, on_and, on_or, unchained, operand, mark, ended, feed, finish, run, limited, judge, deep}
-use Rattle.ae_syntax.specs.Inner.Reading.{Done, Fails, Sinks, Answered, IsAt, Lacks, grip_of, grip}
+use Rattle.ae_syntax.specs.Inner.Machine.{Want, an_expr, an_or, an_and, an_not, a_rel, a_sum, a_prod, a_unary, a_post, an_atom, more_arrow, more_or, more_and, more_rel, more_sum, more_prod, more_post, make, Act, skip, opens, then_wants, act, idle, unchained, ended, finish, run, limited, judge, deep}
+use Rattle.ae_syntax.specs.Inner.Reading.{Answered, IsAt, Lacks, grip_of, grip}
 use Rattle.ae_syntax.proofs.Acts.{Plain}
 use Rattle.ae_syntax.proofs.Steps.{went as run_went}
 use Rattle.ae_syntax.proofs.Levels.{deeper_plain}
 use Rattle.ae_syntax.proofs.Levels as levels
-use Rattle.ae_syntax.proofs.ParserMeetsMachine.Steps.{went, judge_is, judge_act, judge_at, judge_make, went_skip, went_opens, went_opens_deep, left_at}
+use Rattle.ae_syntax.proofs.ParserMeetsMachine.Steps.{went, judge_act, judge_at, judge_make, went_skip, went_opens, went_opens_deep, left_at}
 use Rattle.ae_syntax.specs.declared.cursor.TheConstants.{DEPTH_LIMIT}
 
 -- ---- a level is the tighter level with a chain
