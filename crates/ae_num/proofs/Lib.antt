@@ -1,4 +1,5 @@
 pub mod StepLaws
+pub mod Checks
 pub mod PairLaws
 pub mod SumLaws
 pub mod ReductionLaws
