@@ -1,6 +1,7 @@
 -- The levels of an expression: a looser level is a tighter one with a chain after it; how strongly the next token goes on.
-use Rattle.std.proofs.Common.{ℕ, suc, ◌+◌, ◌≤◌, ◌<◌, false, List, [], ◌∷◌, ◌++◌, ◌≡◌, Option, Some, None, Result, Ok, Err, length, drop, refl, sym, ap, ◌∙◌, subst, arith}
+use Rattle.std.proofs.Common.{ℕ, suc, ◌+◌, ◌≤◌, ◌<◌, false, List, [], ◌∷◌, ◌++◌, ◌≡◌, Option, None, Result, Ok, Err, length, drop, refl, sym, ap, ◌∙◌, subst, arith}
 use Rattle.std.proofs.lemmas.Bool.{false≢true}
+use Rattle.ae_base.proofs.Options.{never_some}
 use Rattle.ae_lex.specs.declared.kinds.Token.{Token}
 use Rattle.ae_lex.specs.declared.kinds.TokenKind.{TokenKind}
 use Rattle.ae_lex.specs.declared.kinds.TokenKind.TheVariants as kind
@@ -58,18 +59,9 @@ rel_levels d rest ss v = as_rel d rest ss v ∙ sum_levels d rest (more_rel d �
 
 -- ---- how strongly the next token goes on
 weak_arrow : (k : TokenKind) → arrow k ≡ None → grip_of k < 2 → grip_of k < 1
-weak_arrow (kind.Sign sign.Arrow) n l = absurd (some_none _ n)
-  where
-    some_none : (o : BinaryOp) → ◌≡◌ {A = Option BinaryOp} (Some o) None → ⊥
-    some_none o e = cc
-weak_arrow (kind.Sign sign.Iff) n l = absurd (some_none _ n)
-  where
-    some_none : (o : BinaryOp) → ◌≡◌ {A = Option BinaryOp} (Some o) None → ⊥
-    some_none o e = cc
-weak_arrow (kind.Reserved word.Xor) n l = absurd (some_none _ n)
-  where
-    some_none : (o : BinaryOp) → ◌≡◌ {A = Option BinaryOp} (Some o) None → ⊥
-    some_none o e = cc
+weak_arrow (kind.Sign sign.Arrow) n l = never_some _ (sym n)
+weak_arrow (kind.Sign sign.Iff) n l = never_some _ (sym n)
+weak_arrow (kind.Reserved word.Xor) n l = never_some _ (sym n)
 weak_arrow k n l = omega arith
 
 weak_or : (k : TokenKind) → same k (kind.Reserved word.Or) ≡ false → grip_of k < 3 → grip_of k < 2
@@ -95,14 +87,8 @@ weak_rel (kind.Reserved word.Xor) l = omega arith
 weak_rel k l = omega arith
 
 weak_sum : (k : TokenKind) → additive k ≡ None → grip_of k < 6 → grip_of k < 5
-weak_sum (kind.Sign sign.Plus) n l = absurd (some_none _ n)
-  where
-    some_none : (o : BinaryOp) → ◌≡◌ {A = Option BinaryOp} (Some o) None → ⊥
-    some_none o e = cc
-weak_sum (kind.Sign sign.Minus) n l = absurd (some_none _ n)
-  where
-    some_none : (o : BinaryOp) → ◌≡◌ {A = Option BinaryOp} (Some o) None → ⊥
-    some_none o e = cc
+weak_sum (kind.Sign sign.Plus) n l = never_some _ (sym n)
+weak_sum (kind.Sign sign.Minus) n l = never_some _ (sym n)
 weak_sum (kind.Sign sign.Star) n l = absurd (omega arith)
 weak_sum (kind.Sign sign.Slash) n l = absurd (omega arith)
 weak_sum (kind.Sign sign.Percent) n l = absurd (omega arith)
@@ -111,18 +97,9 @@ weak_sum (kind.Reserved word.Xor) n l = omega arith
 weak_sum k n l = omega arith
 
 weak_prod : (k : TokenKind) → multiplicative k ≡ None → grip_of k < 7 → grip_of k < 6
-weak_prod (kind.Sign sign.Star) n l = absurd (some_none _ n)
-  where
-    some_none : (o : BinaryOp) → ◌≡◌ {A = Option BinaryOp} (Some o) None → ⊥
-    some_none o e = cc
-weak_prod (kind.Sign sign.Slash) n l = absurd (some_none _ n)
-  where
-    some_none : (o : BinaryOp) → ◌≡◌ {A = Option BinaryOp} (Some o) None → ⊥
-    some_none o e = cc
-weak_prod (kind.Sign sign.Percent) n l = absurd (some_none _ n)
-  where
-    some_none : (o : BinaryOp) → ◌≡◌ {A = Option BinaryOp} (Some o) None → ⊥
-    some_none o e = cc
+weak_prod (kind.Sign sign.Star) n l = never_some _ (sym n)
+weak_prod (kind.Sign sign.Slash) n l = never_some _ (sym n)
+weak_prod (kind.Sign sign.Percent) n l = never_some _ (sym n)
 weak_prod (kind.Sign sign.Dot) n l = absurd (omega arith)
 weak_prod (kind.Reserved word.Xor) n l = omega arith
 weak_prod k n l = omega arith
