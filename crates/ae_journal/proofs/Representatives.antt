@@ -1,5 +1,5 @@
 -- Representatives: unique, least, and their own.
-use Rattle.std.proofs.Common.{◌≡◌, ◌≢◌, ℕ, zero, suc, ◌+◌, ◌<◌, ◌≤◌, List, [], ◌∷◌, length, Option, Some, None, slice_get, refl, sym, ◌∙◌, ap, subst, arith, Bool, true, false}
+use Rattle.std.proofs.Common.{◌≡◌, ◌≢◌, ℕ, zero, suc, ◌+◌, ◌<◌, ◌≤◌, List, [], ◌∷◌, length, Option, Some, None, slice_get, inl, inr, ◌⊎◌, refl, sym, ◌∙◌, ap, subst, arith, Bool, true, false}
 use Rattle.ae_core.specs.Sorts.{sort_of, or_else}
 use Rattle.ae_core.specs.Decided.{Term_discrete}
 use Rattle.ae_math.specs.Choices.{pick}
@@ -60,3 +60,32 @@ pub represents_itself : RepresentsItself
 represents_itself x js = itself_now x.problem.signature x.names _
 
 -- ---- leaves of terms
+-- a number in the list is that of the term at its place
+found_by : (n k : ℕ) (u t : Term) (rest : Option ℕ) (d : Dec (u ≡ t)) → pick d (Some n) rest ≡ Some k → ((n ≡ k) × (u ≡ t)) ⊎ (rest ≡ Some k)
+found_by n k u t rest (yes e) h = inl (same_some n k h, e)
+found_by n k u t rest (no e) h = inr h
+
+found_at : (n : ℕ) (us : List Term) (t : Term) (k : ℕ) → number_from n us t ≡ Some k → (i : ℕ) × (k ≡ n + i) × (i < length us) × (slice_get us i ≡ Some t)
+found_at n [] t k h = absurd (never h)
+  where
+    never : {A : Type 0} {a : A} → ◌≡◌ {A = Option A} None (Some a) → ⊥
+    never e = cc
+found_at n (u ∷ us) t k h =
+    elim (found_by n k u t (number_from (suc n) us t) (Term_discrete u t) h) [
+      | inl p ↦ (zero, omega (arith, p.0), omega arith, ap (λ w. Some w) p.1)
+      | inr r ↦ let f = found_at (suc n) us t k r in (suc f.0, omega (arith, f.1), omega (arith, f.2), f.3)
+    ]
+
+leaf_by : (names : List Term) (s t : Term) (o p : Option ℕ) → number_from 0 names s ≡ o → number_from 0 names t ≡ p
+    → or_else o (length names + term_number s) ≡ or_else p (length names + term_number t) → s ≡ t
+leaf_by names s t (Some m) (Some n) a b e =
+    let f = found_at 0 names s m a in
+    let g = found_at 0 names t n b in
+    let i : f.0 ≡ g.0 = omega (arith, f.1, g.1, e) in
+    same_some s t (sym f.3 ∙ ap (slice_get names) i ∙ g.3)
+leaf_by names s t (Some m) None a b e = let f = found_at 0 names s m a in absurd (omega (arith, f.1, f.2, e))
+leaf_by names s t None (Some n) a b e = let g = found_at 0 names t n b in absurd (omega (arith, g.1, g.2, e))
+leaf_by names s t None None a b e = same_number s t (omega (arith, e))
+
+pub one_leaf : OneLeaf
+one_leaf names s t e = leaf_by names s t (number_from 0 names s) (number_from 0 names t) refl refl e
