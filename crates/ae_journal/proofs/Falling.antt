@@ -1,6 +1,6 @@
 -- Generations of a journal only fall as it grows.
 use Rattle.std.proofs.Common.{◌≡◌, ℕ, zero, suc, List, [], ◌∷◌, ◌++◌, ap, ◌∙◌, sym, append_assoc, inl, inr, ◌⊎◌}
-use Rattle.ae_core.specs.Clauses.{Clause}
+use Rattle.ae_rules.specs.Clauses.{Clause}
 use Rattle.ae_core.specs.declared.terms.Sort.{Sort}
 use Rattle.ae_core.specs.declared.terms.Term.{Term}
 use Rattle.ae_core.specs.declared.formulas.Formula.{Formula}

@@ -2,20 +2,23 @@
 use Rattle.std.proofs.Common.{◌≡◌, ℕ, List, [], ◌∷◌, map}
 use Rattle.std.specs.List.{AllByRecursion}
 use Rattle.ae_base.proofs.AllOf.{all_weaker}
-use Rattle.ae_core.specs.Matches.{Equals, EqualEach, IsMatch}
-use Rattle.ae_core.specs.Matches.Equals.{variable, application, turned, own}
-use Rattle.ae_core.specs.Matches.EqualEach.{none, more}
+use Rattle.ae_rules.specs.Matches.{IsSame, Equals, EqualEach, IsMatch}
+use Rattle.ae_rules.specs.Matches.Equals.{variable, application, turned, own}
+use Rattle.ae_rules.specs.Matches.EqualEach.{none, more}
 use Rattle.ae_core.specs.declared.terms.Sort.{Sort}
 use Rattle.ae_core.specs.declared.terms.Term.{Term}
 use Rattle.ae_core.specs.declared.problems.Signature.{Signature}
 
 module _ (sig : Signature) (few many : Term → Type 0) (wider : (t : Term) → few t → many t) (same : Term → Term → Type 0) (sorts : List Sort) (values : List Term) where
+  same_more : (t u : Term) → IsSame few same t u → IsSame many same t u
+  same_more t u s = (wider t s.0, wider u s.1, s.2)
+
   mutual
     equals_more : (p u : Term) → Equals sig few same sorts values p u → Equals sig many same sorts values p u
     equals_more _ _ (variable e k s) = variable e (wider _ k) s
-    equals_more _ _ (application n es k m j s) = application n (each_more _ _ es) (wider _ k) m (wider _ j) s
-    equals_more _ _ (turned a n e f k m j s) = turned a n (equals_more _ _ e) (equals_more _ _ f) (wider _ k) m (wider _ j) s
-    equals_more _ _ (own o k j s) = own o (wider _ k) (wider _ j) s
+    equals_more _ _ (application n es m s) = application n (each_more _ _ es) m (same_more _ _ s)
+    equals_more _ _ (turned a n e f m s) = turned a n (equals_more _ _ e) (equals_more _ _ f) m (same_more _ _ s)
+    equals_more _ _ (own o s) = own o (same_more _ _ s)
 
     each_more : (ps us : List Term) → EqualEach sig few same sorts values ps us → EqualEach sig many same sorts values ps us
     each_more _ _ none = none

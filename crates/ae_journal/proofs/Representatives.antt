@@ -1,8 +1,9 @@
 -- Representatives: unique, least, and their own.
 use Rattle.std.proofs.Common.{◌≡◌, ◌≢◌, ℕ, zero, suc, ◌+◌, ◌<◌, ◌≤◌, List, [], ◌∷◌, length, Option, Some, None, slice_get, inl, inr, ◌⊎◌, refl, sym, ◌∙◌, ap, subst, arith, Bool, true, false}
-use Rattle.ae_core.specs.Sorts.{sort_of, or_else}
+use Rattle.ae_core.specs.Sorts.{sort_of}
+use Rattle.ae_base.specs.Options.{or_else}
 use Rattle.ae_core.specs.Decided.{Term_discrete}
-use Rattle.ae_math.specs.Choices.{pick}
+use Rattle.ae_base.specs.Decided.{pick}
 use Rattle.ae_core.specs.declared.terms.Sort.{Sort}
 use Rattle.ae_core.specs.declared.terms.Term.{Term}
 use Rattle.ae_core.specs.declared.problems.Signature.{Signature}

@@ -2,10 +2,10 @@
 use Rattle.std.specs.Prelude.{ℕ, zero, suc, ◌<◌, Bool, true, List, [], ◌∷◌, ◌++◌, ◌≡◌, ◌⊎◌, length, Some}
 use Rattle.std.specs.List.{Contains}
 use Rattle.ae_core.specs.Sorts.{sort_of}
-use Rattle.ae_core.specs.Clauses.{Clause, yes_of}
-use Rattle.ae_core.specs.Instances.{fresh_clause}
-use Rattle.ae_core.specs.Derivations.{conclusion}
-use Rattle.ae_core.specs.Matches.{IsMatch}
+use Rattle.ae_rules.specs.Clauses.{Clause, yes_of}
+use Rattle.ae_rules.specs.Instances.{fresh_clause}
+use Rattle.ae_rules.specs.Derivations.{conclusion}
+use Rattle.ae_rules.specs.Matches.{IsMatch}
 use Rattle.ae_core.specs.declared.terms.Sort.{Sort}
 use Rattle.ae_core.specs.declared.terms.Term.{Term, Apply}
 use Rattle.ae_core.specs.declared.terms.Head.{Head}

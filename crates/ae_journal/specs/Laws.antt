@@ -1,8 +1,8 @@
 -- The laws, as statements: what the definitions of states and of legal journals give.
 use Rattle.std.specs.Prelude.{ℕ, zero, suc, ◌<◌, ◌≤◌, Bool, true, false, List, [], ◌∷◌, ◌++◌, ◌≡◌, ◌≢◌, ◌⊎◌, length, Some}
 use Rattle.std.specs.List.{AllByRecursion, Contains}
-use Rattle.ae_core.specs.Clauses.{Clause, opposite, row}
-use Rattle.ae_core.specs.declared.terms.Sort.{Sort}
+use Rattle.ae_rules.specs.Clauses.{Clause, opposite, row}
+use Rattle.ae_core.specs.declared.terms.Sort.{Sort, Int}
 use Rattle.ae_core.specs.declared.terms.Term.{Term}
 use Rattle.ae_core.specs.declared.formulas.Formula.{Formula, out-Formula}
 use Rattle.ae_core.specs.declared.formulas.Quant.{Quant}
@@ -24,7 +24,6 @@ use Rattle.ae_journal.specs.declared.systems.System.{System}
 use Rattle.ae_journal.specs.declared.systems.Saturated.{Saturated}
 use Rattle.ae_journal.specs.declared.lines.Line.{Line}
 use Rattle.ae_journal.specs.declared.lines.Line.TheVariants as line
-use Rattle.ae_core.specs.declared.terms.Sort.{Int}
 
 -- ---- representatives
 -- a value has one representative within a sort, and no smaller name has the value

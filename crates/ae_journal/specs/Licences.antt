@@ -3,7 +3,7 @@ use Rattle.std.specs.Prelude.{ℕ, ℤ, pos, ◌<◌, Bool, true, false, List, [
 use lib.IntN.{neg_ℤ}
 use Rattle.ae_math.specs.Fractions.{ℚ, one_ℚ, ratio, inverse_ℚ, neg_ℚ, ◌+ℚ◌}
 use Rattle.ae_math.specs.Forms.{is_zero}
-use Rattle.ae_core.specs.Linear.{form, is_number}
+use Rattle.ae_rules.specs.Linear.{form, is_number}
 use Rattle.ae_core.specs.declared.terms.Sort.{Sort}
 use Rattle.ae_core.specs.declared.terms.Term.{Term, Apply, Num}
 use Rattle.ae_core.specs.declared.terms.Head.{Head}

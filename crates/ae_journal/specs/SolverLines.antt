@@ -2,8 +2,8 @@
 use Rattle.std.specs.Prelude.{ℕ, ◌<◌, List, [], ◌∷◌, ◌++◌, ◌≡◌, ◌≢◌, Some}
 use Rattle.std.specs.List.{AllByRecursion, Contains}
 use Rattle.ae_math.specs.Fractions.{zero_ℚ}
-use Rattle.ae_core.specs.Clauses.{Clause, opposite}
-use Rattle.ae_core.specs.Derivations.{conclusion, AreAllowed}
+use Rattle.ae_rules.specs.Clauses.{Clause, opposite}
+use Rattle.ae_rules.specs.Derivations.{conclusion, AreAllowed}
 use Rattle.ae_core.specs.declared.terms.Term.{Term}
 use Rattle.ae_core.specs.declared.formulas.Lit.{Lit}
 use Rattle.ae_core.specs.declared.proofs.ClauseLine.{ClauseLine}

@@ -2,10 +2,10 @@
 use Rattle.std.specs.Prelude.{ℕ, Bool, false, List, [], ◌∷◌, ◌++◌, ◌≡◌, ◌≢◌, ◌⊎◌, length, slice_get, Some}
 use Rattle.std.specs.List.{Contains}
 use Rattle.ae_core.specs.Sorts.{sort_of}
-use Rattle.ae_core.specs.Lines.{Conseq}
-use Rattle.ae_core.specs.Clauses.{Clause, opposite, yes_of, no_of, is_true, row}
-use Rattle.ae_core.specs.Instances.{hypothesis, instance_clause, fresh_clause, exhaustion, trichotomy}
-use Rattle.ae_core.specs.Derivations.{goal_body, conclusion}
+use Rattle.ae_rules.specs.Lines.{Conseq}
+use Rattle.ae_rules.specs.Clauses.{Clause, opposite, yes_of, no_of, is_true, row}
+use Rattle.ae_rules.specs.Instances.{hypothesis, instance_clause, fresh_clause, exhaustion, trichotomy}
+use Rattle.ae_rules.specs.Derivations.{goal_body, conclusion}
 use Rattle.ae_core.specs.declared.terms.Sort.{Sort, Int}
 use Rattle.ae_core.specs.declared.terms.Term.{Term, Apply}
 use Rattle.ae_core.specs.declared.terms.Head.{Head}

@@ -1,9 +1,10 @@
 -- The values that terms have by the `solve` lines that stand, for a list that numbers names.
 use Rattle.std.specs.Prelude.{ℕ, zero, suc, ◌+◌, ◌<◌, ◌≤◌, nat_eq, Bool, true, false, cond, List, [], ◌∷◌, ◌++◌, ◌≡◌, ◌≢◌, map, length, slice_get, Option, Some, None}
 use Rattle.ae_math.specs.Fractions.{ℚ, zero_ℚ, ratio, ◌+ℚ◌, ◌*ℚ◌}
-use Rattle.ae_math.specs.Choices.{pick}
+use Rattle.ae_base.specs.Decided.{pick}
 use Rattle.ae_core.specs.Decided.{Term_discrete}
-use Rattle.ae_core.specs.Sorts.{sort_of, or_else}
+use Rattle.ae_core.specs.Sorts.{sort_of}
+use Rattle.ae_base.specs.Options.{or_else}
 use Rattle.ae_core.specs.declared.terms.Sort.{Sort, Bool as BoolSort}
 use Rattle.ae_core.specs.declared.terms.Term.{Term, Term-F, Apply, para-Term, Fresh}
 use Rattle.ae_core.specs.declared.terms.Term.TheOpen as layer
