@@ -20,7 +20,7 @@ pub enum JournalFail {
 }
 
 impl From<AllocError> for JournalFail {
-    ghost use Rattle.std.specs.Prelude.{◌≡◌, ◌≤◌, vec_capacity};
+    ghost use Rattle.std.specs.Prelude.{◌≡◌};
     ghost use Rattle.ae_journal.specs.declared.journal.JournalFail.TheVariants.{Memory};
 
     ghost from_gives = { λ e r. r ≡ Memory e };
@@ -39,6 +39,7 @@ pub struct Journal {
 }
 
 impl Model for Journal {
+    ghost use Rattle.std.specs.Prelude.{◌≡◌, ◌≤◌};
     ghost use Rattle.std.specs.Coded.{codes};
     ghost use Rattle.ae_core.specs.contracts.formulas.Formula as formula;
     ghost use Rattle.ae_core.specs.contracts.terms.Term as term;
