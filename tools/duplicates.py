@@ -11,7 +11,8 @@ the variables' own types beside them in any order. An item that states no relati
 
     tools/duplicates.py             the groups of statements that stand twice or more; exit status 1 if there is one
     tools/duplicates.py --all       every statement over library types alone, by crate and file: what may go to ae_base
-    tools/duplicates.py --library   also those that the kit's std proves already (KIT in the environment, or /opt/rattle)
+    tools/duplicates.py --library   also those that the kit's std proves already (KIT in the environment, or /opt/rattle), and statements
+                                    that std or ae_base has, at types of a crate's own
 ROOT in the environment is another copy of the repository to look at.
 """
 import os
@@ -30,9 +31,7 @@ LOOSE = {"→", "×", "⊎", "↔"}
 TESTS = {"≡", "≢", "<", "≤", "<ℤ", "≤ℤ", "∣", "∈"}
 PLAIN_TYPES = {"ℕ", "ℤ", "ℚ", "Bool", "List", "Option", "Result", "Type", "Unit", "Ordering", "Some", "None", "Ok", "Err", "Less", "Equal", "Greater"}
 RELATIONS = {"≡", "≢", "<", "≤", "⊥", "¬", "↔", "∈", "Path", "IsTrue", "Decides", "IsPermutation", "AllByRecursion", "All", "⊎", "<ℤ", "≤ℤ", "Dec"}
-SYMBOLS = "()[]{}|,"
 TOKEN = re.compile(r"\|\||[()\[\]{}|,]|[^\s()\[\]{}|,]+")
-HEAD = re.compile(r"^( *)((?:pub |abbrev |unfoldable |opaque )*)([^\s:(){}]+)((?: +[({][^:]*:[^\n]*?[)}])*) : (.*)$")
 SKIP = ("use ", "pub use ", "mod ", "pub mod ", "infix", "--", "data ", "pub data ", "record ", "pub record ", "syntax", "pub syntax",
         "unfolding", "tactic", "pub tactic", "ruleset", "pub ruleset", "rules", "pub rules")
 
