@@ -3,7 +3,7 @@ use Rattle.std.specs.Prelude.{ℕ, suc, ◌+◌, ◌<◌, List, [], ◌∷◌, �
 use Rattle.std.proofs.lemmas.List.{take_more, length-take-le}
 use mathlib.Core.Path.{refl, sym, ap, ◌∙◌}
 use native.Mathlib.Omega.{arith}
-use Rattle.ae_core.specs.Instances.{count_from}
+use Rattle.ae_rules.specs.Instances.{count_from}
 use Rattle.ae_core.specs.declared.terms.Sort.{Sort}
 use Rattle.ae_core.specs.declared.terms.Term.{Term, Fresh}
 

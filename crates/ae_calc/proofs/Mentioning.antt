@@ -7,8 +7,10 @@ use Rattle.std.proofs.lemmas.List.{take_all, length-drop}
 use mathlib.Core.Path.{refl, sym, ap, ◌∙◌}
 use native.Mathlib.Omega.{arith}
 use Rattle.ae_core.specs.Decided.{decided, Sort_discrete, Term_discrete}
-use Rattle.ae_core.specs.Sorts.{same_sort, or_else, ◌>>=◌}
-use Rattle.ae_core.specs.Instances.{count_from, constants, constants_step, formula_constants, formula_constants_step}
+use Rattle.ae_core.specs.Sorts.{same_sort}
+use Rattle.ae_core.specs.Options.{or_else, ◌>>=◌}
+use Rattle.ae_rules.specs.Instances.{count_from}
+use Rattle.ae_core.specs.Constants.{constants, constants_step, formula_constants, formula_constants_step}
 use Rattle.ae_core.specs.declared.terms.Sort.{Sort}
 use Rattle.ae_core.specs.declared.terms.Head.{Head}
 use Rattle.ae_core.specs.declared.terms.Term.{Term, Bound, Num, Fresh, Apply}

@@ -6,11 +6,12 @@ use Rattle.std.proofs.lemmas.Bool.{or_parts}
 use mathlib.Core.Path.{refl, sym, ap, ◌∙◌, subst}
 use native.Mathlib.Omega.{arith}
 use Rattle.ae_core.specs.Decided.{decided, Term_discrete}
-use Rattle.ae_core.specs.Sorts.{or_else}
-use Rattle.ae_core.specs.Lines.{states}
-use Rattle.ae_core.specs.Clauses.{Clause}
-use Rattle.ae_core.specs.Instances.{count_from, fresh_terms, constants, formula_constants, clause_constants}
-use Rattle.ae_core.specs.Derivations.{AreNew, conclusion, own_constants, line_constants}
+use Rattle.ae_core.specs.Options.{or_else}
+use Rattle.ae_rules.specs.Lines.{states}
+use Rattle.ae_rules.specs.Clauses.{Clause}
+use Rattle.ae_rules.specs.Instances.{count_from, fresh_terms}
+use Rattle.ae_core.specs.Constants.{constants, formula_constants, clause_constants}
+use Rattle.ae_rules.specs.Derivations.{AreNew, conclusion, own_constants, line_constants}
 use Rattle.ae_core.specs.declared.terms.Sort.{Sort}
 use Rattle.ae_core.specs.declared.terms.Term.{Term}
 use Rattle.ae_core.specs.declared.formulas.Formula.{Formula, All, Ex}

@@ -6,7 +6,7 @@ use mathlib.Core.Path.{sym, ap, ◌∙◌, subst}
 use mathlib.Core.List.{append_assoc, append-nil}
 use native.Mathlib.Omega.{arith}
 use Rattle.ae_num.specs.declared.numbers.Wide.{Wide}
-use Rattle.ae_core.specs.Derivations.{AreAllowed, IsAllowed}
+use Rattle.ae_rules.specs.Derivations.{AreAllowed, IsAllowed}
 use Rattle.ae_core.specs.declared.problems.Problem.{Problem}
 use Rattle.ae_core.specs.declared.proofs.ClauseLine.{ClauseLine}
 use Rattle.ae_calc.specs.Widths.{IsWithin, IsFirstWide, IsProofWithin, IsProofWide}

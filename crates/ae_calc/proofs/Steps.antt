@@ -5,8 +5,8 @@ use Rattle.std.proofs.lemmas.Option.{slice_get-get_or}
 use mathlib.Core.Path.{sym, ap, ◌∙◌, subst}
 use mathlib.Core.List.{append_assoc, append-nil}
 use native.Mathlib.Omega.{arith}
-use Rattle.ae_core.specs.Lines.{AllAllowed, Allowed, fact_ok, states}
-use Rattle.ae_core.specs.Derivations.{AreAllowed, IsAllowed, last_of}
+use Rattle.ae_rules.specs.Lines.{AllAllowed, Allowed, fact_ok, states}
+use Rattle.ae_rules.specs.Derivations.{AreAllowed, IsAllowed, last_of}
 use Rattle.ae_core.specs.declared.problems.Signature.{Signature}
 use Rattle.ae_core.specs.declared.problems.Problem.{Problem}
 use Rattle.ae_core.specs.declared.formulas.Lit.{Lit}

@@ -1,7 +1,7 @@
 -- Only a block states products and sums, and each block states a clause.
 use Rattle.std.specs.Prelude.{ℕ}
 use mathlib.Core.Path.{refl}
-use Rattle.ae_core.specs.Derivations.{HasConclusion}
+use Rattle.ae_rules.specs.Derivations.{HasConclusion}
 use Rattle.ae_core.specs.declared.problems.Problem.{Problem}
 use Rattle.ae_core.specs.declared.proofs.ClauseLine.{ClauseLine}
 use Rattle.ae_core.specs.declared.proofs.ClauseLine.TheVariants.{Hyp, Goal, Def, Inst, Fresh, Exh, Tri, Block, Rup}

@@ -10,7 +10,7 @@ use Rattle.ae_num.specs.declared.numbers.NumFail.{NumFail}
 use Rattle.ae_num.specs.declared.numbers.NumFail.TheVariants.{Wide as WideFail, Memory}
 use Rattle.ae_num.specs.declared.numbers.Wide.{Wide}
 use Rattle.ae_core.specs.Sorts.{sort_of, same_known, same_numeric}
-use Rattle.ae_core.specs.Lines.{Fact, fact_ok, states, equal, at_most, below}
+use Rattle.ae_rules.specs.Lines.{Fact, fact_ok, states, equal, at_most, below}
 use Rattle.ae_core.specs.declared.terms.Sort.{Sort}
 use Rattle.ae_core.specs.declared.formulas.Lit.{Lit}
 use Rattle.ae_core.specs.declared.problems.Signature.{Signature}

@@ -1,7 +1,7 @@
 -- What the endings by constructors and by a predicate ask of terms and of formulas.
 use Rattle.std.specs.Prelude.{ℕ, List, [], ◌≡◌, ◌≢◌}
-use Rattle.ae_core.specs.Lines.{Equated}
-use Rattle.ae_core.specs.Derivations.{IsConstructor}
+use Rattle.ae_rules.specs.Lines.{Equated}
+use Rattle.ae_rules.specs.Derivations.{IsConstructor}
 use Rattle.ae_core.specs.declared.terms.Sort.{Sort}
 use Rattle.ae_core.specs.declared.terms.Term.{Term, Apply}
 use Rattle.ae_core.specs.declared.terms.Head.{Head}

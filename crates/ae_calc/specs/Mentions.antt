@@ -1,13 +1,14 @@
 -- Whether one of the constants that a line puts stands in a term, a formula, a clause and a line.
-use Rattle.std.specs.Prelude.{ℕ, Bool, false, not, ◌||◌, List, [], Some}
+use Rattle.std.specs.Prelude.{ℕ, Bool, false, not, ◌||◌, List, [], Some, slice_get}
 use Rattle.std.specs.List.{list_any}
-use Rattle.std.specs.Prelude.{slice_get}
 use Rattle.ae_core.specs.Decided.{decided, Term_discrete}
-use Rattle.ae_core.specs.Sorts.{same_sort, or_else, ◌>>=◌}
-use Rattle.ae_core.specs.Clauses.{Clause}
-use Rattle.ae_core.specs.Lines.{states}
-use Rattle.ae_core.specs.Instances.{count_from, fresh_terms, constants, formula_constants}
-use Rattle.ae_core.specs.Derivations.{conclusion}
+use Rattle.ae_core.specs.Sorts.{same_sort}
+use Rattle.ae_core.specs.Options.{or_else, ◌>>=◌}
+use Rattle.ae_rules.specs.Clauses.{Clause}
+use Rattle.ae_rules.specs.Lines.{states}
+use Rattle.ae_rules.specs.Instances.{count_from, fresh_terms}
+use Rattle.ae_core.specs.Constants.{constants, formula_constants}
+use Rattle.ae_rules.specs.Derivations.{conclusion}
 use Rattle.ae_core.specs.declared.terms.Sort.{Sort}
 use Rattle.ae_core.specs.declared.terms.Term.{Term}
 use Rattle.ae_core.specs.declared.formulas.Formula.{Formula}

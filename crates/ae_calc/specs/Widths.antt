@@ -2,8 +2,8 @@
 use Rattle.std.specs.Prelude.{ℕ, true, List, [], ◌∷◌, ◌++◌, ◌⊎◌, ◌≡◌, Some, None}
 use Rattle.ae_num.specs.Forms.{first_wide}
 use Rattle.ae_num.specs.declared.numbers.Wide.{Wide}
-use Rattle.ae_core.specs.Lines.{Allowed, fact_ok, states}
-use Rattle.ae_core.specs.Derivations.{clause_ok, IsAllowed}
+use Rattle.ae_rules.specs.Lines.{Allowed, fact_ok, states}
+use Rattle.ae_rules.specs.Derivations.{clause_ok, IsAllowed}
 use Rattle.ae_core.specs.declared.formulas.Lit.{Lit}
 use Rattle.ae_core.specs.declared.problems.Signature.{Signature}
 use Rattle.ae_core.specs.declared.problems.Problem.{Problem}

@@ -1,8 +1,8 @@
 //! Clause lines: what each states, and whether it is allowed after earlier ones.
 ghost use Rattle.std.specs.Prelude.{◌≡◌, ◌↔◌, ◌&&◌, IfOk, IfErr, OnOk, IsTrue};
 ghost use Rattle.std.specs.List.{list_all};
-ghost use Rattle.ae_core.specs.Derivations as spec;
-ghost use Rattle.ae_core.specs.Instances as stated;
+ghost use Rattle.ae_rules.specs.Derivations as spec;
+ghost use Rattle.ae_rules.specs.Instances as stated;
 ghost use Rattle.ae_core.specs.Sorts as sorted;
 ghost use Rattle.ae_core.specs.declared.proofs.ClauseLine.TheVariants.{Hyp, Goal};
 ghost use Rattle.ae_num.specs.Forms.{IfWide};

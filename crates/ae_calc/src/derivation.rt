@@ -1,6 +1,6 @@
 //! Whether a proof derives its goal.
 ghost use Rattle.std.specs.Prelude.{◌↔◌, [], IfOk, IfErr, OnOk, IsTrue};
-ghost use Rattle.ae_core.specs.Derivations.{AreAllowed, Derives};
+ghost use Rattle.ae_rules.specs.Derivations.{AreAllowed, Derives};
 ghost use Rattle.ae_num.specs.Forms.{IfWide};
 ghost use Rattle.ae_calc.specs.Ending.{EndsEmpty};
 ghost use Rattle.ae_calc.specs.Widths.{IsProofWithin, IsProofWide};

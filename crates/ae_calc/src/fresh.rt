@@ -2,8 +2,8 @@
 ghost use Rattle.std.specs.Prelude.{◌≡◌, ◌↔◌, IfOk, IsTrue};
 ghost use Rattle.std.specs.List.{list_any};
 ghost use Rattle.ae_calc.specs.Mentions as spec;
-ghost use Rattle.ae_core.specs.Derivations.{AreNew};
-ghost use Rattle.ae_core.specs.Instances as instances;
+ghost use Rattle.ae_rules.specs.Derivations.{AreNew};
+ghost use Rattle.ae_rules.specs.Instances as instances;
 ghost use Rattle.ae_core.specs.declared.formulas.Formula.{out-Formula};
 
 use crate::clause_lines::conclusion;

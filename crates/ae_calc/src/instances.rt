@@ -1,10 +1,10 @@
 //! The clauses of the lines that put sorts or terms: hypotheses, instances and fresh constants.
 ghost use Rattle.std.specs.Prelude.{◌≡◌, ◌∷◌, [], IfOk, ◌+◌, ◌≤◌, ◌^◌, length, not};
-ghost use Rattle.ae_core.specs.Sorts.{when};
-ghost use Rattle.ae_core.specs.Clauses.{literal};
+ghost use Rattle.ae_core.specs.Options.{when};
+ghost use Rattle.ae_rules.specs.Clauses.{literal};
 ghost use Rattle.ae_core.specs.Putting.{put_formula};
-ghost use Rattle.ae_core.specs.Derivations.{conclusion};
-ghost use Rattle.ae_core.specs.Instances as spec;
+ghost use Rattle.ae_rules.specs.Derivations.{conclusion};
+ghost use Rattle.ae_rules.specs.Instances as spec;
 ghost use Rattle.ae_core.specs.declared.formulas.Formula.{out-Formula};
 ghost use Rattle.ae_core.specs.declared.proofs.ClauseLine.TheVariants.{Hyp};
 

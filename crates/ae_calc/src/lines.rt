@@ -1,21 +1,18 @@
 //! The derived lines of a block, and a block as a whole.
 ghost use Rattle.std.specs.Prelude.{◌≡◌, ◌↔◌, [], true, false, IfOk, OnOk, IfErr, IsTrue, Some, None};
 ghost use Rattle.ae_num.specs.Forms.{first_wide, IfWide};
-ghost use Rattle.ae_core.specs.Lines.{Allowed, AllAllowed, fact_ok};
-ghost use Rattle.ae_core.specs.Derivations.{Ends, IsContradictory};
+ghost use Rattle.ae_rules.specs.Lines.{Allowed, AllAllowed, fact_ok};
+ghost use Rattle.ae_rules.specs.Derivations.{Ends, IsContradictory};
 ghost use Rattle.ae_numeric.specs.Stated.{line_steps};
 ghost use Rattle.ae_calc.specs.Widths.{AreWithin, AreFirstWide, IsLineAllowed};
 
 use crate::endings::ends;
-use crate::equations::{
-    assumes, assumes_at_most, assumes_below, congruent, equates, fact_is_ok, fields_allowed,
-    is_written_field, joined,
-};
+use crate::equations::{assumes, assumes_at_most, assumes_below, congruent, equates, fact_is_ok, fields_allowed, is_written_field, joined};
 use crate::flattening::ac_allowed;
 use ae_core::formulas::Lit;
 use ae_core::problems::Signature;
 use ae_core::proofs::{Block, Ending, EqLine};
-use ae_core::terms::same_term;
+use ae_core::equality::same_term;
 use ae_num::numbers::NumFail;
 use ae_numeric::combinations::{le_sum_allowed, lin_allowed, lt_sum_allowed};
 use ae_numeric::facts::stated;

@@ -1,9 +1,5 @@
 //! Each derived line and each ending, once allowed and at least once refused.
-use crate::samples::{
-    A, B, C, GREEN, POINT, RED, X, Y, and_line, and_lit, assumed, at_most, below, chain, constant,
-    coordinate, different, ends, equal, even, given, int, join, linear, one_line, one_lit, part,
-    point, reflexive, stands, wrapped,
-};
+use crate::samples::{A, B, C, GREEN, POINT, RED, X, Y, and_line, and_lit, assumed, at_most, below, chain, constant, coordinate, different, ends, equal, even, given, int, join, linear, one_line, one_lit, part, point, reflexive, stands, wrapped};
 use ae_core::formulas::Lit;
 use ae_core::lists::List;
 use ae_core::proofs::{Ending, EqLine};

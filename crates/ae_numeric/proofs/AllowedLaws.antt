@@ -5,8 +5,8 @@ use Rattle.std.proofs.Common.{refl, sym, ap, ◌∙◌, true≢false, inl, inr, 
 use Rattle.std.proofs.lemmas.Bool.{and_parts}
 use Rattle.std.proofs.lemmas.Bool.Decides.{nat_tests}
 use borrow.Author.Differences.{ints}
-use Rattle.ae_core.specs.Sorts.{◌>>=◌}
-use Rattle.ae_core.specs.Lines.{Fact, equal, at_most, below, states, Combined, IsEqual, MayCount, SomeBelow, AllowedLin, AllowedLeSum, AllowedLtSum}
+use Rattle.ae_core.specs.Options.{◌>>=◌}
+use Rattle.ae_rules.specs.Lines.{Fact, equal, at_most, below, states, Combined, IsEqual, MayCount, SomeBelow, AllowedLin, AllowedLeSum, AllowedLtSum}
 use Rattle.ae_core.specs.declared.terms.Term.{Term}
 use Rattle.ae_core.specs.declared.problems.Signature.{Signature}
 use Rattle.ae_core.specs.declared.proofs.EqLine.{EqLine}

@@ -13,10 +13,11 @@ use Rattle.ae_math.proofs.FormLaws.{factor_in-scale}
 use Rattle.ae_num.specs.declared.forms.Part.{Part}
 use Rattle.ae_num.specs.declared.forms.Lin.{Lin}
 use Rattle.ae_core.specs.Decided.{Term_discrete}
-use Rattle.ae_core.specs.Linear.{Linear, form}
-use Rattle.ae_core.specs.Derivations.{IsConstant}
-use Rattle.ae_core.specs.Sorts.{sort_of, same_numeric, ◌>>=◌}
-use Rattle.ae_core.specs.Lines.{Fact, equal, states, Stated, AreNumbers}
+use Rattle.ae_rules.specs.Linear.{Linear, form}
+use Rattle.ae_rules.specs.Derivations.{IsConstant}
+use Rattle.ae_core.specs.Sorts.{sort_of, same_numeric}
+use Rattle.ae_core.specs.Options.{◌>>=◌}
+use Rattle.ae_rules.specs.Lines.{Fact, equal, states, Stated, AreNumbers}
 use Rattle.ae_core.specs.declared.problems.Signature.{Signature}
 use Rattle.ae_core.specs.declared.proofs.EqLine.{EqLine}
 use Rattle.ae_core.specs.declared.proofs.Ending.TheVariants as ending

@@ -2,9 +2,9 @@
 use Rattle.std.specs.Prelude.{ℕ, ◌≡◌, ◌↔◌, ◌&&◌, slice_get, Option, Some, None, Bool, IsTrue, true, false, cond, List, []}
 use Rattle.std.proofs.Common.{refl, sym, ap, ◌∙◌, subst, true≢false}
 use Rattle.ae_math.specs.Fractions.{ℚ}
-use Rattle.ae_core.specs.Sorts.{◌>>=◌}
-use Rattle.ae_core.specs.Lines.{Fact, equal, states, gap, Stated, AreNumbers}
-use Rattle.ae_core.specs.Derivations.{CannotHold, EndsConst, EndsZero}
+use Rattle.ae_core.specs.Options.{◌>>=◌}
+use Rattle.ae_rules.specs.Lines.{Fact, equal, states, gap, Stated, AreNumbers}
+use Rattle.ae_rules.specs.Derivations.{CannotHold, EndsConst, EndsZero}
 use Rattle.ae_core.specs.declared.terms.Term.{Term}
 use Rattle.ae_core.specs.declared.problems.Signature.{Signature}
 use Rattle.ae_core.specs.declared.proofs.EqLine.{EqLine}

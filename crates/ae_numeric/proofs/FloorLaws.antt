@@ -9,7 +9,7 @@ use borrow.Author.Differences.{ints}
 use mir.Syntax.{w128}
 use mir.Val.{SFits, of_z, to_z}
 use Rattle.ae_math.specs.Integers.{add_mul_z, neg_mul_z}
-use Rattle.ae_core.specs.Lines.{IsFloor}
+use Rattle.ae_rules.specs.Lines.{IsFloor}
 
 beyond : (p k q : ℤ) (n : ℕ) → q ≡ p +ℤ pos n → k <ℤ p → q ≤ℤ k → ⊥
 beyond p k q n e a b = omega (arith, ints)

@@ -19,7 +19,7 @@ use Rattle.ae_num.proofs.PairLaws.{factor_head, factor_tail}
 use Rattle.ae_num.proofs.MeaningLaws.{factor_meaning}
 use Rattle.ae_num.proofs.UniqueLaws.{unique}
 use Rattle.ae_core.specs.Decided.{Term_discrete}
-use Rattle.ae_core.specs.Linear.{Linear, factor_of, IsSame}
+use Rattle.ae_rules.specs.Linear.{Linear, factor_of, IsSame}
 use Rattle.ae_core.specs.declared.terms.Term.{Term, Bound}
 use Rattle.ae_numeric.specs.Computing.{named, AreDistinct, HasKeys, IsFormOf}
 

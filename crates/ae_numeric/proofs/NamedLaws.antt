@@ -16,7 +16,7 @@ use Rattle.ae_num.specs.declared.forms.Lin.{Lin}
 use Rattle.ae_num.specs.Forms.{meaning, SameMeaning, IsNormal, AllAbove, IsRising, divided_part, lowest, parts_of, with_key as with_number, with_keys, keys_of, sum_of as lin_sum, multiple_of}
 use Rattle.ae_num.proofs.MeaningLaws.{ratio_sum, ratio_zero}
 use Rattle.ae_core.specs.Decided.{Term_discrete}
-use Rattle.ae_core.specs.Linear.{Linear, IsSame, is_number as is_constant_form, times}
+use Rattle.ae_rules.specs.Linear.{Linear, IsSame, is_number as is_constant_form, times}
 use Rattle.ae_core.specs.declared.terms.Term.{Term, Bound}
 use Rattle.ae_numeric.specs.Stated.{place_of, with_key, key_form, is_number}
 use Rattle.ae_numeric.specs.Computing.{named, AreDistinct, HasKeys, IsFormOf}

@@ -24,8 +24,8 @@ use Rattle.ae_num.proofs.KeyLaws.{eq_yes, eq_no}
 use Rattle.ae_num.proofs.UniqueLaws.{all_divide, same_parts}
 use Rattle.ae_num.proofs.MeaningLaws.{ratio_zero, ratio_times, product_positive}
 use Rattle.ae_core.specs.Decided.{Term_discrete}
-use Rattle.ae_core.specs.Linear.{Linear, factor_of as term_factor}
-use Rattle.ae_core.specs.Lines.{whole, slack, AreMultiples, IsFloor}
+use Rattle.ae_rules.specs.Linear.{Linear, factor_of as term_factor}
+use Rattle.ae_rules.specs.Lines.{whole, slack, AreMultiples, IsFloor}
 use Rattle.ae_core.specs.declared.terms.Term.{Term, Bound}
 use Rattle.ae_core.specs.declared.proofs.Relation.{Relation}
 use Rattle.ae_core.specs.declared.proofs.Relation.TheVariants.{Equal, AtMost, Below}

@@ -4,10 +4,11 @@ use Rattle.std.proofs.Common.{refl, sym, ap, ◌∙◌, subst, inl, inr}
 use Rattle.std.proofs.lemmas.Option.{slice_get_read}
 use Rattle.ae_num.specs.Forms.{Step}
 use Rattle.ae_core.specs.Decided.{decided, Sort_discrete}
-use Rattle.ae_core.specs.Sorts.{sort_of, same_sort, same_numeric, known, only, ◌>>=◌}
-use Rattle.ae_core.proofs.Congruence.{same_numeric_is}
-use Rattle.ae_core.specs.Lines.{Fact, equal, at_most, states, HaveSort, Rounds, AllowedRound, gap}
-use Rattle.ae_core.specs.Derivations.{EndsGcd}
+use Rattle.ae_core.specs.Sorts.{sort_of, same_sort, same_numeric, known}
+use Rattle.ae_core.specs.Options.{only, ◌>>=◌}
+use Rattle.ae_rules.proofs.Congruence.{same_numeric_is}
+use Rattle.ae_rules.specs.Lines.{Fact, equal, at_most, states, HaveSort, Rounds, AllowedRound, gap}
+use Rattle.ae_rules.specs.Derivations.{EndsGcd}
 use Rattle.ae_core.specs.declared.terms.Sort.{Sort, Int}
 use Rattle.ae_core.specs.declared.terms.Term.{Term}
 use Rattle.ae_core.specs.declared.problems.Signature.{Signature}

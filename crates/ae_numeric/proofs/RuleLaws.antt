@@ -17,11 +17,12 @@ use mir.Val.{of_z, to_z}
 use Rattle.ae_num.proofs.LowestLaws.{number_normal, number_value}
 use Rattle.ae_numeric.proofs.NamedLaws.{minus_ratio, one_ratio, ratio_none, is_zero_yes}
 use Rattle.ae_math.specs.Forms.{single, scale, is_zero}
-use Rattle.ae_core.specs.Linear as linear
-use Rattle.ae_core.specs.Linear.{Linear, form, times, over}
-use Rattle.ae_core.specs.Sorts.{sort_of, is_closed_sort, known, only, when, all_known, ◌>>=◌, head_sort, numeral_ok, within}
+use Rattle.ae_rules.specs.Linear as linear
+use Rattle.ae_rules.specs.Linear.{Linear, form, times, over}
+use Rattle.ae_core.specs.Sorts.{sort_of, is_closed_sort, known, head_sort, numeral_ok, within}
+use Rattle.ae_core.specs.Options.{only, when, all_known, ◌>>=◌}
 use Rattle.ae_core.proofs.SortLaws.{sort_in_num, sort_in_apply}
-use Rattle.ae_core.proofs.LinearLaws.{form-Apply}
+use Rattle.ae_rules.proofs.LinearLaws.{form-Apply}
 use Rattle.ae_core.specs.declared.terms.Sort.{Sort, Int, Real}
 use Rattle.ae_core.specs.declared.terms.Head.{Head}
 use Rattle.ae_core.specs.declared.terms.Head.TheVariants as head

@@ -13,8 +13,8 @@ use Rattle.ae_num.specs.declared.numbers.NumFail.{NumFail}
 use Rattle.ae_num.specs.Forms.{IsNormal, IfWide, first_wide}
 use Rattle.ae_num.proofs.StepLaws.{first_wide-none, first_wide-some}
 use Rattle.ae_core.specs.Decided.{Term_discrete}
-use Rattle.ae_core.specs.Linear.{Linear, IsSame}
-use Rattle.ae_core.specs.Lines.{Fact, states, whole}
+use Rattle.ae_rules.specs.Linear.{Linear, IsSame}
+use Rattle.ae_rules.specs.Lines.{Fact, states, whole}
 use Rattle.ae_core.specs.declared.terms.Term.{Term}
 use Rattle.ae_core.specs.declared.proofs.EqLine.{EqLine}
 use Rattle.ae_core.specs.declared.proofs.Scaled.{Scaled}

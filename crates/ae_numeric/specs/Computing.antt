@@ -5,7 +5,7 @@ use Rattle.ae_math.specs.Fractions.{ratio}
 use Rattle.ae_num.specs.Forms.{IsNormal, first_wide, IfWide}
 use Rattle.ae_num.specs.declared.forms.Lin.{Lin}
 use Rattle.ae_num.specs.declared.numbers.NumFail.{NumFail}
-use Rattle.ae_core.specs.Linear.{Linear, IsSame}
+use Rattle.ae_rules.specs.Linear.{Linear, IsSame}
 use Rattle.ae_core.specs.Sorts.{term_ok}
 use Rattle.ae_core.specs.declared.terms.Term.{Term, Bound}
 use Rattle.ae_core.specs.declared.problems.Signature.{Signature}

@@ -3,8 +3,8 @@ use Rattle.std.specs.Prelude.{ℤ, pos, Bool, cond, not, int_lt, List, [], ◌�
 use Rattle.std.specs.Ordering.{int_eq}
 use Rattle.ae_math.specs.Fractions.{ℚ, zero_ℚ}
 use Rattle.ae_num.specs.Forms.{Step}
-use Rattle.ae_core.specs.Lines.{Fact, gap}
-use Rattle.ae_core.specs.Derivations.{IsConstant, CannotHold}
+use Rattle.ae_rules.specs.Lines.{Fact, gap}
+use Rattle.ae_rules.specs.Derivations.{IsConstant, CannotHold}
 use Rattle.ae_core.specs.declared.problems.Signature.{Signature}
 use Rattle.ae_core.specs.declared.proofs.Relation.{Relation}
 use Rattle.ae_core.specs.declared.proofs.Relation.TheVariants.{Equal, AtMost, Below}

@@ -6,8 +6,8 @@ use Rattle.ae_math.specs.Forms.{plus, number}
 use Rattle.ae_num.specs.Forms.{IsCommonDivisor}
 use Rattle.ae_num.specs.declared.forms.Part.{Part}
 use Rattle.ae_num.specs.declared.forms.Lin.{Lin}
-use Rattle.ae_core.specs.Linear.{Linear, factor_of}
-use Rattle.ae_core.specs.Lines.{whole, slack, AreMultiples, IsFloor}
+use Rattle.ae_rules.specs.Linear.{Linear, factor_of}
+use Rattle.ae_rules.specs.Lines.{whole, slack, AreMultiples, IsFloor}
 use Rattle.ae_core.specs.declared.terms.Term.{Term}
 use Rattle.ae_core.specs.declared.proofs.Relation.{Relation}
 use Rattle.ae_core.specs.declared.proofs.Relation.TheVariants.{Below}

@@ -6,7 +6,7 @@ use Rattle.ae_math.specs.Forms.{single, plus, minus, scale}
 use Rattle.ae_num.specs.Forms.{first_wide, IfWide}
 use Rattle.ae_num.specs.declared.forms.Lin.{Lin}
 use Rattle.ae_num.specs.declared.numbers.NumFail.{NumFail}
-use Rattle.ae_core.specs.Linear.{Linear, times}
+use Rattle.ae_rules.specs.Linear.{Linear, times}
 use Rattle.ae_core.specs.declared.terms.Term.{Term, Bound, Num}
 use Rattle.ae_core.specs.declared.terms.Head.{Head}
 use Rattle.ae_core.specs.declared.terms.Head.TheVariants as head

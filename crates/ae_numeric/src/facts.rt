@@ -1,6 +1,6 @@
 //! What derived lines state.
 ghost use Rattle.std.specs.Prelude.{◌≡◌};
-ghost use Rattle.ae_core.specs.Lines.{states};
+ghost use Rattle.ae_rules.specs.Lines.{states};
 
 use ae_core::proofs::{EqLine, Relation};
 use ae_core::terms::Term;

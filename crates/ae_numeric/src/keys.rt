@@ -83,11 +83,9 @@ pub struct Keys<'a> {
 
 impl<'a> Model for Keys<'a> {
     ghost use Rattle.std.specs.Prelude.{List};
-    ghost use Rattle.std.specs.Coded.{codes};
     ghost use Rattle.std.specs.BTreeMap.{get};
     ghost use Rattle.ae_core.specs.Orders.{term_order};
     ghost use Rattle.ae_core.specs.contracts.terms.Term as term_contract;
-    ghost use Rattle.ae_core.specs.declared.terms.Term.{Term};
     ghost use Rattle.ae_numeric.specs.Keyed.{IsIndex};
 
     ghost Value = { List Term };

@@ -4,10 +4,11 @@ ghost use Rattle.std.specs.List.{AllByRecursion};
 ghost use Rattle.std.specs.Int.{◌∣◌};
 ghost use Rattle.ae_math.specs.Forms.{minus, plus as sum_of_forms};
 ghost use Rattle.ae_num.specs.Forms.{meaning, SameMeaning, IsNormal, IsCommonDivisor, first_wide, IfWide, plus_steps, sum_of};
-ghost use Rattle.ae_core.specs.Linear.{form};
+ghost use Rattle.ae_rules.specs.Linear.{form};
 ghost use Rattle.ae_core.specs.Sorts as sorts;
-ghost use Rattle.ae_core.specs.Lines.{AllowedRound, IsFloor, at_most, equal, gap};
-ghost use Rattle.ae_core.specs.Derivations.{EndsGcd};
+ghost use Rattle.ae_core.specs.Options as sorts_options;
+ghost use Rattle.ae_rules.specs.Lines.{AllowedRound, IsFloor, at_most, equal, gap};
+ghost use Rattle.ae_rules.specs.Derivations.{EndsGcd};
 ghost use Rattle.ae_core.specs.declared.proofs.EqLine.TheVariants.{LeRound};
 ghost use Rattle.ae_core.specs.declared.proofs.Ending.TheVariants.{Gcd};
 ghost use Rattle.ae_numeric.specs.Stated.{computed, subtracted, taken_down, line_steps, ending_steps, round_steps, of_one_sort, forward};
@@ -198,7 +199,7 @@ fn numeric_sort(
     left: &Term,
     right: &Term,
 ) -> Result<Option<Sort>, AllocError>
-    ensures { IfOk result (λ sort. sort ≡ sorts.only (sorts.same_numeric (sorts.sort_of signature.now left.now) (sorts.sort_of signature.now right.now)) (sorts.sort_of signature.now left.now)) }
+    ensures { IfOk result (λ sort. sort ≡ sorts_options.only (sorts.same_numeric (sorts.sort_of signature.now left.now) (sorts.sort_of signature.now right.now)) (sorts.sort_of signature.now left.now)) }
 {
     let sort = sort_of(alloc, signature, left)?;
     let other = sort_of(alloc, signature, right)?;
@@ -218,7 +219,7 @@ fn shared_sort(
     low: &Term,
     high: &Term,
 ) -> Result<Option<Sort>, AllocError>
-    ensures { IfOk result (λ sort. sort ≡ sorts.only (of_one_sort signature.now (at_most left.now right.now) (at_most low.now high.now)) (sorts.sort_of signature.now left.now)) }
+    ensures { IfOk result (λ sort. sort ≡ sorts_options.only (of_one_sort signature.now (at_most left.now right.now) (at_most low.now high.now)) (sorts.sort_of signature.now left.now)) }
 {
     let sort = numeric_sort(alloc, signature, left, right)?;
     let from = sort_of(alloc, signature, low)?;

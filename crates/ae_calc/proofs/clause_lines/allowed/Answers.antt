@@ -1,5 +1,5 @@
 use Rattle.std.proofs.Common.{◌≡◌, IsTrue}
-use Rattle.ae_core.specs.Derivations as spec
+use Rattle.ae_rules.specs.Derivations as spec
 use Rattle.ae_calc.specs.Widths.{IsWithin}
 use Rattle.ae_calc.proofs.Widening.{within_without_clause}
 use Rattle.ae_calc.proofs.clause_lines.allowed.Goals as goal

@@ -1,5 +1,5 @@
 use Rattle.std.proofs.Common.{[], take}
-use Rattle.ae_core.specs.Derivations.{AreAllowed}
+use Rattle.ae_rules.specs.Derivations.{AreAllowed}
 use Rattle.ae_calc.specs.Widths.{IsProofWithin}
 use Rattle.ae_calc.proofs.derivation.are_allowed.Given as goal
 

@@ -1,5 +1,5 @@
 use Rattle.std.proofs.Common.{arith, ◌≡◌, ◌≢◌, ◌∙◌, ◌++◌, true, false, sym, ap, length, List}
-use Rattle.ae_core.specs.Lines.{flat}
+use Rattle.ae_rules.specs.Lines.{flat}
 use Rattle.ae_core.specs.declared.terms.Term.{Apply}
 use Rattle.ae_calc.specs.Lent.{values}
 use Rattle.ae_calc.proofs.Flat.{flat_alone, flat_other_length, flat_inside, flat_other_head, flat_other_sorts, kept, joined, on_ok}

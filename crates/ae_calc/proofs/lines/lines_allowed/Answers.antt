@@ -1,6 +1,6 @@
 use Rattle.std.proofs.Common.{◌≡◌, true, false, sym, ◌∙◌, subst, take, get_or, [], Some, None}
-use Rattle.ae_core.specs.Lines.{AllAllowed, fact_ok}
-use Rattle.ae_core.specs.Derivations.{Ends}
+use Rattle.ae_rules.specs.Lines.{AllAllowed, fact_ok}
+use Rattle.ae_rules.specs.Derivations.{Ends}
 use Rattle.ae_num.specs.Forms.{first_wide}
 use Rattle.ae_numeric.specs.Stated.{line_steps, ending_steps}
 use Rattle.ae_calc.specs.Widths.{IsLineAllowed, AreWithin, AreFirstWide}

@@ -1,6 +1,6 @@
 use Rattle.std.proofs.Common.{[], take, drop}
 use Rattle.ae_num.specs.declared.numbers.Wide.{Wide}
-use Rattle.ae_core.specs.Lines.{AllAllowed, fact_ok}
+use Rattle.ae_rules.specs.Lines.{AllAllowed, fact_ok}
 use Rattle.ae_calc.specs.Widths.{AreWithin, AreFirstWide}
 use Rattle.ae_calc.proofs.lines.lines_allowed.Given as goal
 

@@ -1,5 +1,5 @@
 use Rattle.std.proofs.Common.{◌≡◌, take, map}
-use Rattle.ae_core.specs.Clauses as spec
+use Rattle.ae_rules.specs.Clauses as spec
 use Rattle.ae_calc.proofs.literals.opposites.Given as goal
 
 abbrev pub invariant-loop-lit : goal.invariant-loop-lit

@@ -1,7 +1,7 @@
 -- Each form of formula has its rows.
 use Rattle.std.proofs.Common.{◌≡◌, IfOk, sym, ap, ◌∙◌, subst}
-use Rattle.ae_core.specs.Clauses as spec
-use Rattle.ae_core.proofs.ClauseLaws as laws
+use Rattle.ae_rules.specs.Clauses as spec
+use Rattle.ae_rules.proofs.ClauseLaws as laws
 use Rattle.ae_calc.proofs.rows.row.Goals as goal
 
 pub returns-in-And : goal.returns-in-And

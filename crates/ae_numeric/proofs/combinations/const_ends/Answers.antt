@@ -2,8 +2,8 @@ use Rattle.std.specs.Prelude.{◌≡◌, ◌↔◌, slice_get, IsTrue, Some, Non
 use Rattle.std.proofs.Common.{subst, ap, ◌∙◌, sym, true≢false}
 use Rattle.ae_num.specs.Forms.{first_wide, IfWide}
 use Rattle.ae_num.proofs.StepLaws.{if_ok}
-use Rattle.ae_core.specs.Lines.{AreNumbers, states}
-use Rattle.ae_core.specs.Derivations.{EndsConst}
+use Rattle.ae_rules.specs.Lines.{AreNumbers, states}
+use Rattle.ae_rules.specs.Derivations.{EndsConst}
 use Rattle.ae_numeric.specs.Denials.{IsDenied}
 use Rattle.ae_numeric.proofs.EndingLaws.{const_exact, const_not, const_steps_are, const_no_steps, const_missing, const_missing_steps}
 use Rattle.ae_numeric.proofs.combinations.const_ends.Goals as goal

@@ -3,7 +3,7 @@ use Rattle.std.proofs.Common.{subst, ap, ◌∙◌, sym, true≢false}
 use Rattle.ae_num.specs.Forms.{first_wide, IfWide}
 use Rattle.ae_num.proofs.StepLaws.{if_ok}
 use Rattle.ae_core.specs.Sorts.{sort_of, same_numeric}
-use Rattle.ae_core.specs.Lines.{Fact, AreNumbers, states}
+use Rattle.ae_rules.specs.Lines.{Fact, AreNumbers, states}
 use Rattle.ae_numeric.specs.Denials.{IsDenied}
 use Rattle.ae_numeric.proofs.DenialLaws.{numbers_left, numbers_right, line_exact, line_not, line_steps_are, line_no_steps}
 use Rattle.ae_numeric.proofs.combinations.line_denied.Goals as goal

@@ -8,8 +8,8 @@ use Rattle.ae_num.specs.declared.forms.Lin.{Lin}
 use Rattle.ae_num.specs.declared.numbers.NumFail.{NumFail}
 use Rattle.ae_num.specs.Forms.{meaning, SameMeaning, IsNormal, first_wide, IfWide, multiple_of, scale_steps}
 use Rattle.ae_num.proofs.StepLaws.{if_both}
-use Rattle.ae_core.specs.Linear.{Linear}
-use Rattle.ae_core.specs.Lines.{whole}
+use Rattle.ae_rules.specs.Linear.{Linear}
+use Rattle.ae_rules.specs.Lines.{whole}
 use Rattle.ae_numeric.specs.Stated.{Computation, scaled}
 use Rattle.ae_numeric.specs.Computing.{IsResult, IsFormOf, IsWideIn}
 use Rattle.ae_numeric.specs.Sums as spec

@@ -2,8 +2,8 @@ use Rattle.std.specs.Prelude.{◌≡◌, ◌↔◌, slice_get, IsTrue, Some, Non
 use Rattle.std.proofs.Common.{subst, ap, ◌∙◌, sym, true≢false}
 use Rattle.ae_num.specs.Forms.{first_wide, IfWide}
 use Rattle.ae_num.proofs.StepLaws.{if_ok}
-use Rattle.ae_core.specs.Lines.{AreNumbers, states}
-use Rattle.ae_core.specs.Derivations.{EndsZero}
+use Rattle.ae_rules.specs.Lines.{AreNumbers, states}
+use Rattle.ae_rules.specs.Derivations.{EndsZero}
 use Rattle.ae_numeric.specs.Denials.{IsDenied}
 use Rattle.ae_numeric.proofs.EndingLaws.{zero_exact, zero_not, zero_steps_are, zero_no_steps, zero_missing, zero_missing_steps}
 use Rattle.ae_numeric.proofs.combinations.zero_ends.Goals as goal

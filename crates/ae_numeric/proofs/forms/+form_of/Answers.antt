@@ -1,12 +1,10 @@
-use Rattle.std.specs.Prelude.{◌≡◌, ◌++◌, ◌<ℤ◌, ◌<◌, pos, [], Some, None, IfOk, IfErr, List, length}
+use Rattle.std.specs.Prelude.{◌≡◌, ◌++◌, ◌<ℤ◌, ◌<◌, pos, [], Some, None, IfOk, IfErr, List, length, ◌*◌, ◌+◌, get_or}
 use Rattle.std.specs.List.{AllByRecursion}
 use Rattle.std.proofs.Common.{rules, arith, sym, ap, ◌∙◌, subst, refl}
 use Rattle.std.proofs.lemmas.Int.{to_z-of_z}
 use denote.Param.Weighed.{most}
-use Rattle.ae_core.specs.declared.terms.Term.{size-Term}
+use Rattle.ae_core.specs.declared.terms.Term.{size-Term, Term, Bound}
 use Rattle.ae_numeric.proofs.SizeLaws.{pair_falls, first_falls}
-use Rattle.std.specs.Prelude.{◌*◌, ◌+◌}
-use Rattle.std.specs.Prelude.{get_or}
 use mir.Syntax.{w128}
 use mir.Val.{of_z, to_z}
 use Rattle.ae_math.specs.Fractions.{ratio}
@@ -15,9 +13,8 @@ use Rattle.ae_num.specs.declared.forms.Lin.{Lin}
 use Rattle.ae_num.specs.declared.numbers.Wide.{Wide}
 use Rattle.ae_num.specs.Forms.{first_wide, IfWide, multiple_of, scale_steps, IsNormal, meaning, SameMeaning, lowest}
 use Rattle.ae_num.proofs.StepLaws.{same_err, if_ok}
-use Rattle.ae_core.specs.Linear.{Linear, form}
-use Rattle.ae_core.proofs.LinearLaws.{form-Bound, form-Num, form-Fresh}
-use Rattle.ae_core.specs.declared.terms.Term.{Term, Bound}
+use Rattle.ae_rules.specs.Linear.{Linear, form}
+use Rattle.ae_rules.proofs.LinearLaws.{form-Bound, form-Num, form-Fresh}
 use Rattle.ae_numeric.specs.Stated.{Computation, computed, opaque, known, scaled}
 use Rattle.ae_numeric.specs.Computing.{IsFormOf, IsResult, IsWideIn, IsSorted}
 use Rattle.ae_numeric.specs.Keyed.{Keeps}

@@ -4,7 +4,7 @@ use Rattle.ae_num.specs.declared.forms.Lin.{Lin}
 use Rattle.ae_num.specs.declared.numbers.Wide.{Wide}
 use Rattle.ae_num.specs.Forms.{first_wide, IfWide, sum_of, multiple_of, plus_steps, scale_steps, IsNormal, meaning, SameMeaning}
 use Rattle.ae_num.proofs.StepLaws.{same_err}
-use Rattle.ae_core.specs.Linear.{form}
+use Rattle.ae_rules.specs.Linear.{form}
 use Rattle.ae_core.specs.declared.terms.Term.{Bound}
 use Rattle.ae_numeric.specs.Stated.{computed, subtracted}
 use Rattle.ae_numeric.specs.Computing.{IsFormOf, IsResult, IsWideIn}

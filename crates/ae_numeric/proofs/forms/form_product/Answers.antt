@@ -4,7 +4,7 @@ use Rattle.ae_num.specs.declared.forms.Lin.{Lin}
 use Rattle.ae_num.specs.Forms.{IsNormal}
 use Rattle.ae_num.proofs.StepLaws.{if_ok}
 use Rattle.ae_num.proofs.ReductionLaws.{read_back}
-use Rattle.ae_core.specs.Linear.{times}
+use Rattle.ae_rules.specs.Linear.{times}
 use Rattle.ae_numeric.specs.Computing.{IsFormOf}
 use Rattle.ae_numeric.proofs.NamedLaws.{product_left, product_right, product_opaque, empty_number}
 use Rattle.ae_numeric.proofs.ComputedLaws.{if_three}

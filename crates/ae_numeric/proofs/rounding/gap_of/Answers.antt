@@ -5,7 +5,7 @@ use Rattle.ae_num.specs.declared.numbers.Wide.{Wide}
 use Rattle.ae_num.specs.declared.numbers.NumFail.{NumFail}
 use Rattle.ae_num.specs.Forms.{meaning, SameMeaning, IsNormal, first_wide, IfWide, plus_steps, sum_of}
 use Rattle.ae_num.proofs.StepLaws.{same_err, if_both}
-use Rattle.ae_core.specs.Linear.{form}
+use Rattle.ae_rules.specs.Linear.{form}
 use Rattle.ae_numeric.specs.Stated.{computed, subtracted, taken_down, minus_one}
 use Rattle.ae_numeric.specs.Computing.{IsFormOf, IsResult, IsWideIn}
 use Rattle.ae_numeric.specs.Rounding.{lowered}
