@@ -17,7 +17,7 @@ use Rattle.ae_core.specs.Orders.{term_order}
 use Rattle.ae_core.specs.Decided.{Term_discrete, pick, pick_yes, pick_no}
 use Rattle.ae_core.proofs.OrderLaws.{term_total, term_exact}
 use Rattle.ae_core.specs.declared.terms.Term.{Term}
-use Rattle.ae_calc.specs.Lent.{values, IsRisingList}
+use Rattle.ae_calc.specs.Inner.LentTerms.{values, IsRisingList}
 
 abbrev SameSums : List Term → List Term → Type 0
 SameSums xs ys = (f : Term → ℕ) → sum_by f xs ≡ sum_by f ys

@@ -20,7 +20,7 @@ use Rattle.ae_core.specs.declared.problems.Problem.{Problem}
 use Rattle.ae_core.specs.declared.proofs.EqLine.{EqLine}
 use Rattle.ae_core.specs.declared.proofs.ClauseLine.{ClauseLine}
 use Rattle.ae_core.specs.declared.proofs.ClauseLine.TheVariants.{Hyp, Goal, Def, Inst, Fresh as FreshLine, Exh, Tri, Block, Rup}
-use Rattle.ae_calc.specs.Mentions.{is_put, mentions, formula_mentions, clause_mentions, derived_mentions, own_mentions, line_mentions, no_mention}
+use Rattle.ae_calc.specs.Inner.Mentions.{is_put, mentions, formula_mentions, clause_mentions, derived_mentions, own_mentions, line_mentions, no_mention}
 use Rattle.ae_calc.proofs.Mentioning.{any_flat}
 
 -- ---- what a line mentions, and its constants

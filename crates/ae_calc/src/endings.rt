@@ -4,7 +4,7 @@ ghost use Rattle.ae_num.specs.Forms.{first_wide, IfWide};
 ghost use Rattle.ae_rules.specs.Lines.{states, Stated, Equated};
 ghost use Rattle.ae_rules.specs.Derivations.{EndsNeq, EndsClash, EndsPred, IsConstructor, Ends};
 ghost use Rattle.ae_numeric.specs.Stated.{ending_steps};
-ghost use Rattle.ae_calc.specs.Endings.{AreDifferentConstructors, AppliesBoth};
+ghost use Rattle.ae_calc.specs.Inner.EndingParts.{AreDifferentConstructors, AppliesBoth};
 ghost use Rattle.ae_core.specs.declared.terms.Term.{Apply};
 ghost use Rattle.ae_core.specs.declared.terms.Head.{Head as HeadOf};
 

@@ -1,7 +1,7 @@
 //! The rules of derived lines that compare terms: equality, hypotheses, arguments and the fields of records.
 ghost use Rattle.std.specs.Prelude.{◌≡◌, ◌↔◌, ◌⊎◌, ◌∷◌, [], true, false, IfOk, IsTrue, Some, slice_get};
 ghost use Rattle.ae_rules.specs.Lines.{states, Stated, AllowedTrans, AllowedCong, AllowedField, AllowedFields, Equated, Given, equal, fact_ok, fields_from};
-ghost use Rattle.ae_calc.specs.Records.{count_of, IsWritten, AreRecordsEquated};
+ghost use Rattle.ae_calc.specs.Inner.RecordFields.{count_of, IsWritten, AreRecordsEquated};
 ghost use Rattle.ae_core.specs.declared.formulas.Formula.{Eq, Lt, Le};
 ghost use Rattle.ae_core.specs.declared.terms.Term.{Apply};
 ghost use Rattle.ae_core.specs.declared.terms.Head.TheVariants as head;

@@ -2,7 +2,7 @@
 ghost use Rattle.std.specs.Prelude.{◌≡◌, ◌↔◌, ◌++◌, IfOk, OnOk, IsTrue, map};
 ghost use Rattle.std.specs.List.Sorted.{IsPermutation};
 ghost use Rattle.ae_rules.specs.Lines.{AllowedAc, IsAc, flat};
-ghost use Rattle.ae_calc.specs.Lent.{values, IsRisingList};
+ghost use Rattle.ae_calc.specs.Inner.LentTerms.{values, IsRisingList};
 
 use ae_core::orders::compare_terms;
 use ae_core::problems::{Nature, Signature};

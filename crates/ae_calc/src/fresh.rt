@@ -1,7 +1,7 @@
 //! Whether the constants that a line puts are new: they stand in no earlier line, and not in the line's formula.
 ghost use Rattle.std.specs.Prelude.{◌≡◌, ◌↔◌, IfOk, IsTrue};
 ghost use Rattle.std.specs.List.{list_any};
-ghost use Rattle.ae_calc.specs.Mentions as spec;
+ghost use Rattle.ae_calc.specs.Inner.Mentions as spec;
 ghost use Rattle.ae_rules.specs.Derivations.{AreNew};
 ghost use Rattle.ae_rules.specs.Instances as instances;
 ghost use Rattle.ae_core.specs.declared.formulas.Formula.{out-Formula};

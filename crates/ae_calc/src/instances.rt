@@ -3,12 +3,9 @@ ghost use Rattle.std.specs.Prelude.{◌≡◌, ◌∷◌, [], IfOk, ◌+◌, ◌
 ghost use Rattle.ae_core.specs.Options.{when};
 ghost use Rattle.ae_rules.specs.Clauses.{literal};
 ghost use Rattle.ae_core.specs.Putting.{put_formula};
-ghost use Rattle.ae_rules.specs.Derivations.{conclusion};
 ghost use Rattle.ae_rules.specs.Instances as spec;
 ghost use Rattle.ae_core.specs.declared.formulas.Formula.{out-Formula};
-ghost use Rattle.ae_core.specs.declared.proofs.ClauseLine.TheVariants.{Hyp};
 
-use crate::literals::literal;
 use crate::rows::with_part;
 use ae_core::copies::copy_sort;
 use ae_core::formulas::{Clause, Formula, Quant};
@@ -53,26 +50,6 @@ pub fn hypothesis(
             Item::Axiom { vars, body, .. } => axiom_with(alloc, *vars, body, sorts),
             Item::Goal { .. } => Ok(None),
         },
-    }
-}
-
-/// The clause of a hypothesis.
-pub fn hypothesis_clause(
-    alloc: Global,
-    problem: &Problem,
-    goal: usize,
-    place: usize,
-    sorts: &[Sort],
-) -> Result<Option<Clause>, AllocError>
-    ensures { IfOk result (λ c. c ≡ conclusion problem.now goal (Hyp place sorts.now)) }
-{
-    match hypothesis(alloc, problem, goal, place, sorts)? {
-        None => Ok(None),
-        Some(formula) => {
-            let mut clause = List::new(alloc);
-            clause.push(literal(alloc, true, &formula)?)?;
-            Ok(Some(clause))
-        }
     }
 }
 
@@ -146,7 +123,7 @@ pub fn are_numbered(first: usize, sorts: &[Sort]) -> bool
 }
 
 /// Fresh constants of these sorts, numbered from the first one.
-#[tactic(auto, using(crate::proofs::Counting::count_more))]
+#[tactic(auto, using(crate::proofs::FreshTerms::count_more))]
 pub fn count_from(alloc: Global, first: usize, sorts: &[Sort]) -> Result<List<Term>, AllocError>
     requires { first + length sorts.now ≤ 2 ^ 64 }
     ensures { IfOk result (λ ts. ts ≡ spec.count_from first sorts.now) }

@@ -190,27 +190,37 @@ of_one_sort sig f g =
     same_numeric (sort_of sig f.left) (sort_of sig f.right) && same_numeric (sort_of sig f.left) (sort_of sig g.left)
     && same_numeric (sort_of sig f.left) (sort_of sig g.right)
 
--- steps, where there is what they ask for
-abbrev pub steps_where : {A : Type 0} → Option A → (A → Bool) → (A → List Step) → List Step
-steps_where (Some x) test steps = cond (test x) (steps x) []
-steps_where None test steps = []
+-- what is stated of a thing, where it is there
+abbrev pub steps_of : {A : Type 0} → Option A → (A → List Step) → List Step
+steps_of o steps = or_else (o >>= λ x. Some (steps x)) []
+
+-- the facts of the parts, where each is of the kind and all terms, those of the line too, are of one numeric sort
+abbrev pub fitting : Signature → List EqLine → (Fact → Bool) → Fact → List Scaled → Option (List (ℤ × Fact))
+fitting sig earlier kind fact ps =
+    facts_at earlier ps >>= λ fs. when (list_all (λ f. kind f.1) fs && of_one_sort sig fact fact && list_all (λ f. of_one_sort sig fact f.1) fs) fs
+
+-- the fact of an earlier line, where it is of the kind and its terms and those of another fact are of one numeric sort
+abbrev pub fitting_fact : Signature → List EqLine → (Fact → Bool) → Fact → ℕ → Option Fact
+fitting_fact sig earlier kind fact k = fact_at earlier k >>= λ f. when (kind f && of_one_sort sig fact f) f
+
+-- the fact of a line, where it is of the kind and its terms are of one numeric sort
+abbrev pub numeric_fact : Signature → List EqLine → (Fact → Bool) → ℕ → Option Fact
+numeric_fact sig lines kind k = fact_at lines k >>= λ f. when (kind f && of_one_sort sig f f) f
 
 abbrev pub sum_line_steps : Signature → List EqLine → (Fact → Bool) → (Fact → Computation) → ℤ → Fact → List Scaled → List Step
-sum_line_steps sig earlier fits gap d fact ps =
-    steps_where (facts_at earlier ps) (λ fs. list_all (λ f. fits f.1) fs && of_one_sort sig fact fact && list_all (λ f. of_one_sort sig fact f.1) fs) (sum_steps gap d fact)
+sum_line_steps sig earlier kind gap d fact ps = steps_of (fitting sig earlier kind fact ps) (sum_steps gap d fact)
 
 -- what a derived line states after the earlier ones: nothing but where its numbers are those of lines of the kind that it needs, and its terms are of one numeric sort
 abbrev pub line_steps : Signature → List EqLine → EqLine → List Step
 line_steps sig earlier (EqLin s t d ps) = sum_line_steps sig earlier is_equation forward d (equal s t) ps
 line_steps sig earlier (LeSum s t d ps) = sum_line_steps sig earlier (λ f. true) backward d (at_most s t) ps
 line_steps sig earlier (LtSum s t d ps) = sum_line_steps sig earlier (λ f. true) backward d (below s t) ps
-line_steps sig earlier (LeRound s t k) =
-    steps_where (fact_at earlier k) (λ f. is_inequality f && of_one_sort sig (at_most s t) f) (λ f. round_steps f (at_most s t))
+line_steps sig earlier (LeRound s t k) = steps_of (fitting_fact sig earlier is_inequality (at_most s t) k) (λ f. round_steps f (at_most s t))
 line_steps sig earlier _ = []
 
 -- what an ending states: the difference that it speaks of
 abbrev pub ending_steps : Signature → List EqLine → Ending → List Step
-ending_steps sig lines (ending.Const k) = steps_where (fact_at lines k) (λ f. is_equation f && of_one_sort sig f f) (λ f. (forward f []).steps)
-ending_steps sig lines (ending.Zero k) = steps_where (fact_at lines k) (λ f. is_inequality f && of_one_sort sig f f) (λ f. (backward f []).steps)
-ending_steps sig lines (ending.Gcd k) = steps_where (fact_at lines k) (λ f. is_equation f && of_one_sort sig f f) (λ f. (forward f []).steps)
+ending_steps sig lines (ending.Const k) = steps_of (numeric_fact sig lines is_equation k) (λ f. (forward f []).steps)
+ending_steps sig lines (ending.Zero k) = steps_of (numeric_fact sig lines is_inequality k) (λ f. (backward f []).steps)
+ending_steps sig lines (ending.Gcd k) = steps_of (numeric_fact sig lines is_equation k) (λ f. (forward f []).steps)
 ending_steps sig lines _ = []

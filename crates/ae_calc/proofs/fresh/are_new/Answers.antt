@@ -3,7 +3,7 @@ use Rattle.ae_num.proofs.StepLaws.{if_ok}
 use Rattle.ae_rules.specs.Derivations.{AreNew}
 use Rattle.ae_rules.specs.Instances.{block_sorts}
 use Rattle.ae_core.specs.declared.formulas.Formula.{out-Formula}
-use Rattle.ae_calc.specs.Mentions.{no_mention}
+use Rattle.ae_calc.specs.Inner.Mentions.{no_mention}
 use Rattle.ae_calc.proofs.Novelty.{new_where}
 use Rattle.ae_calc.proofs.fresh.are_new.Goals as goal
 

@@ -1,7 +1,7 @@
 -- What the lines of a block state, one line after another.
 use Rattle.std.specs.Prelude.{ℕ, suc, ℤ, ◌+◌, ◌<◌, ◌≤◌, Bool, true, false, cond, ◌&&◌, List, [], ◌∷◌, ◌++◌, ◌≡◌, length, take, drop, get_or, Option, Some, None, Result, Ok, Err, IfOk, OnOk, IfErr, IsTrue, ◌↔◌}
 use Rattle.std.specs.List.{list_all}
-use Rattle.std.proofs.Common.{inl, inr, drop-cons}
+use Rattle.std.proofs.Common.{inl, inr, ⊎_elim, drop-cons}
 use Rattle.std.proofs.lemmas.List.{take_more, take_all, drop_all}
 use mathlib.Core.Path.{refl, sym, ap, ◌∙◌, subst}
 use native.Mathlib.Omega.{arith}
@@ -18,8 +18,8 @@ use Rattle.ae_core.specs.declared.proofs.EqLine.{EqLine}
 use Rattle.ae_core.specs.declared.proofs.EqLine.TheVariants.{EqHyp, EqRefl, EqSym, EqTrans, EqCong, EqAc, EqLin, EqField, EqFields, LeHyp, LtHyp, LeSum, LtSum, LeRound}
 use Rattle.ae_core.specs.declared.proofs.Ending.{Ending}
 use Rattle.ae_core.specs.declared.proofs.Scaled.{Scaled}
-use Rattle.ae_numeric.specs.Stated.{line_steps, ending_steps, facts_at, fact_at, steps_where, of_one_sort, is_equation, is_inequality, Computation, sum_steps, sum_line_steps, round_steps, forward, backward}
-use Rattle.ae_calc.specs.Widths.{IsLineAllowed, AreWithin, AreFirstWide}
+use Rattle.ae_numeric.specs.Stated.{line_steps, ending_steps, facts_at, fact_at, steps_of, of_one_sort, is_equation, is_inequality, Computation, sum_steps, sum_line_steps, round_steps, forward, backward}
+use Rattle.ae_calc.specs.Reached.{Fit, IsLineAllowed, BlockReaches}
 
 -- ---- a line whose terms aren't of one sort states nothing
 first_false : (a b : Bool) → a ≡ false → a && b ≡ false
@@ -34,8 +34,8 @@ unknown (Some s) (Some t) e = first_false (same_known (Some s) (Some t)) _ e
 unknown (Some s) None e = refl
 unknown None b e = refl
 
-no_steps : {A : Type 0} (o : Option A) (test : A → Bool) (steps : A → List Step) → ((x : A) → test x ≡ false) → steps_where o test steps ≡ []
-no_steps (Some x) test steps n = ap (λ h. cond h (steps x) []) (n x)
+no_steps : {A : Type 0} (o : Option A) (test : A → Bool) (steps : A → List Step) → ((x : A) → test x ≡ false) → steps_of (o >>= λ x. when (test x) x) steps ≡ []
+no_steps (Some x) test steps n = ap (λ h. steps_of (when h x) steps) (n x)
 no_steps None test steps n = refl
 
 module _ (sig : Signature) where
@@ -88,30 +88,46 @@ one_more : (i : ℕ) → i + 1 ≡ suc i
 one_more i = omega arith
 
 module _ (sig : Signature) (hyps : List Lit) (e : Ending) (ls : List EqLine) (i : ℕ) where
-  abbrev Within : ℕ → Type 0
-  Within k = AreWithin sig hyps e (take k ls) (drop k ls)
+  abbrev Here : List Step → Type 0
+  Here = BlockReaches sig hyps e (take i ls) (drop i ls)
 
-  abbrev Wider : Wide → ℕ → Type 0
-  Wider w k = AreFirstWide sig hyps e (take k ls) (drop k ls) w
+  abbrev Next : List Step → Type 0
+  Next = BlockReaches sig hyps e (take (i + 1) ls) (drop (i + 1) ls)
 
   module _ (d : EqLine) (b : i < length ls) where
-    ahead : (P : List EqLine → List EqLine → Type 0) → P (take (i + 1) ls) (drop (i + 1) ls) → P (take i ls ++ get_or ls i d ∷ []) (drop (suc i) ls)
-    ahead P p = subst (λ z. P z (drop (suc i) ls)) (take_more ls i d b) (subst (λ k. P (take (i + 1) ls) (drop k ls)) (one_more i) p)
+    abbrev Split : List Step → Type 0
+    Split = BlockReaches sig hyps e (take i ls) (get_or ls i d ∷ drop (suc i) ls)
 
-    pub within_more : first_wide (line_steps sig (take i ls) (get_or ls i d)) ≡ None → (IsLineAllowed sig hyps (take i ls) (get_or ls i d) → Within (i + 1)) → Within i
-    within_more f n = subst (AreWithin sig hyps e (take i ls)) (sym (drop-cons ls i d b)) (f, λ a. ahead (AreWithin sig hyps e) (n a))
+    abbrev Rest : List Step → Type 0
+    Rest = BlockReaches sig hyps e (take i ls ++ get_or ls i d ∷ []) (drop (suc i) ls)
 
-    pub wide_more : (w : Wide) → first_wide (line_steps sig (take i ls) (get_or ls i d)) ≡ None → IsLineAllowed sig hyps (take i ls) (get_or ls i d) → Wider w (i + 1) → Wider w i
-    wide_more w f a n =
-        subst (λ z. AreFirstWide sig hyps e (take i ls) z w) (sym (drop-cons ls i d b)) (inr (f, a, ahead (λ x y. AreFirstWide sig hyps e x y w) n))
+    split : ◌≡◌ {A = List Step → Type 0} Split Here
+    split = ap (λ z. BlockReaches sig hyps e (take i ls) z) (sym (drop-cons ls i d b))
 
-    pub wide_here : (w : Wide) → first_wide (line_steps sig (take i ls) (get_or ls i d)) ≡ Some w → Wider w i
-    wide_here w f = subst (λ z. AreFirstWide sig hyps e (take i ls) z w) (sym (drop-cons ls i d b)) (inl f)
+    rest : ◌≡◌ {A = List Step → Type 0} Next Rest
+    rest = ap (λ k. BlockReaches sig hyps e (take (i + 1) ls) (drop k ls)) (one_more i) ∙ ap (λ z. BlockReaches sig hyps e z (drop (suc i) ls)) (take_more ls i d b)
 
-  pub within_end : length ls ≤ i → first_wide (ending_steps sig ls e) ≡ None → Within i
-  within_end b f =
-      subst (AreWithin sig hyps e (take i ls)) (sym (drop_all i ls b)) (subst (λ z. first_wide (ending_steps sig z e) ≡ None) (sym (take_all i ls b)) f)
+    fit_split : first_wide (line_steps sig (take i ls) (get_or ls i d)) ≡ None → (IsLineAllowed sig hyps (take i ls) (get_or ls i d) → Fit Rest) → Fit Split
+    fit_split f n = record { each = λ ss r. ⊎_elim (λ s. ap first_wide s ∙ f) (λ x. (n x.0).each ss x.2) r }
 
-  pub wide_end : (w : Wide) → length ls ≤ i → first_wide (ending_steps sig ls e) ≡ Some w → Wider w i
-  wide_end w b f =
-      subst (λ z. AreFirstWide sig hyps e (take i ls) z w) (sym (drop_all i ls b)) (subst (λ z. first_wide (ending_steps sig z e) ≡ Some w) (sym (take_all i ls b)) f)
+    -- the line states nothing that leaves the limits, nor do those after it where it is allowed
+    pub fit_more : first_wide (line_steps sig (take i ls) (get_or ls i d)) ≡ None → (IsLineAllowed sig hyps (take i ls) (get_or ls i d) → Fit Next) → Fit Here
+    fit_more f n = subst Fit split (fit_split f (λ a. subst Fit rest (n a)))
+
+    -- what is reached after a line that is allowed
+    pub reach_more : (ss : List Step) → first_wide (line_steps sig (take i ls) (get_or ls i d)) ≡ None → IsLineAllowed sig hyps (take i ls) (get_or ls i d) → Next ss → Here ss
+    reach_more ss f a r = subst (λ (R : List Step → Type 0). R ss) split (inr (a, f, subst (λ (R : List Step → Type 0). R ss) rest r))
+
+    -- the line itself
+    pub reach_here : Here (line_steps sig (take i ls) (get_or ls i d))
+    reach_here = subst (λ (R : List Step → Type 0). R (line_steps sig (take i ls) (get_or ls i d))) split (inl refl)
+
+  -- behind the last line
+  pub reach_end : length ls ≤ i → Here (ending_steps sig ls e)
+  reach_end b =
+      subst (λ z. BlockReaches sig hyps e (take i ls) z (ending_steps sig ls e)) (sym (drop_all i ls b)) (ap (λ z. ending_steps sig z e) (sym (take_all i ls b)))
+
+  pub fit_end : length ls ≤ i → first_wide (ending_steps sig ls e) ≡ None → Fit Here
+  fit_end b f =
+      subst (λ z. Fit (BlockReaches sig hyps e (take i ls) z)) (sym (drop_all i ls b))
+      (record { each = λ ss r. ap first_wide (r ∙ ap (λ z. ending_steps sig z e) (take_all i ls b)) ∙ f })
