@@ -115,7 +115,9 @@ class File:
                         if m and m['names'] is None and m['alias'] and m['path'] == module and m['lead'] == lead:
                             name = m['alias']
                     if name is None:
-                        name = alias + '_' + module.rpartition('.')[2].lower()
+                        name = module.rpartition('.')[2].lower()
+                        if re.search(r'(?<![\w.])' + name + r'\b', '\n'.join(out)):
+                            name = alias + '_' + name
                         for i, line in enumerate(out):
                             m = USE.match(line)
                             if m and m['alias'] == alias and m['lead'] == lead:

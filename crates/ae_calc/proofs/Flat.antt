@@ -5,7 +5,9 @@ use mathlib.Core.Path.{refl, sym, ap, ◌∙◌, subst}
 use mathlib.Core.List.{append_assoc}
 use native.Mathlib.Omega.{arith}
 use denote.Ref.{Bor}
-use Rattle.ae_core.specs.Decided.{Head_discrete, Sorts_discrete, pick, pick_yes, pick_no}
+use Rattle.ae_core.specs.Decided.{Head_discrete, Sorts_discrete}
+use Rattle.ae_base.specs.Decided.{pick}
+use Rattle.ae_base.proofs.Decided.{pick_yes, pick_no}
 use Rattle.ae_rules.specs.Lines.{flat, flat_step}
 use Rattle.ae_core.proofs.Recursion.{para_bound, para_num, para_fresh, para_apply}
 use Rattle.ae_core.specs.declared.terms.Sort.{Sort}

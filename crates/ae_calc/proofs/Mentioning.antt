@@ -6,7 +6,8 @@ use Rattle.std.proofs.lemmas.List.Folds.{list_any-append, flat_map-map}
 use Rattle.std.proofs.lemmas.List.{take_all, length-drop}
 use mathlib.Core.Path.{refl, sym, ap, ◌∙◌}
 use native.Mathlib.Omega.{arith}
-use Rattle.ae_core.specs.Decided.{decided, Sort_discrete, Term_discrete}
+use Rattle.ae_base.specs.Decided.{decided}
+use Rattle.ae_core.specs.Decided.{Sort_discrete, Term_discrete}
 use Rattle.ae_core.specs.Sorts.{same_sort}
 use Rattle.ae_core.specs.Options.{or_else, ◌>>=◌}
 use Rattle.ae_rules.specs.Instances.{count_from}

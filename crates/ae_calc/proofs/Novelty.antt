@@ -5,7 +5,8 @@ use Rattle.std.proofs.lemmas.List.Folds.{list_any-append}
 use Rattle.std.proofs.lemmas.Bool.{or_parts}
 use mathlib.Core.Path.{refl, sym, ap, ◌∙◌, subst}
 use native.Mathlib.Omega.{arith}
-use Rattle.ae_core.specs.Decided.{decided, Term_discrete}
+use Rattle.ae_base.specs.Decided.{decided}
+use Rattle.ae_core.specs.Decided.{Term_discrete}
 use Rattle.ae_core.specs.Options.{or_else}
 use Rattle.ae_rules.specs.Lines.{states}
 use Rattle.ae_rules.specs.Clauses.{Clause}

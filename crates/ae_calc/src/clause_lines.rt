@@ -293,7 +293,7 @@ pub fn stated_by(
 }
 
 /// The clauses of the hinted earlier lines in the order of the hints, where each hint has one.
-#[tactic(auto, using(ae_core::proofs::SortLaws::known_step, ae_core::proofs::SortLaws::known_stop))]
+#[tactic(auto, using(ae_base::proofs::Options::known_step, ae_base::proofs::Options::known_stop))]
 pub fn hinted(
     alloc: Global,
     problem: &Problem,

@@ -16,7 +16,7 @@ use ae_core::terms::{Head, Term};
 use ae_core::equality::{same_head, same_sorts};
 use ae_num::numbers::NumFail;
 use ae_numeric::combinations::{const_ends, zero_ends};
-use ae_numeric::facts::stated;
+use ae_rules::facts::stated;
 use ae_numeric::rounding::gcd_ends;
 use std::alloc::Global;
 

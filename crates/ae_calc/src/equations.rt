@@ -12,7 +12,7 @@ use ae_core::proofs::{EqLine, Relation};
 use ae_core::sorts::{same_known, same_numeric, sort_of};
 use ae_core::terms::{Head, Sort, Term};
 use ae_core::equality::{same_head, same_sorts, same_term};
-use ae_numeric::facts::stated;
+use ae_rules::facts::stated;
 use std::alloc::{AllocError, Global};
 
 /// Whether the two terms of a fact are closed and have one sort, which is numeric where they are compared.

@@ -12,7 +12,7 @@ use ae_core::formulas::Formula;
 use ae_core::problems::Problem;
 use ae_core::proofs::{ClauseLine, EqLine};
 use ae_core::terms::Sort;
-use ae_numeric::facts::stated;
+use ae_rules::facts::stated;
 use std::alloc::{AllocError, Global};
 
 /// Whether one of the constants stands in what one of the derived lines states.

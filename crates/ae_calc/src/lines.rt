@@ -15,7 +15,7 @@ use ae_core::proofs::{Block, Ending, EqLine};
 use ae_core::equality::same_term;
 use ae_num::numbers::NumFail;
 use ae_numeric::combinations::{le_sum_allowed, lin_allowed, lt_sum_allowed};
-use ae_numeric::facts::stated;
+use ae_rules::facts::stated;
 use ae_numeric::rounding::round_allowed;
 use std::alloc::Global;
 

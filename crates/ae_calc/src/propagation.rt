@@ -2,7 +2,8 @@
 ghost use Rattle.std.specs.Prelude.{◌≡◌, IfOk};
 ghost use Rattle.std.specs.List.{list_all};
 ghost use Rattle.ae_rules.specs.Clauses as spec;
-ghost use Rattle.ae_core.specs.Decided.{decided, Lit_discrete};
+ghost use Rattle.ae_base.specs.Decided.{decided};
+ghost use Rattle.ae_core.specs.Decided.{Lit_discrete};
 
 use crate::literals::opposite;
 use ae_core::copies::copy_clause;

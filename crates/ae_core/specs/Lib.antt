@@ -1,4 +1,3 @@
-pub mod Options
 pub mod Decided
 pub mod Induction
 pub mod Putting

@@ -1,8 +1,8 @@
 -- Sorts put for type variables, and closed terms put for the variables of a block.
 use Rattle.std.specs.Prelude.{ℕ, ◌+◌, ◌-◌, cond, nat_lt, List, map, length, reverse, slice_get}
-use Rattle.ae_core.specs.Options.{or_else}
-use Rattle.ae_core.specs.Putting.{put_sort}
-use Rattle.ae_core.specs.declared.terms.Sort.{Sort}
+use Rattle.ae_base.specs.Options.{or_else}
+use Rattle.ae_core.specs.declared.terms.Sort.{Sort, Sort-F, Var, Rigid, Int, Real, Bool as BoolSort, Unit as UnitSort, Named, fold-Sort}
+use Rattle.ae_core.specs.declared.terms.Sort.TheOpen as sort_layer
 use Rattle.ae_core.specs.declared.terms.Term.{Term, Term-F, Bound, Num, Fresh, Apply, fold-Term}
 use Rattle.ae_core.specs.declared.terms.Term.TheOpen as layer
 use Rattle.ae_core.specs.declared.formulas.Formula.{Formula, Formula-F, True, False, Eq, Lt, Le, Pred, Not, And, Or, Xor, Iff, All, Ex, fold-Formula}

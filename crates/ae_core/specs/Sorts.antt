@@ -1,7 +1,10 @@
 -- Well-sorted terms and formulas.
 use Rattle.std.specs.Prelude.{ℕ, ℤ, pos, Bool, true, false, cond, not, ◌&&◌, ◌||◌, nat_eq, nat_lt, ◌^◌, unsigned_abs, int_lt, List, [], ◌∷◌, ◌++◌, map, length, slice_get, reverse, Option, Some, None}
 use Rattle.std.specs.List.{list_all}
-use Rattle.ae_core.specs.Decided.{decided, Sort_discrete, Sorts_discrete}
+use Rattle.ae_base.specs.Options.{or_else, ◌>>=◌, only, when, all_known, known}
+use Rattle.ae_base.specs.Decided.{decided}
+use Rattle.ae_core.specs.Putting.{put_sort}
+use Rattle.ae_core.specs.Decided.{Sort_discrete, Sorts_discrete}
 use Rattle.ae_core.specs.declared.terms.Sort.{Sort, Sort-F, Var, Rigid, Int, Real, Bool as BoolSort, Unit as UnitSort, Named, fold-Sort}
 use Rattle.ae_core.specs.declared.terms.Sort.TheOpen as sort_layer
 use Rattle.ae_core.specs.declared.terms.Term.{Term, Term-F, fold-Term, out-Term}
@@ -104,10 +107,6 @@ sort_of sig = sort_in sig (is_closed_sort sig) []
 
 abbrev pub sorts_of : Signature → List Term → Option (List Sort)
 sorts_of sig ts = all_known (map (sort_of sig) ts)
-
-abbrev pub known : {A : Type 0} → Option A → Bool
-known (Some x) = true
-known None = false
 
 abbrev pub term_ok : Signature → Term → Bool
 term_ok sig t = known (sort_of sig t)

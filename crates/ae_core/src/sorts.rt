@@ -4,7 +4,7 @@ ghost use Rattle.std.specs.List.{list_all};
 ghost use Rattle.ae_core.specs.declared.terms.Sort.{Int, Real, Named};
 ghost use Rattle.ae_core.specs.Putting as putting;
 ghost use Rattle.ae_core.specs.Sorts as spec;
-ghost use Rattle.ae_core.specs.Options as spec_options;
+ghost use Rattle.ae_base.specs.Options as options;
 
 use crate::copies::{copy_sort, copy_sorts};
 use crate::formulas::{Formula, Quant};
@@ -387,14 +387,14 @@ pub fn sort_in(
 
 /// The sorts of terms, where each of them is well sorted.
 #[cycle(sort_in)]
-#[tactic(auto, using(crate::proofs::SortLaws::known_step, crate::proofs::SortLaws::known_stop))]
+#[tactic(auto, using(ae_base::proofs::Options::known_step, ae_base::proofs::Options::known_stop))]
 pub fn sorts_in(
     alloc: Global,
     signature: &Signature,
     terms: &[Term],
     env: &[Sort],
 ) -> Result<Option<List<Sort>>, AllocError>
-    ensures { IfOk result (λ s. s ≡ spec_options.all_known (map (spec.sort_in signature.now (spec.is_closed_sort signature.now) env.now) terms.now)) }
+    ensures { IfOk result (λ s. s ≡ options.all_known (map (spec.sort_in signature.now (spec.is_closed_sort signature.now) env.now) terms.now)) }
 {
     let mut found = List::new(alloc);
     for term in terms {

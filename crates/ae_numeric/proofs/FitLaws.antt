@@ -4,15 +4,17 @@ use Rattle.std.specs.List.{list_all, AllByRecursion}
 use Rattle.std.proofs.Common.{refl, sym, ap, ◌∙◌, subst, true≢false, inl, inr}
 use Rattle.std.proofs.lemmas.Bool.{and_parts}
 use Rattle.std.proofs.lemmas.Option.{same_Some}
-use Rattle.ae_math.specs.Fractions.{ℚ, one_ℚ, neg_ℚ, ◌+ℚ◌, ◌*ℚ◌}
+use Rattle.ae_math.specs.Fractions.{ℚ, one_ℚ, neg_ℚ, ◌+ℚ◌, ◌*ℚ◌, whole}
 use Rattle.ae_math.specs.Forms.{plus, minus, scale}
 use Rattle.ae_math.proofs.FractionLaws.{field, mul_comm_q, mul_zero_q}
 use Rattle.ae_math.proofs.FormLaws.{factor_in-append, factor_in-scale, plus-same, scale-same, scale_plus, scale_scale, scale_one, same_sym, same_trans}
-use Rattle.ae_core.specs.Decided.{decided, Sort_discrete, Term_discrete}
+use Rattle.ae_base.specs.Decided.{decided}
+use Rattle.ae_core.specs.Decided.{Sort_discrete, Term_discrete}
 use Rattle.ae_rules.specs.Linear.{Linear, IsSame, form, factor_of}
-use Rattle.ae_core.specs.Sorts.{sort_of, same_numeric, is_numeric, known}
+use Rattle.ae_core.specs.Sorts.{sort_of, same_numeric, is_numeric}
+use Rattle.ae_base.specs.Options.{known}
 use Rattle.ae_core.specs.Options.{◌>>=◌}
-use Rattle.ae_rules.specs.Lines.{Fact, states, whole, gap, total, Combined, IsNumeric, HaveSort}
+use Rattle.ae_rules.specs.Lines.{Fact, states, gap, total, Combined, IsNumeric, HaveSort}
 use Rattle.ae_core.specs.declared.terms.Sort.{Sort, Int, Real}
 use Rattle.ae_core.specs.declared.terms.Term.{Term}
 use Rattle.ae_core.specs.declared.problems.Signature.{Signature}

@@ -7,7 +7,7 @@ use Rattle.std.specs.Ordering.{is_eq}
 use Rattle.std.proofs.Common.{arith, refl, sym, ap, ◌∙◌, subst}
 use Rattle.std.proofs.lemmas.Option.{same_Some, get_or_from_slice_get, slice_get-get_or}
 use Rattle.std.proofs.lemmas.List.Quantifiers.{all_pairs_push}
-use Rattle.ae_math.specs.Choices.{pick}
+use Rattle.ae_base.specs.Decided.{pick}
 use Rattle.ae_core.specs.Decided.{Term_discrete}
 use Rattle.ae_core.specs.Orders.{term_order}
 use Rattle.ae_core.proofs.OrderLaws.{term_exact}

@@ -6,8 +6,10 @@ use Rattle.std.proofs.lemmas.List.{map-append}
 use native.Mathlib.Decide.{ℕ_discrete}
 use lib.IntN.{ℤ_discrete}
 use borrow.Author.Differences.{ints}
-use Rattle.ae_math.specs.Choices.{pick, pick_yes, pick_no}
-use Rattle.ae_math.specs.Fractions.{ℚ, zero_ℚ, one_ℚ, neg_ℚ, ◌+ℚ◌, ◌*ℚ◌, frac, ratio, ℚ_discrete, cancel}
+use Rattle.ae_base.specs.Decided.{pick}
+use Rattle.ae_base.proofs.Decided.{pick_yes, pick_no}
+use Rattle.ae_math.specs.Fractions.{ℚ, zero_ℚ, one_ℚ, neg_ℚ, ◌+ℚ◌, ◌*ℚ◌, frac, ratio, ℚ_discrete}
+use Rattle.ae_math.specs.Inner.Respected.{cancel}
 use Rattle.ae_math.specs.Forms.{Form, number, single, plus, scale, minus, is_zero, factor_in, factor, sum_of, value, SameForm}
 use Rattle.ae_math.proofs.FractionLaws.{one_mul_q', mul_zero_q, zero_mul_q, add_zero_q, zero_add_q, same_frac, neg_unique_q}
 use Rattle.ae_math.proofs.FormLaws.{value-same, same_refl, same_trans, plus-same, scale-same}

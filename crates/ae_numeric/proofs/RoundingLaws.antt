@@ -9,9 +9,11 @@ use native.Mathlib.Nat.{dvd-zero, zero-dvd, dvd-one, dvd-mul_left}
 use borrow.Author.Differences.{ints}
 use lib.IntN.{one, *ℤ-one, *ℤ-zero, zero-*ℤ, *ℤ_comm}
 use std.Quotient.{/_rec}
-use Rattle.ae_math.specs.Choices.{pick, pick_yes, pick_no}
-use Rattle.ae_math.specs.Integers.{ring}
-use Rattle.ae_math.specs.Fractions.{ℚ, zero_ℚ, one_ℚ, neg_ℚ, ◌+ℚ◌, ◌*ℚ◌, frac, ratio, cancel}
+use Rattle.ae_base.specs.Decided.{pick}
+use Rattle.ae_base.proofs.Decided.{pick_yes, pick_no}
+use Rattle.ae_math.specs.Inner.Integers.{ring}
+use Rattle.ae_math.specs.Fractions.{ℚ, zero_ℚ, one_ℚ, neg_ℚ, ◌+ℚ◌, ◌*ℚ◌, frac, ratio, whole}
+use Rattle.ae_math.specs.Inner.Respected.{cancel}
 use Rattle.ae_math.specs.Forms.{factor_in, minus}
 use Rattle.ae_math.proofs.FractionLaws.{field, same_frac, frac_plus, frac_times, zero_frac, add_assoc_q, add_zero_q, neg_zero_q}
 use Rattle.ae_math.proofs.FormLaws.{factor_in-append, factor_in-scale}
@@ -25,7 +27,7 @@ use Rattle.ae_num.proofs.UniqueLaws.{all_divide, same_parts}
 use Rattle.ae_num.proofs.MeaningLaws.{ratio_zero, ratio_times, product_positive}
 use Rattle.ae_core.specs.Decided.{Term_discrete}
 use Rattle.ae_rules.specs.Linear.{Linear, factor_of as term_factor}
-use Rattle.ae_rules.specs.Lines.{whole, slack, AreMultiples, IsFloor}
+use Rattle.ae_rules.specs.Lines.{slack, AreMultiples, IsFloor}
 use Rattle.ae_core.specs.declared.terms.Term.{Term, Bound}
 use Rattle.ae_core.specs.declared.proofs.Relation.{Relation}
 use Rattle.ae_core.specs.declared.proofs.Relation.TheVariants.{Equal, AtMost, Below}

@@ -3,8 +3,10 @@ use Rattle.std.specs.Prelude.{ℕ, ◌≡◌, ◌≢◌, ◌⊎◌, Bool, true, 
 use Rattle.std.proofs.Common.{refl, sym, ap, ◌∙◌, subst, inl, inr}
 use Rattle.std.proofs.lemmas.Option.{slice_get_read}
 use Rattle.ae_num.specs.Forms.{Step}
-use Rattle.ae_core.specs.Decided.{decided, Sort_discrete}
-use Rattle.ae_core.specs.Sorts.{sort_of, same_sort, same_numeric, known}
+use Rattle.ae_base.specs.Decided.{decided}
+use Rattle.ae_core.specs.Decided.{Sort_discrete}
+use Rattle.ae_core.specs.Sorts.{sort_of, same_sort, same_numeric}
+use Rattle.ae_base.specs.Options.{known}
 use Rattle.ae_core.specs.Options.{only, ◌>>=◌}
 use Rattle.ae_rules.proofs.Congruence.{same_numeric_is}
 use Rattle.ae_rules.specs.Lines.{Fact, equal, at_most, states, HaveSort, Rounds, AllowedRound, gap}

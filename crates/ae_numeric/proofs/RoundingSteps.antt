@@ -10,7 +10,7 @@ use Rattle.ae_num.specs.declared.numbers.NumFail.{NumFail}
 use Rattle.ae_num.specs.Forms.{meaning, SameMeaning, IsNormal, first_wide, IfWide, plus_steps, sum_of}
 use Rattle.ae_num.proofs.StepLaws.{first_wide-some}
 use Rattle.ae_rules.specs.Linear.{Linear}
-use Rattle.ae_rules.specs.Lines.{whole}
+use Rattle.ae_math.specs.Fractions.{whole}
 use Rattle.ae_core.specs.declared.terms.Term.{Term}
 use Rattle.ae_core.specs.declared.proofs.Relation.{Relation}
 use Rattle.ae_core.specs.declared.proofs.Relation.TheVariants.{Equal, AtMost, Below}

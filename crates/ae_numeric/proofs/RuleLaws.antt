@@ -4,10 +4,10 @@ use Rattle.std.specs.List.{AllByRecursion, list_all}
 use Rattle.std.specs.Ordering.{int_eq}
 use Rattle.std.proofs.Common.{arith, refl, sym, ap, ◌∙◌, subst}
 use Rattle.std.proofs.lemmas.Bool.Decides.{nat_tests, Decides-int_eq, Decides-ltb}
-use Rattle.ae_math.specs.Integers.{ring}
+use Rattle.ae_math.specs.Inner.Integers.{ring}
 use borrow.Author.Differences.{ints}
 use lib.IntN.{*ℤ_comm}
-use Rattle.ae_math.specs.Choices.{pick_no}
+use Rattle.ae_base.proofs.Decided.{pick_no}
 use Rattle.ae_math.specs.Fractions.{ℚ, zero_ℚ, one_ℚ, neg_ℚ, ratio, inverse_ℚ, ℚ_discrete}
 use Rattle.ae_math.proofs.FractionLaws.{cancel_q, times_inverse, frac_same}
 use Rattle.ae_num.proofs.MeaningLaws.{ratio_times, ratio_zero, product_positive}
@@ -19,7 +19,8 @@ use Rattle.ae_numeric.proofs.NamedLaws.{minus_ratio, one_ratio, ratio_none, is_z
 use Rattle.ae_math.specs.Forms.{single, scale, is_zero}
 use Rattle.ae_rules.specs.Linear as linear
 use Rattle.ae_rules.specs.Linear.{Linear, form, times, over}
-use Rattle.ae_core.specs.Sorts.{sort_of, is_closed_sort, known, head_sort, numeral_ok, within}
+use Rattle.ae_core.specs.Sorts.{sort_of, is_closed_sort, head_sort, numeral_ok, within}
+use Rattle.ae_base.specs.Options.{known}
 use Rattle.ae_core.specs.Options.{only, when, all_known, ◌>>=◌}
 use Rattle.ae_core.proofs.SortLaws.{sort_in_num, sort_in_apply}
 use Rattle.ae_rules.proofs.LinearLaws.{form-Apply}

@@ -3,7 +3,7 @@ use Rattle.std.specs.Prelude.{ℕ, suc, ◌<◌, ◌≡◌, List, [], ◌∷◌,
 use Rattle.std.specs.Option.{option_map}
 use Rattle.std.specs.Cmp.{IsTotalOrder}
 use Rattle.std.proofs.lemmas.Cmp.{on_total}
-use Rattle.ae_math.specs.Choices.{pick}
+use Rattle.ae_base.specs.Decided.{pick}
 use Rattle.ae_core.specs.Decided.{Term_discrete}
 use Rattle.ae_core.specs.Orders.{term_order, term_tree}
 use Rattle.ae_core.specs.TreeOrder.{tree_total}

@@ -1,13 +1,13 @@
 -- The rounding of an inequality of integers, and an equation of integers without a solution: of linear forms, and of their normal forms.
 use Rattle.std.specs.Prelude.{ℕ, ℤ, pos, neg_ℤ, ◌*ℤ◌, ◌≡◌, ◌≢◌, List, [], map, unsigned_abs}
 use Rattle.std.specs.Int.{◌∣◌}
-use Rattle.ae_math.specs.Fractions.{zero_ℚ, ◌*ℚ◌}
+use Rattle.ae_math.specs.Fractions.{zero_ℚ, ◌*ℚ◌, whole}
 use Rattle.ae_math.specs.Forms.{plus, number}
 use Rattle.ae_num.specs.Forms.{IsCommonDivisor}
 use Rattle.ae_num.specs.declared.forms.Part.{Part}
 use Rattle.ae_num.specs.declared.forms.Lin.{Lin}
 use Rattle.ae_rules.specs.Linear.{Linear, factor_of}
-use Rattle.ae_rules.specs.Lines.{whole, slack, AreMultiples, IsFloor}
+use Rattle.ae_rules.specs.Lines.{slack, AreMultiples, IsFloor}
 use Rattle.ae_core.specs.declared.terms.Term.{Term}
 use Rattle.ae_core.specs.declared.proofs.Relation.{Relation}
 use Rattle.ae_core.specs.declared.proofs.Relation.TheVariants.{Below}

@@ -3,7 +3,7 @@
 use Rattle.std.specs.Prelude.{ℕ, zero, suc, ℤ, pos, neg_ℤ, Bool, true, false, cond, ◌&&◌, int_lt, unsigned_abs, List, [], ◌∷◌, ◌++◌, map, slice_get, Option, Some, None}
 use Rattle.std.specs.List.{list_all}
 use Rattle.std.specs.Ordering.{int_eq}
-use Rattle.ae_math.specs.Choices.{pick}
+use Rattle.ae_base.specs.Decided.{pick}
 use Rattle.ae_num.specs.Forms.{Step, plus_steps, scale_steps, sum_of, multiple_of, lowest}
 use Rattle.ae_num.specs.declared.forms.Lin.{Lin}
 use Rattle.ae_core.specs.Decided.{Term_discrete}

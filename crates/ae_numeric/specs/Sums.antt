@@ -1,12 +1,12 @@
 -- Sums of earlier lines: which lines may stand in one, what is computed of each, and what it means.
 use Rattle.std.specs.Prelude.{ℕ, ℤ, pos, Bool, true, false, ◌&&◌, ◌||◌, int_lt, List, [], ◌∷◌, ◌≡◌, ◌<◌, length, slice_get, Option, Some, None}
 use Rattle.std.specs.List.{list_all, AllByRecursion}
-use Rattle.ae_math.specs.Fractions.{zero_ℚ}
+use Rattle.ae_math.specs.Fractions.{zero_ℚ, whole}
 use Rattle.ae_math.specs.Forms.{plus, minus, scale, number}
 use Rattle.ae_num.specs.declared.forms.Lin.{Lin}
 use Rattle.ae_rules.specs.Linear.{Linear, form}
 use Rattle.ae_core.specs.Sorts.{sort_of, same_numeric}
-use Rattle.ae_rules.specs.Lines.{Fact, states, whole, Combined, SumsTo}
+use Rattle.ae_rules.specs.Lines.{Fact, states, Combined, SumsTo}
 use Rattle.ae_core.specs.declared.terms.Sort.{Sort}
 use Rattle.ae_core.specs.declared.terms.Term.{Term}
 use Rattle.ae_core.specs.declared.problems.Signature.{Signature}

@@ -2,9 +2,8 @@
 use Rattle.std.specs.Prelude.{ℕ, zero, suc, Bool, true, false, not, List, [], ◌∷◌, ◌≡◌, map, slice_get, Option, Some, None}
 use Rattle.std.specs.List.{list_all}
 use Rattle.std.proofs.Common.{refl, sym, ap, ◌∙◌, true≢false, ⊎_elim}
-use Rattle.std.proofs.lemmas.Bool.{and_parts}
-use Rattle.std.proofs.lemmas.Option.{same_Some}
-use Rattle.ae_core.specs.Sorts.{sort_of, same_numeric}
+use Rattle.std.proofs.lemmas.Bool.{not-true}
+use Rattle.std.proofs.lemmas.Option.{none-some}
 use Rattle.ae_rules.specs.Lines.{Fact, equal, fact_ok, Among, Stated, Equated, AllAllowed, Follows}
 use Rattle.ae_rules.specs.Clauses.{opposite}
 use Rattle.ae_rules.specs.Derivations.{Ends, IsContradictory}
@@ -18,51 +17,29 @@ use Rattle.ae_core.specs.declared.proofs.Ending.{Ending}
 use Rattle.ae_core.specs.declared.proofs.Ending.TheVariants as ending
 use Rattle.ae_core.specs.declared.proofs.Block.{Block as BlockOf}
 use Rattle.ae_rules.proofs.Bridge.{all_follow}
-use Rattle.ae_rules.proofs.Congruence.{same_numeric_is}
+use Rattle.ae_core.proofs.SortFacts.{numeric_turned}
 use Rattle.ae_rules.proofs.Respects.{follows_ok, respects}
 use Rattle.ae_rules.proofs.Propagation.{opposites_deny}
-
-nothing : (f : Fact) → ◌≡◌ {A = Option Fact} None (Some f) → ⊥
-nothing f e = cc
-
-none_some : {A : Type 0} (x : A) → ◌≡◌ {A = Option A} None (Some x) → ⊥
-none_some x e = cc
-
-all_at : {X : Type 0} (p : X → Bool) (xs : List X) (k : ℕ) (x : X) → list_all p xs ≡ true → slice_get xs k ≡ Some x → p x ≡ true
-all_at p [] k x a e = absurd (none_some x e)
-all_at p (y ∷ ys) zero x a e = ap p (sym (same_Some y x e)) ∙ (and_parts (p y) (list_all p ys) a).0
-all_at p (y ∷ ys) (suc k) x a e = all_at p ys k x (and_parts (p y) (list_all p ys) a).1 e
-
-not_false : (b : Bool) → not b ≡ true → b ≡ false
-not_false false e = refl
-not_false true e = sym e
-
-turned : (a b : Bool) → a ≡ not b → a ≡ false → b ≡ true
-turned a true e f = refl
-turned a false e f = absurd (true≢false (sym e ∙ f))
-
-pub numeric_turned : (sig : Signature) (s t : Term) → same_numeric (sort_of sig s) (sort_of sig t) ≡ true → same_numeric (sort_of sig t) (sort_of sig s) ≡ true
-numeric_turned sig s t o =
-    let e = same_numeric_is (sort_of sig s) (sort_of sig t) o in
-    (λ i. same_numeric (sym e i) (e i)) ∙ o
+use Rattle.ae_base.proofs.Tests.{turned, not_where}
+use Rattle.ae_base.proofs.ListFacts.{list_all_at}
 
 module _ {V : Type 0} (sig : Signature) (v : Formula → Bool) (ev : Term → V) (le lt : V → V → Bool) (model : IsModel sig v ev le lt) (hyps : List Lit) (all : list_all (literal_holds v) hyps ≡ true) where
   holds : (sign : Bool) (f : Formula) → Among hyps (record { positive = sign; formula = f }) → literal_holds v (record { positive = sign; formula = f }) ≡ true
-  holds sign f h = all_at (literal_holds v) hyps h.0 _ all h.1
+  holds sign f h = list_all_at (literal_holds v) hyps h.0 _ all h.1
 
   -- a model respects hypotheses that hold
   respects_hyps : Respects sig (fact_ok sig) (Among hyps) ev le lt
   respects_hyps =
       record {
         hyp = λ s t h o. model.equal_if s t o (holds true (Eq s t) h);
-        le_hyp = λ s t h o. ⊎_elim (λ a. sym (model.at_most_is s t o) ∙ holds true (Le s t) a) (λ a. turned _ _ (model.total s t o) (sym (model.below_is t s (numeric_turned sig s t o)) ∙ not_false _ (holds false (Lt t s) a))) h;
+        le_hyp = λ s t h o. ⊎_elim (λ a. sym (model.at_most_is s t o) ∙ holds true (Le s t) a) (λ a. turned _ _ (model.total s t o) (sym (model.below_is t s (numeric_turned sig s t o)) ∙ not-true _ (holds false (Lt t s) a))) h;
         lt_hyp = λ s t h o. ⊎_elim (λ a. sym (model.below_is s t o) ∙ holds true (Lt s t) a) (λ a. model.total t s (numeric_turned sig s t o) ∙ ap not (sym (model.at_most_is t s (numeric_turned sig s t o))) ∙ holds false (Le t s) a) h;
         rules = model.rules;
       }
 
   module _ (lines : List EqLine) (allowed : AllAllowed sig (fact_ok sig) hyps [] lines) where
     known : (k : ℕ) (f : Fact) → Stated lines k f → Follows sig (fact_ok sig) (Among hyps) f
-    known k f at = all_follow sig (fact_ok sig) hyps [] lines (λ j g e. absurd (nothing g e)) allowed k f at
+    known k f at = all_follow sig (fact_ok sig) hyps [] lines (λ j g e. absurd (none-some g e)) allowed k f at
 
     meant : (k : ℕ) (f : Fact) → Stated lines k f → Means ev le lt f
     meant k f at = respects sig (fact_ok sig) (Among hyps) ev le lt respects_hyps (known k f at)
@@ -77,21 +54,17 @@ module _ {V : Type 0} (sig : Signature) (v : Formula → Bool) (ev : Term → V)
 
     no_end : (e : Ending) → Ends sig hyps lines e → ⊥
     no_end (ending.Neq k i) (s, t, at, given) =
-        true≢false (sym (model.if_equal s t (follows_ok (known k (equal s t) at)) (meant k (equal s t) at)) ∙ not_false _ (holds false (Eq s t) (i, given)))
+        true≢false (sym (model.if_equal s t (follows_ok (known k (equal s t) at)) (meant k (equal s t) at)) ∙ not-true _ (holds false (Eq s t) (i, given)))
     no_end (ending.Const k) (s, t, at, o, c, n) = model.const s t o c n (meant k (equal s t) at)
     no_end (ending.Clash k) (h, i, at, x, y, n) =
         let f = equal (Apply h [] []) (Apply i [] []) in
         model.clash h i (follows_ok (known k f at)) x y n (meant k f at)
     no_end (ending.Pred i j ks) (p, ss, us, ws, a, b, e) =
-        true≢false (sym (holds true (Pred p ss us) (i, a)) ∙ model.pred p ss us ws (equated ks us ws e) ∙ not_false _ (holds false (Pred p ss ws) (j, b)))
+        true≢false (sym (holds true (Pred p ss us) (i, a)) ∙ model.pred p ss us ws (equated ks us ws e) ∙ not-true _ (holds false (Pred p ss ws) (j, b)))
     no_end (ending.Zero k) (f, at, o, c, n) = model.zero f o c n (meant k f at)
-    no_end (ending.Gcd k) (s, t, at, a, u, d, m, c, is, n) = model.gcd s t a u d m c is n (meant k (equal s t) at)
-
-not_all : (b : Bool) → (b ≡ true → ⊥) → not b ≡ true
-not_all true f = absurd (f refl)
-not_all false f = refl
+    no_end (ending.Gcd k) (s, t, at, a, n) = model.gcd s t a n (meant k (equal s t) at)
 
 -- the clause of an allowed block holds in each model
 pub block_holds : {V : Type 0} (sig : Signature) (v : Formula → Bool) (ev : Term → V) (le lt : V → V → Bool) → IsModel sig v ev le lt → (b : BlockOf) → IsContradictory sig b → clause_holds v (map opposite b.deriv.hyps) ≡ true
 block_holds sig v ev le lt model b k =
-    opposites_deny v b.deriv.hyps ∙ not_all (list_all (literal_holds v) b.deriv.hyps) (λ all. no_end sig v ev le lt model b.deriv.hyps all b.deriv.lines k.0 b.ending k.1)
+    opposites_deny v b.deriv.hyps ∙ not_where (list_all (literal_holds v) b.deriv.hyps) (λ all. no_end sig v ev le lt model b.deriv.hyps all b.deriv.lines k.0 b.ending k.1)

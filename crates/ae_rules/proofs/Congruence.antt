@@ -4,19 +4,23 @@ use Rattle.std.specs.List.{list_all}
 use mathlib.Core.Path.{refl, sym, ap, ◌∙◌}
 use Rattle.std.proofs.Common.{true≢false}
 use Rattle.std.proofs.lemmas.Bool.{and_parts}
-use Rattle.ae_core.specs.Decided.{decided, Sort_discrete}
+use Rattle.ae_core.specs.Decided.{Sort_discrete}
+use Rattle.ae_base.specs.Decided.{decided}
 use Rattle.ae_core.specs.declared.terms.Sort.{Sort}
 use Rattle.ae_core.specs.declared.terms.Head.{Head}
 use Rattle.ae_core.specs.declared.terms.Term.{Term, Apply}
 use Rattle.ae_core.specs.declared.formulas.Lit.{Lit}
 use Rattle.ae_core.specs.declared.problems.Signature.{Signature}
-use Rattle.ae_core.specs.Sorts.{sort_of, is_closed_sort, head_sort, known, same_known, same_numeric, is_numeric, term_ok}
-use Rattle.ae_core.specs.Options.{all_known, only, ◌>>=◌}
+use Rattle.ae_core.specs.Sorts.{sort_of, is_closed_sort, head_sort, same_known, same_numeric, is_numeric, term_ok}
+use Rattle.ae_base.specs.Options.{known, all_known, only, ◌>>=◌}
 use Rattle.ae_rules.specs.Linear.{is_plain}
 use Rattle.ae_rules.specs.Lines.{Fact, equal, fact_ok, plain_ok, Equations, Conseq, PlainConseq, Follows, by_hyp, by_refl, by_sym, by_trans, by_cong, by_ac, by_lin, by_field, by_le_hyp, by_lt_hyp, by_le_sum, by_lt_sum, by_fields, by_round, FollowAll, none, more, FollowEach, no_fact, a_fact}
-use Rattle.ae_rules.specs.Valuations.{Pairwise}
+use Rattle.ae_base.specs.Relations.{Pairwise}
 use Rattle.ae_core.proofs.SortLaws.{sort_in_apply}
+use Rattle.ae_core.proofs.SortFacts.{same_known_is, same_known_of}
 use Rattle.ae_rules.proofs.Respects.{follows_ok}
+use Rattle.ae_base.proofs.Tests.{three_parts}
+use Rattle.ae_base.proofs.Decided.{decided_yes, decided_of}
 
 -- ---- what follows with one choice of good facts follows with a wider one
 module _ (sig : Signature) (ok wider : Fact → Bool) (hyps : Lit → Type 0) (widen : (f : Fact) → ok f ≡ true → wider f ≡ true) where
@@ -45,38 +49,7 @@ module _ (sig : Signature) (ok wider : Fact → Bool) (hyps : Lit → Type 0) (w
     loosen_each no_fact = no_fact
     loosen_each (a_fact a b) = a_fact (loosen a) (loosen_each b)
 
--- ---- sorts of terms that are equal
-decided_yes : {P : Type 0} (d : Dec P) → decided d ≡ true → P
-decided_yes (yes p) e = p
-decided_yes (no n) e = absurd (true≢false (sym e))
-
-decided_of : {P : Type 0} (d : Dec P) → P → decided d ≡ true
-decided_of (yes p) q = refl
-decided_of (no n) q = absurd (n q)
-
-pub same_known_is : (a b : Option Sort) → same_known a b ≡ true → (known a ≡ true) × (a ≡ b)
-same_known_is (Some s) (Some t) e = (refl, ap Some (decided_yes (Sort_discrete s t) e))
-same_known_is (Some s) None e = absurd (true≢false (sym e))
-same_known_is None b e = absurd (true≢false (sym e))
-
-pub same_numeric_is : (a b : Option Sort) → same_numeric a b ≡ true → a ≡ b
-same_numeric_is (Some s) (Some t) e = ap Some (decided_yes (Sort_discrete s t) (and_parts (decided (Sort_discrete s t)) (is_numeric s) e).0)
-same_numeric_is (Some s) None e = absurd (true≢false (sym e))
-same_numeric_is None b e = absurd (true≢false (sym e))
-
-known_itself : (a : Option Sort) → known a ≡ true → same_known a a ≡ true
-known_itself (Some s) k = decided_of (Sort_discrete s s) refl
-known_itself None k = absurd (true≢false (sym k))
-
-pub same_known_of : (a b : Option Sort) → known a ≡ true → a ≡ b → same_known a b ≡ true
-same_known_of a b k e = ap (same_known a) (sym e) ∙ known_itself a k
-
-pub three : (a b c : Bool) → a && b && c ≡ true → (a ≡ true) × (b ≡ true) × (c ≡ true)
-three true true true e = (refl, refl, refl)
-three true true false e = absurd (true≢false (sym e))
-three true false c e = absurd (true≢false (sym e))
-three false b c e = absurd (true≢false (sym e))
-
+-- ---- consequence
 module _ (sig : Signature) (E : Term → Term → Type 0) where
   pub conseq_sorted : (s t : Term) → Conseq sig E s t → (term_ok sig s ≡ true) × (sort_of sig s ≡ sort_of sig t)
   conseq_sorted s t c = same_known_is (sort_of sig s) (sort_of sig t) (follows_ok c)
@@ -130,7 +103,7 @@ module _ (sig : Signature) (E : Term → Term → Type 0) where
   -- ---- within the plain fragment
 
   plain_parts : (f : Fact) → plain_ok sig f ≡ true → (fact_ok sig f ≡ true) × (is_plain f.left ≡ true) × (is_plain f.right ≡ true)
-  plain_parts f = three (fact_ok sig f) (is_plain f.left) (is_plain f.right)
+  plain_parts f = three_parts (fact_ok sig f) (is_plain f.left) (is_plain f.right)
 
   plain_from : (s t : Term) → fact_ok sig (equal s t) ≡ true → is_plain s ≡ true → is_plain t ≡ true → plain_ok sig (equal s t) ≡ true
   plain_from s t o p q = λ i. o i && p i && q i

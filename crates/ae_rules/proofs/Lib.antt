@@ -7,3 +7,4 @@ pub mod Propagation
 pub mod Blocks
 pub mod LinearLaws
 pub mod Stated
+pub mod Defining

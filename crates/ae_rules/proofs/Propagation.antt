@@ -5,37 +5,17 @@ use Rattle.std.proofs.Common.{refl, sym, ap, ◌∙◌, subst, true≢false, inl
 use Rattle.std.proofs.lemmas.Bool.{and_parts, or_left, or_right}
 use Rattle.std.proofs.lemmas.Option.{same_Some}
 use Rattle.std.proofs.lemmas.List.Folds.{list_any-append}
-use Rattle.ae_core.specs.Decided.{decided, Lit_discrete}
-use Rattle.ae_core.specs.Options.{when}
+use Rattle.ae_core.specs.Decided.{Lit_discrete}
+use Rattle.ae_base.specs.Decided.{decided}
+use Rattle.ae_base.specs.Options.{when}
 use Rattle.ae_rules.specs.Clauses.{Clause, opposite, stands, has_true, is_or_stands, next_false, refutes}
 use Rattle.ae_rules.specs.Valuations.{same_truth, literal_holds, clause_holds}
 use Rattle.ae_core.specs.declared.formulas.Formula.{Formula}
 use Rattle.ae_core.specs.declared.formulas.Lit.{Lit}
-
-by_bool : {P : Type 0} (b : Bool) → (b ≡ true → P) → (b ≡ false → P) → P
-by_bool true f g = f refl
-by_bool false f g = g refl
-
-by_either : {P : Type 0} (a b : Bool) → a || b ≡ true → (a ≡ true → P) → (b ≡ true → P) → P
-by_either true b e f g = f refl
-by_either false b e f g = g e
-
-decided_yes : {P : Type 0} (d : Dec P) → decided d ≡ true → P
-decided_yes (yes p) e = p
-decided_yes (no n) e = absurd (true≢false (sym e))
-
-none_some : {A : Type 0} (x : A) → ◌≡◌ {A = Option A} None (Some x) → ⊥
-none_some x e = cc
-
-when_some : {A : Type 0} (b : Bool) (x y : A) → when b x ≡ Some y → (b ≡ true) × (x ≡ y)
-when_some true x y e = (refl, same_Some x y e)
-when_some false x y e = absurd (none_some y e)
-
-any_of_all : {X : Type 0} {P : Type 0} (p q : X → Bool) → ((x : X) → p x ≡ true → q x ≡ true → P) → (xs : List X) → list_any p xs ≡ true → list_all q xs ≡ true → P
-any_of_all p q f [] a b = absurd (true≢false (sym a))
-any_of_all p q f (x ∷ xs) a b =
-    let both = and_parts (q x) (list_all q xs) b in
-    by_either (p x) (list_any p xs) a (λ h. f x h both.0) (λ h. any_of_all p q f xs h both.1)
+use Rattle.ae_base.proofs.Tests.{by_bool, by_either, not_and}
+use Rattle.ae_base.proofs.Decided.{decided_yes}
+use Rattle.ae_base.proofs.Options.{when_some}
+use Rattle.ae_base.proofs.ListFacts.{any_of_all}
 
 opposed : (s b : Bool) → same_truth (not s) b ≡ not (same_truth s b)
 opposed true true = refl
@@ -43,17 +23,11 @@ opposed true false = refl
 opposed false true = refl
 opposed false false = refl
 
-denied : (a b : Bool) → not a || not b ≡ not (a && b)
-denied true true = refl
-denied true false = refl
-denied false true = refl
-denied false false = refl
-
 module _ (v : Formula → Bool) where
   -- the clause of a block denies its hypotheses
   pub opposites_deny : (ls : List Lit) → clause_holds v (map opposite ls) ≡ not (list_all (literal_holds v) ls)
   opposites_deny [] = refl
-  opposites_deny (l ∷ ls) = (λ i. opposed l.positive (v l.formula) i || opposites_deny ls i) ∙ denied (literal_holds v l) (list_all (literal_holds v) ls)
+  opposites_deny (l ∷ ls) = (λ i. opposed l.positive (v l.formula) i || opposites_deny ls i) ∙ not_and (literal_holds v l) (list_all (literal_holds v) ls)
 
   -- a true literal that stands among the false ones
   stands_true : (fs : List Lit) (l : Lit) → stands fs l ≡ true → literal_holds v l ≡ true → clause_holds v fs ≡ true

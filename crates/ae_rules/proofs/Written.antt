@@ -4,7 +4,7 @@ use mathlib.Core.Logic.{inl, inr, ⊎_elim}
 use mathlib.Core.Path.{refl, sym, ap, ◌∙◌, subst}
 use mathlib.Core.List.{append_assoc, append-nil}
 use native.Mathlib.Nat.{zero-add, suc-add}
-use Rattle.ae_core.specs.Options.{◌>>=◌}
+use Rattle.ae_base.specs.Options.{◌>>=◌}
 use Rattle.ae_core.specs.declared.terms.Term.{Term, Apply}
 use Rattle.ae_core.specs.declared.formulas.Lit.{Lit}
 use Rattle.ae_core.specs.declared.problems.Signature.{Signature}
@@ -12,12 +12,14 @@ use Rattle.ae_core.specs.declared.proofs.Scaled.{Scaled}
 use Rattle.ae_core.specs.declared.proofs.EqLine.{EqLine}
 use Rattle.ae_core.specs.declared.proofs.EqLine.TheVariants.{EqHyp, EqRefl, EqSym, EqTrans, EqCong, EqAc, EqLin, EqField, EqFields, LeHyp, LtHyp, LeSum, LtSum, LeRound}
 use Rattle.ae_rules.specs.Lines.{Fact, equal, states, Stated, Equated, Combined, Allowed, AllAllowed, Follows, by_hyp, by_refl, by_sym, by_trans, by_cong, by_ac, by_lin, by_field, by_le_hyp, by_lt_hyp, by_le_sum, by_lt_sum, by_fields, by_round, FollowAll, none, more, FollowEach, no_fact, a_fact, Among, Shown}
+use Rattle.std.proofs.lemmas.List.{map-append}
+use Rattle.ae_base.proofs.ListFacts.{get_after}
 
 -- a line with the numbers of earlier lines moved up by n
-abbrev moved : ℕ → Scaled → Scaled
+abbrev pub moved : ℕ → Scaled → Scaled
 moved n p = record { factor = p.factor; line = n + p.line }
 
-abbrev shift : ℕ → EqLine → EqLine
+abbrev pub shift : ℕ → EqLine → EqLine
 shift n (EqHyp s t i) = EqHyp s t i
 shift n (EqRefl s t) = EqRefl s t
 shift n (EqSym s t k) = EqSym s t (n + k)
@@ -33,7 +35,7 @@ shift n (LeSum s t d ps) = LeSum s t d (map (moved n) ps)
 shift n (LtSum s t d ps) = LtSum s t d (map (moved n) ps)
 shift n (LeRound s t k) = LeRound s t (n + k)
 
-states_shift : (n : ℕ) (l : EqLine) → states (shift n l) ≡ states l
+pub states_shift : (n : ℕ) (l : EqLine) → states (shift n l) ≡ states l
 states_shift n (EqHyp s t i) = refl
 states_shift n (EqRefl s t) = refl
 states_shift n (EqSym s t k) = refl
@@ -50,31 +52,27 @@ states_shift n (LtSum s t d ps) = refl
 states_shift n (LeRound s t k) = refl
 
 -- the lines xs stand in ys, moved up by n
-abbrev StandsIn : List EqLine → ℕ → List EqLine → Type 0
+abbrev pub StandsIn : List EqLine → ℕ → List EqLine → Type 0
 StandsIn xs n ys = (k : ℕ) (f : Fact) → Stated xs k f → Stated ys (n + k) f
 
-get_past : (pre xs : List EqLine) (k : ℕ) → slice_get (pre ++ xs) (length pre + k) ≡ slice_get xs k
-get_past [] xs k = ap (slice_get xs) (zero-add k)
-get_past (p ∷ pre) xs k = ap (slice_get (p ∷ pre ++ xs)) (suc-add (length pre) k) ∙ get_past pre xs k
-
-stated_shifted : (n : ℕ) (xs : List EqLine) (k : ℕ) (f : Fact) → Stated xs k f → Stated (map (shift n) xs) k f
+pub stated_shifted : (n : ℕ) (xs : List EqLine) (k : ℕ) (f : Fact) → Stated xs k f → Stated (map (shift n) xs) k f
 stated_shifted n [] k f s = s
 stated_shifted n (x ∷ xs) zero f s = ap Some (states_shift n x) ∙ s
 stated_shifted n (x ∷ xs) (suc k) f s = stated_shifted n xs k f s
 
-stands_past : (pre xs : List EqLine) → StandsIn xs (length pre) (pre ++ map (shift (length pre)) xs)
-stands_past pre xs k f s = ap (λ o. o >>= λ l. Some (states l)) (get_past pre (map (shift (length pre)) xs) k) ∙ stated_shifted (length pre) xs k f s
+pub stands_past : (pre xs : List EqLine) → StandsIn xs (length pre) (pre ++ map (shift (length pre)) xs)
+stands_past pre xs k f s = ap (λ o. o >>= λ l. Some (states l)) (get_after pre (map (shift (length pre)) xs) k) ∙ stated_shifted (length pre) xs k f s
 
-stated_before : (xs ys : List EqLine) (k : ℕ) (f : Fact) → Stated xs k f → Stated (xs ++ ys) k f
+pub stated_before : (xs ys : List EqLine) (k : ℕ) (f : Fact) → Stated xs k f → Stated (xs ++ ys) k f
 stated_before [] ys k f s = absurd (let e : ◌≡◌ {A = Option Fact} None (Some f) = s in cc)
 stated_before (x ∷ xs) ys zero f s = s
 stated_before (x ∷ xs) ys (suc k) f s = stated_before xs ys k f s
 
-stated_last : (xs : List EqLine) (l : EqLine) → Stated (xs ++ l ∷ []) (length xs + 0) (states l)
-stated_last xs l = ap (λ o. o >>= λ l. Some (states l)) (get_past xs (l ∷ []) 0)
+pub stated_last : (xs : List EqLine) (l : EqLine) → Stated (xs ++ l ∷ []) (length xs + 0) (states l)
+stated_last xs l = ap (λ o. o >>= λ l. Some (states l)) (get_after xs (l ∷ []) 0)
 
 module _ (xs : List EqLine) (n : ℕ) (ys : List EqLine) (stand : StandsIn xs n ys) where
-  equated_in : (ks : List ℕ) (us vs : List Term) → Equated xs ks us vs → Equated ys (map (λ k. n + k) ks) us vs
+  pub equated_in : (ks : List ℕ) (us vs : List Term) → Equated xs ks us vs → Equated ys (map (λ k. n + k) ks) us vs
   equated_in [] [] [] e = tt
   equated_in (k ∷ ks) (u ∷ us) (v ∷ vs) e = (stand k (equal u v) e.0, equated_in ks us vs e.1)
   equated_in [] [] (v ∷ vs) e = absurd e
@@ -82,13 +80,13 @@ module _ (xs : List EqLine) (n : ℕ) (ys : List EqLine) (stand : StandsIn xs n 
   equated_in (k ∷ ks) [] vs e = absurd e
   equated_in (k ∷ ks) (u ∷ us) [] e = absurd e
 
-  combined_in : (ps : List Scaled) (fs : List (ℤ × Fact)) → Combined xs ps fs → Combined ys (map (moved n) ps) fs
+  pub combined_in : (ps : List Scaled) (fs : List (ℤ × Fact)) → Combined xs ps fs → Combined ys (map (moved n) ps) fs
   combined_in [] [] c = tt
   combined_in (p ∷ ps) (f ∷ fs) c = (c.0, stand p.line f.1 c.1, combined_in ps fs c.2)
   combined_in [] (f ∷ fs) c = absurd c
   combined_in (p ∷ ps) [] c = absurd c
 
-  allowed_in : (sig : Signature) (hyps : List Lit) (l : EqLine) → Allowed sig hyps xs l → Allowed sig hyps ys (shift n l)
+  pub allowed_in : (sig : Signature) (hyps : List Lit) (l : EqLine) → Allowed sig hyps xs l → Allowed sig hyps ys (shift n l)
   allowed_in sig hyps (EqHyp s t i) a = a
   allowed_in sig hyps (EqRefl s t) a = a
   allowed_in sig hyps (EqSym s t k) a = stand k (equal t s) a
@@ -110,28 +108,24 @@ module _ (sig : Signature) (ok : Fact → Bool) (hyps : List Lit) where
   all_append e [] ys a b = subst (λ z. AllAllowed sig ok hyps z ys) (append-nil e) b
   all_append e (x ∷ xs) ys a b = (a.0, all_append (e ++ x ∷ []) xs ys a.1 (subst (λ z. AllAllowed sig ok hyps z ys) (sym (append_assoc e (x ∷ []) xs)) b))
 
-  map_append : (n : ℕ) (xs ys : List EqLine) → map (shift n) (xs ++ ys) ≡ map (shift n) xs ++ map (shift n) ys
-  map_append n [] ys = refl
-  map_append n (x ∷ xs) ys = ap (λ t. shift n x ∷ t) (map_append n xs ys)
-
-  all_past : (pre e xs : List EqLine) → AllAllowed sig ok hyps e xs → AllAllowed sig ok hyps (pre ++ map (shift (length pre)) e) (map (shift (length pre)) xs)
+  pub all_past : (pre e xs : List EqLine) → AllAllowed sig ok hyps e xs → AllAllowed sig ok hyps (pre ++ map (shift (length pre)) e) (map (shift (length pre)) xs)
   all_past pre e [] a = tt
   all_past pre e (x ∷ xs) a =
       let n = length pre in (
         (ap ok (states_shift n x) ∙ a.0.0, allowed_in e n (pre ++ map (shift n) e) (stands_past pre e) sig hyps x a.0.1),
-        subst (λ z. AllAllowed sig ok hyps z (map (shift n) xs)) (ap (λ t. pre ++ t) (map_append n e (x ∷ [])) ∙ sym (append_assoc pre (map (shift n) e) (shift n x ∷ []))) (all_past pre (e ++ x ∷ []) xs a.1),
+        subst (λ z. AllAllowed sig ok hyps z (map (shift n) xs)) (ap (λ t. pre ++ t) (map-append (shift n) e (x ∷ [])) ∙ sym (append_assoc pre (map (shift n) e) (shift n x ∷ []))) (all_past pre (e ++ x ∷ []) xs a.1),
       )
 
   -- one list of lines after another
-  joined : List EqLine → List EqLine → List EqLine
+  pub joined : List EqLine → List EqLine → List EqLine
   joined xs ys = xs ++ map (shift (length xs)) ys
 
-  all_joined : (xs ys : List EqLine) → AllAllowed sig ok hyps [] xs → AllAllowed sig ok hyps [] ys → AllAllowed sig ok hyps [] (joined xs ys)
+  pub all_joined : (xs ys : List EqLine) → AllAllowed sig ok hyps [] xs → AllAllowed sig ok hyps [] ys → AllAllowed sig ok hyps [] (joined xs ys)
   unfolding joined
   all_joined xs ys a b = all_append [] xs (map (shift (length xs)) ys) a (subst (λ z. AllAllowed sig ok hyps z (map (shift (length xs)) ys)) (append-nil xs) (all_past xs [] ys b))
 
   -- one more line
-  shown_by : (xs : List EqLine) → AllAllowed sig ok hyps [] xs → (l : EqLine) → ok (states l) ≡ true → Allowed sig hyps xs l → Shown sig ok hyps (states l)
+  pub shown_by : (xs : List EqLine) → AllAllowed sig ok hyps [] xs → (l : EqLine) → ok (states l) ≡ true → Allowed sig hyps xs l → Shown sig ok hyps (states l)
   shown_by xs a l o b = record { lines = xs ++ l ∷ []; all = all_append [] xs (l ∷ []) a ((o, b), tt); at = length xs + 0; is = stated_last xs l }
 
   record ShownAll (us vs : List Term) : Type 0 where
@@ -146,13 +140,13 @@ module _ (sig : Signature) (ok : Fact → Bool) (hyps : List Lit) where
     at : List Scaled
     are : Combined lines at fs
 
-  trans_written : (s m t : Term) → ok (equal s t) ≡ true → Shown sig ok hyps (equal s m) → Shown sig ok hyps (equal m t) → Shown sig ok hyps (equal s t)
+  pub trans_written : (s m t : Term) → ok (equal s t) ≡ true → Shown sig ok hyps (equal s m) → Shown sig ok hyps (equal m t) → Shown sig ok hyps (equal s t)
   unfolding joined
   trans_written s m t o x y =
       shown_by (joined x.lines y.lines) (all_joined x.lines y.lines x.all y.all) (EqTrans s t x.at (length x.lines + y.at)) o
       (m, stated_before x.lines _ x.at (equal s m) x.is, stands_past x.lines y.lines y.at (equal m t) y.is)
 
-  all_more : (u v : Term) (us vs : List Term) → Shown sig ok hyps (equal u v) → ShownAll us vs → ShownAll (u ∷ us) (v ∷ vs)
+  pub all_more : (u v : Term) (us vs : List Term) → Shown sig ok hyps (equal u v) → ShownAll us vs → ShownAll (u ∷ us) (v ∷ vs)
   unfolding joined
   all_more u v us vs x y =
       record {
@@ -162,7 +156,7 @@ module _ (sig : Signature) (ok : Fact → Bool) (hyps : List Lit) where
         are = (stated_before x.lines _ x.at (equal u v) x.is, equated_in y.lines (length x.lines) _ (stands_past x.lines y.lines) y.at us vs y.are);
       }
 
-  each_more : (f : ℤ × Fact) (fs : List (ℤ × Fact)) → Shown sig ok hyps f.1 → ShownEach fs → ShownEach (f ∷ fs)
+  pub each_more : (f : ℤ × Fact) (fs : List (ℤ × Fact)) → Shown sig ok hyps f.1 → ShownEach fs → ShownEach (f ∷ fs)
   unfolding joined
   each_more f fs x y =
       record {

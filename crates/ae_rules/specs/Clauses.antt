@@ -1,12 +1,14 @@
 -- Literals, clauses, the defining clauses of connectives, and unit propagation through hinted clauses.
 use Rattle.std.specs.Prelude.{ℕ, Bool, true, false, cond, not, ◌||◌, nat_eq, List, [], ◌∷◌, ◌++◌, Option, Some, None}
 use Rattle.std.specs.List.{list_any, list_all}
-use Rattle.ae_core.specs.Decided.{decided, Lit_discrete}
-use Rattle.ae_core.specs.Options.{when}
+use Rattle.ae_core.specs.Decided.{Lit_discrete}
+use Rattle.ae_base.specs.Decided.{decided}
+use Rattle.ae_base.specs.Options.{when}
 use Rattle.ae_core.specs.declared.formulas.Formula.{Formula, Formula-F, para-Formula, roll-Formula, map-Formula, out-Formula}
 use Rattle.ae_core.specs.declared.formulas.Formula.TheOpen as layer_of
 use Rattle.ae_core.specs.declared.formulas.Quant.{Quant}
 use Rattle.ae_core.specs.declared.formulas.Lit.{Lit}
+use Rattle.ae_rules.specs.declared.rows.TheConstants.{AND_TO_LEFT, AND_TO_RIGHT, AND_FROM_BOTH, OR_FROM_LEFT, OR_FROM_RIGHT, OR_TO_EITHER, IFF_TO_RIGHT, IFF_TO_LEFT, IFF_FROM_NEITHER, IFF_FROM_BOTH, XOR_TO_EITHER, XOR_TO_NOT_BOTH, XOR_FROM_LEFT, XOR_FROM_RIGHT, TRUE_STANDS, FALSE_FAILS}
 
 -- ---- literals
 abbrev pub whole_formula : {A B : Type 0} → Formula-F (Formula × A) (Quant × B) → Formula
@@ -39,7 +41,7 @@ is_true f = record { positive = true; formula = f }
 abbrev pub is_false : Formula → Lit
 is_false f = record { positive = false; formula = f }
 
--- ---- the defining clauses, each with its number: what the truth of a formula has to do with that of its parts
+-- ---- the defining clauses, each a row with its number: what the truth of a formula has to do with that of its parts
 abbrev pub row_at : ℕ → List (ℕ × Clause) → Option Clause
 row_at r [] = None
 row_at r (c ∷ cs) = cond (nat_eq r c.0) (Some c.1) (row_at r cs)
@@ -47,25 +49,37 @@ row_at r (c ∷ cs) = cond (nat_eq r c.0) (Some c.1) (row_at r cs)
 -- the rows of a conjunction f of a and b, and so on
 abbrev pub and_row : ℕ → Formula → Formula → Formula → Option Clause
 and_row r f a b =
-    row_at r ((1, is_false f ∷ yes_of a ∷ []) ∷ (2, is_false f ∷ yes_of b ∷ []) ∷ (3, is_true f ∷ no_of a ∷ no_of b ∷ []) ∷ [])
+    row_at r (
+      (AND_TO_LEFT, is_false f ∷ yes_of a ∷ []) ∷ (AND_TO_RIGHT, is_false f ∷ yes_of b ∷ [])
+      ∷ (AND_FROM_BOTH, is_true f ∷ no_of a ∷ no_of b ∷ []) ∷ []
+    )
 
 abbrev pub or_row : ℕ → Formula → Formula → Formula → Option Clause
 or_row r f a b =
-    row_at r ((4, is_true f ∷ no_of a ∷ []) ∷ (5, is_true f ∷ no_of b ∷ []) ∷ (6, is_false f ∷ yes_of a ∷ yes_of b ∷ []) ∷ [])
+    row_at r (
+      (OR_FROM_LEFT, is_true f ∷ no_of a ∷ []) ∷ (OR_FROM_RIGHT, is_true f ∷ no_of b ∷ [])
+      ∷ (OR_TO_EITHER, is_false f ∷ yes_of a ∷ yes_of b ∷ []) ∷ []
+    )
 
 abbrev pub iff_row : ℕ → Formula → Formula → Formula → Option Clause
 iff_row r f a b =
-    row_at r ((7, is_false f ∷ no_of a ∷ yes_of b ∷ []) ∷ (8, is_false f ∷ yes_of a ∷ no_of b ∷ []) ∷ (9, is_true f ∷ yes_of a ∷ yes_of b ∷ []) ∷ (10, is_true f ∷ no_of a ∷ no_of b ∷ []) ∷ [])
+    row_at r (
+      (IFF_TO_RIGHT, is_false f ∷ no_of a ∷ yes_of b ∷ []) ∷ (IFF_TO_LEFT, is_false f ∷ yes_of a ∷ no_of b ∷ [])
+      ∷ (IFF_FROM_NEITHER, is_true f ∷ yes_of a ∷ yes_of b ∷ []) ∷ (IFF_FROM_BOTH, is_true f ∷ no_of a ∷ no_of b ∷ []) ∷ []
+    )
 
 abbrev pub xor_row : ℕ → Formula → Formula → Formula → Option Clause
 xor_row r f a b =
-    row_at r ((11, is_false f ∷ yes_of a ∷ yes_of b ∷ []) ∷ (12, is_false f ∷ no_of a ∷ no_of b ∷ []) ∷ (13, is_true f ∷ no_of a ∷ yes_of b ∷ []) ∷ (14, is_true f ∷ yes_of a ∷ no_of b ∷ []) ∷ [])
+    row_at r (
+      (XOR_TO_EITHER, is_false f ∷ yes_of a ∷ yes_of b ∷ []) ∷ (XOR_TO_NOT_BOTH, is_false f ∷ no_of a ∷ no_of b ∷ [])
+      ∷ (XOR_FROM_LEFT, is_true f ∷ no_of a ∷ yes_of b ∷ []) ∷ (XOR_FROM_RIGHT, is_true f ∷ yes_of a ∷ no_of b ∷ []) ∷ []
+    )
 
 abbrev pub true_row : ℕ → Formula → Option Clause
-true_row r f = row_at r ((15, is_true f ∷ []) ∷ [])
+true_row r f = row_at r ((TRUE_STANDS, is_true f ∷ []) ∷ [])
 
 abbrev pub false_row : ℕ → Formula → Option Clause
-false_row r f = row_at r ((16, is_false f ∷ []) ∷ [])
+false_row r f = row_at r ((FALSE_FAILS, is_false f ∷ []) ∷ [])
 
 unfoldable pub row_of : ℕ → Formula → Formula-F Formula Quant → Option Clause
 row_of r f (layer_of.And a b) = and_row r f a b

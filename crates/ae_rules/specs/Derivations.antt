@@ -3,7 +3,7 @@ use Rattle.std.specs.Prelude.{ℕ, ℤ, pos, ◌*ℤ◌, Bool, true, false, ◌&
 use Rattle.std.specs.List.{AllByRecursion, Contains, list_all, flat_map}
 use Rattle.ae_math.specs.Fractions.{ℚ, zero_ℚ, neg_ℚ, is_positive}
 use Rattle.ae_core.specs.Sorts.{term_ok, formula_ok, is_closed_sort}
-use Rattle.ae_core.specs.Options.{◌>>=◌, or_else, all_known}
+use Rattle.ae_base.specs.Options.{◌>>=◌, or_else, only, all_known}
 use Rattle.ae_rules.specs.Linear.{Linear, factor_of}
 use Rattle.ae_rules.specs.Lines.{Fact, equal, states, Stated, Given, Equated, AllAllowed, fact_ok, gap, whole, HaveSort, AreNumbers, AreMultiples}
 use Rattle.ae_rules.specs.Clauses.{Clause, yes_of, no_of, opposite, row, refutes}
@@ -72,11 +72,18 @@ CannotHold Below x = is_positive x ≡ false
 abbrev pub EndsZero : Signature → List EqLine → ℕ → Type 0
 EndsZero sig lines k = (f : Fact) × Stated lines k f × AreNumbers sig f × IsConstant (gap f) × CannotHold f.relation (gap f).constant
 
--- line k is an equation of integers without a solution: some opaque term occurs in it, and a common divisor of the factors doesn't divide the constant
+-- no integers for the opaque terms make the form 0: some opaque term occurs in it, and a common divisor of the factors doesn't divide the constant
+pub record HasNoSolution (f : Linear) : Type 0 where
+  pub occurs : (u : Term) × (factor_of f u ≢ zero_ℚ)
+  pub divisor : ℕ
+  pub divides : AreMultiples f divisor
+  pub constant : ℤ
+  pub is : f.constant ≡ whole constant
+  pub not_divided : (z : ℤ) → constant ≢ z *ℤ pos divisor
+
+-- line k is an equation of integers without a solution
 abbrev pub EndsGcd : Signature → List EqLine → ℕ → Type 0
-EndsGcd sig lines k =
-    (s : Term) × (t : Term) × Stated lines k (equal s t) × HaveSort sig Int (equal s t) × ((u : Term) × (factor_of (gap (equal s t)) u ≢ zero_ℚ))
-    × (d : ℕ) × AreMultiples (gap (equal s t)) d × (c : ℤ) × ((gap (equal s t)).constant ≡ whole c) × ((z : ℤ) → c ≢ z *ℤ pos d)
+EndsGcd sig lines k = (s : Term) × (t : Term) × Stated lines k (equal s t) × HaveSort sig Int (equal s t) × HasNoSolution (gap (equal s t))
 
 abbrev pub Ends : Signature → List Lit → List EqLine → Ending → Type 0
 Ends sig hyps lines (ending.Neq k i) = EndsNeq hyps lines k i
@@ -107,17 +114,17 @@ pub record AreContradictory (sig : Signature) (ls : List Lit) : Type 0 where
 abbrev pub goal_body : Problem → ℕ → Option Formula
 goal_body p g = slice_get p.items g >>= λ i. elim i [ Axiom n v f ↦ None | GoalItem n v f ↦ Some f ]
 
--- the clause that a line states, for the goal at place g; where a number, a sort or an arity in it doesn't fit the problem, there is none
-abbrev pub conclusion : Problem → ℕ → ClauseLine → Option Clause
-conclusion p g (Hyp k ss) = hypothesis p g k ss >>= λ f. Some (yes_of f ∷ [])
-conclusion p g Goal = goal_body p g >>= λ f. Some (no_of f ∷ [])
-conclusion p g (Def r f) = row r f
-conclusion p g (Inst f ts) = instance_clause p.signature f ts (out-Formula f)
-conclusion p g (FreshLine f m) = fresh_clause f m (out-Formula f)
-conclusion p g (Exh t) = exhaustion p.signature t
-conclusion p g (Tri s t) = trichotomy p.signature s t
-conclusion p g (Block b) = Some (map opposite b.deriv.hyps)
-conclusion p g (Rup c ks) = Some c
+-- the clause that a line is written to state, for the goal at place g, whether the line fits the problem or not
+abbrev pub clause_of : Problem → ℕ → ClauseLine → Option Clause
+clause_of p g (Hyp k ss) = hypothesis p g k ss >>= λ f. Some (yes_of f ∷ [])
+clause_of p g Goal = goal_body p g >>= λ f. Some (no_of f ∷ [])
+clause_of p g (Def r f) = row r f
+clause_of p g (Inst f ts) = instance_clause p.signature f ts (out-Formula f)
+clause_of p g (FreshLine f m) = fresh_clause f m (out-Formula f)
+clause_of p g (Exh t) = exhaustion p.signature t
+clause_of p g (Tri s t) = trichotomy p.signature s t
+clause_of p g (Block b) = Some (map opposite b.deriv.hyps)
+clause_of p g (Rup c ks) = Some c
 
 -- the formula, or the clause, is there and well sorted
 abbrev pub formula_stands : Signature → Option Formula → Bool
@@ -126,7 +133,7 @@ formula_stands sig f = or_else (f >>= λ f. Some (formula_ok sig f)) false
 abbrev pub clause_stands : Signature → Option Clause → Bool
 clause_stands sig c = or_else (c >>= λ c. Some (clause_ok sig c)) false
 
--- each formula, term and sort that the line states is closed and well sorted; the terms of a block's lines are in `fact_ok`
+-- each formula, term and sort that the line states or is given is closed and well sorted; the terms of a block's lines are in `fact_ok`
 abbrev pub line_ok : Problem → ℕ → ClauseLine → Bool
 line_ok p g (Hyp k ss) = list_all (is_closed_sort p.signature) ss && formula_stands p.signature (hypothesis p g k ss)
 line_ok p g Goal = formula_stands p.signature (goal_body p g)
@@ -137,6 +144,11 @@ line_ok p g (Exh t) = term_ok p.signature t && clause_stands p.signature (exhaus
 line_ok p g (Tri s t) = term_ok p.signature s && term_ok p.signature t
 line_ok p g (Block b) = clause_ok p.signature b.deriv.hyps
 line_ok p g (Rup c ks) = clause_ok p.signature c
+
+-- the clause that a line states, for the goal at place g. There is none where a number, a sort or an arity doesn't fit the problem, in that clause
+-- or in what the line is given: the hypotheses of a block, the terms and the sorts that are put. What a block's lines state doesn't count.
+abbrev pub conclusion : Problem → ℕ → ClauseLine → Option Clause
+conclusion p g l = only (line_ok p g l) (clause_of p g l)
 
 -- it states a clause
 abbrev pub HasConclusion : Problem → ℕ → ClauseLine → Type 0
@@ -174,15 +186,16 @@ abbrev pub AreNew : Problem → ℕ → List ClauseLine → ℕ → Formula → 
 AreNew p g earlier m f =
     AllByRecursion (λ c. ¬ (Contains (formula_constants f ++ flat_map (line_constants p g) earlier) c)) (fresh_terms m f)
 
--- what a line asks beside a clause and good sorts
+-- what the rule of a line asks beside
 abbrev pub Meets : Problem → ℕ → List ClauseLine → ClauseLine → Type 0
 Meets p g earlier (FreshLine f m) = AreNew p g earlier m f
 Meets p g earlier (Block b) = IsContradictory p.signature b
 Meets p g earlier (Rup c ks) = is_refuted (hinted p g earlier ks) c ≡ true
 Meets p g earlier _ = Unit {0}
 
+-- it states a clause, and what its rule asks beside is so
 abbrev pub IsAllowed : Problem → ℕ → List ClauseLine → ClauseLine → Type 0
-IsAllowed p g earlier l = (line_ok p g l ≡ true) × HasConclusion p g l × Meets p g earlier l
+IsAllowed p g earlier l = HasConclusion p g l × Meets p g earlier l
 
 -- each line is allowed after those before it
 abbrev pub AreAllowed : Problem → ℕ → List ClauseLine → List ClauseLine → Type 0

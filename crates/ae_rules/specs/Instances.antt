@@ -2,7 +2,7 @@
 use Rattle.std.specs.Prelude.{ℕ, suc, ◌+◌, ◌^◌, Bool, false, nat_eq, nat_lt, nat_le, List, [], ◌∷◌, ◌++◌, map, length, slice_get, Option, Some, None}
 use Rattle.std.specs.List.{flat_map}
 use Rattle.ae_core.specs.Sorts.{sort_of, sorts_of, same_sorts, same_numeric}
-use Rattle.ae_core.specs.Options.{◌>>=◌, or_else, only, when}
+use Rattle.ae_base.specs.Options.{◌>>=◌, or_else, only, when}
 use Rattle.ae_core.specs.Putting.{put_formula, instance}
 use Rattle.ae_rules.specs.Clauses.{Clause, yes_of, no_of, is_true, is_false}
 use Rattle.ae_core.specs.declared.terms.Sort.{Sort, Sort-F, out-Sort}

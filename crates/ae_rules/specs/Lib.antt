@@ -1,6 +1,7 @@
 pub mod Linear
 pub mod Lines
 pub mod Clauses
+pub mod Defining
 pub mod Instances
 pub mod Derivations
 pub mod Valuations

@@ -36,18 +36,40 @@ abbrev pub over : Term → Linear → Term → Linear
 over whole f (Num a b real) = cond (is_zero (ratio a b)) (single whole) (scale (inverse_ℚ (ratio a b)) f)
 over whole f _ = single whole
 
--- an application to arguments, each with its form
+-- ---- the arithmetic that is computed: the one table, over arguments of any kind
+-- how an application makes a number of its arguments; every other application is opaque
+pub data Rule (A : Type 0) : Type 0 where
+  opaque_term : Rule A
+  sum_of : A → A → Rule A
+  difference_of : A → A → Rule A
+  negation_of : A → Rule A
+  product_of : A → A → Rule A
+  quotient_of : A → A → Rule A
+
+-- the operations of both sorts, but the quotient of `real` alone
+abbrev pub rule_of : {A : Type 0} → Head → List A → Rule A
+rule_of (head.Int op.Add) (a ∷ b ∷ []) = sum_of a b
+rule_of (head.Int op.Sub) (a ∷ b ∷ []) = difference_of a b
+rule_of (head.Int op.Neg) (a ∷ []) = negation_of a
+rule_of (head.Int op.Mul) (a ∷ b ∷ []) = product_of a b
+rule_of (head.Real op.Add) (a ∷ b ∷ []) = sum_of a b
+rule_of (head.Real op.Sub) (a ∷ b ∷ []) = difference_of a b
+rule_of (head.Real op.Neg) (a ∷ []) = negation_of a
+rule_of (head.Real op.Mul) (a ∷ b ∷ []) = product_of a b
+rule_of (head.Real op.Div) (a ∷ b ∷ []) = quotient_of a b
+rule_of _ _ = opaque_term
+
+-- the form of an application, of arguments that each stand with their form
+abbrev pub ruled : Term → Rule (Term × Linear) → Linear
+ruled whole opaque_term = single whole
+ruled whole (sum_of a b) = plus a.1 b.1
+ruled whole (difference_of a b) = minus a.1 b.1
+ruled whole (negation_of a) = scale (neg_ℚ one_ℚ) a.1
+ruled whole (product_of a b) = times whole a.1 b.1
+ruled whole (quotient_of a b) = over whole a.1 b.0
+
 abbrev pub applied : Term → Head → List (Term × Linear) → Linear
-applied whole (head.Int op.Add) (a ∷ b ∷ []) = plus a.1 b.1
-applied whole (head.Int op.Sub) (a ∷ b ∷ []) = minus a.1 b.1
-applied whole (head.Int op.Neg) (a ∷ []) = scale (neg_ℚ one_ℚ) a.1
-applied whole (head.Int op.Mul) (a ∷ b ∷ []) = times whole a.1 b.1
-applied whole (head.Real op.Add) (a ∷ b ∷ []) = plus a.1 b.1
-applied whole (head.Real op.Sub) (a ∷ b ∷ []) = minus a.1 b.1
-applied whole (head.Real op.Neg) (a ∷ []) = scale (neg_ℚ one_ℚ) a.1
-applied whole (head.Real op.Mul) (a ∷ b ∷ []) = times whole a.1 b.1
-applied whole (head.Real op.Div) (a ∷ b ∷ []) = over whole a.1 b.0
-applied whole _ _ = single whole
+applied whole h args = ruled whole (rule_of h args)
 
 abbrev pub form_step : Term-F (Term × Linear) → Linear
 form_step (layer.Bound n) = single (Bound n)
@@ -64,11 +86,13 @@ abbrev pub is_numeral : Term → Bool
 is_numeral (Num a b real) = true
 is_numeral _ = false
 
+abbrev pub is_plain_rule : Rule Term → Bool
+is_plain_rule (product_of a b) = is_number (form a) || is_number (form b)
+is_plain_rule (quotient_of a b) = is_numeral b
+is_plain_rule _ = true
+
 abbrev pub plain_here : Head → List Term → Bool
-plain_here (head.Int op.Mul) (a ∷ b ∷ []) = is_number (form a) || is_number (form b)
-plain_here (head.Real op.Mul) (a ∷ b ∷ []) = is_number (form a) || is_number (form b)
-plain_here (head.Real op.Div) (a ∷ b ∷ []) = is_numeral b
-plain_here _ _ = true
+plain_here h us = is_plain_rule (rule_of h us)
 
 abbrev pub plain_step : Term-F (Term × Bool) → Bool
 plain_step (layer.Apply h ss us) = plain_here h (map (λ u. u.0) us) && list_all (λ u. u.1) us

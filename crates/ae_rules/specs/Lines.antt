@@ -4,11 +4,11 @@ use Rattle.std.specs.List.{AllByRecursion}
 use Rattle.std.specs.List.Sorted.{IsPermutation}
 use Rattle.ae_math.specs.Fractions.{ℚ, frac, zero_ℚ, ◌*ℚ◌}
 use Rattle.ae_math.specs.Forms.{plus, minus, scale, number}
-use Rattle.ae_math.specs.Choices.{pick}
+use Rattle.ae_base.specs.Decided.{pick}
 use Rattle.ae_core.specs.Decided.{Head_discrete, Sorts_discrete}
 use Rattle.ae_rules.specs.Linear.{Linear, form, factor_of, IsSame, is_plain}
 use Rattle.ae_core.specs.Sorts.{sort_of, same_known, same_numeric}
-use Rattle.ae_core.specs.Options.{◌>>=◌}
+use Rattle.ae_base.specs.Options.{◌>>=◌}
 use Rattle.ae_core.specs.declared.terms.Sort.{Sort, Int, Real, Named}
 use Rattle.ae_core.specs.declared.terms.Term.{Term, Term-F, Bound, Num, Fresh, Apply, para-Term}
 use Rattle.ae_core.specs.declared.terms.Term.TheOpen as layer

@@ -5,7 +5,7 @@ use Rattle.std.specs.List.Sorted.{IsPermutation}
 use Rattle.ae_rules.specs.Lines.{Fact, equal, at_most, below, fact_ok, gap, whole, IsAc, flat, SumsTo, IsEqual, MayCount, SomeBelow, HaveSort, AreNumbers, fields_from, AreMultiples, Rounds}
 use Rattle.ae_rules.specs.Linear.{factor_of}
 use Rattle.ae_rules.specs.Clauses.{Clause}
-use Rattle.ae_rules.specs.Derivations.{IsConstant, IsConstructor, CannotHold}
+use Rattle.ae_rules.specs.Derivations.{IsConstant, IsConstructor, CannotHold, HasNoSolution}
 use Rattle.ae_math.specs.Fractions.{zero_ℚ}
 use Rattle.ae_core.specs.declared.terms.Sort.{Sort, Int, Named}
 use Rattle.ae_core.specs.declared.terms.Term.{Term, Apply}
@@ -81,15 +81,8 @@ pub record IsModel {V : Type 0} (sig : Signature) (v : Formula → Bool) (ev : T
   -- what can't hold between terms that differ by a number isn't so
   pub zero : (f : Fact) → AreNumbers sig f → IsConstant (gap f) → CannotHold f.relation (gap f).constant → ¬ (Means ev le lt f)
   -- an equation of integers without a solution isn't so
-  pub gcd : (s t : Term) → HaveSort sig Int (equal s t) → ((u : Term) × (factor_of (gap (equal s t)) u ≢ zero_ℚ)) → (d : ℕ) → AreMultiples (gap (equal s t)) d
-      → (c : ℤ) → (gap (equal s t)).constant ≡ whole c → ((z : ℤ) → c ≢ z *ℤ pos d) → ev s ≢ ev t
+  pub gcd : (s t : Term) → HaveSort sig Int (equal s t) → HasNoSolution (gap (equal s t)) → ev s ≢ ev t
 
--- ---- equations that are given by a test, and lists of equal terms
+-- ---- equations that are given by a test
 abbrev pub Where : (Term → Term → Bool) → Term → Term → Type 0
 Where E u v = E u v ≡ true
-
--- the terms of two lists are related, one by one
-abbrev pub Pairwise : (Term → Term → Type 0) → List Term → List Term → Type 0
-Pairwise R [] [] = Unit {0}
-Pairwise R (u ∷ us) (v ∷ vs) = R u v × Pairwise R us vs
-Pairwise R _ _ = ⊥

@@ -1,18 +1,16 @@
 //! Laws of the definitions. These functions do nothing: each one's contract is a theorem.
 ghost use Rattle.std.specs.Prelude.{◌≡◌, ◌↔◌, ℕ, Bool, true, not, List, map, Some};
 ghost use Rattle.std.specs.List.{list_all};
-ghost use Rattle.std.specs.Cmp.{IsTotalOrder};
-ghost use Rattle.std.specs.declared.cmp.Ordering.TheVariants.{Equal};
 ghost use Rattle.ae_core.specs.Sorts.{sort_of, term_ok};
 ghost use Rattle.ae_rules.specs.Linear.{is_plain};
 ghost use Rattle.ae_rules.specs.Lines.{Fact, fact_ok, plain_ok, Among, Equations, Follows, FollowsAsWritten, Conseq, PlainConseq};
 ghost use Rattle.ae_rules.specs.Clauses.{Clause, opposite, refutes};
-ghost use Rattle.ae_rules.specs.Valuations.{clause_holds, literal_holds, Where, Pairwise, Respects, Means, IsModel};
-ghost use Rattle.ae_rules.specs.Derivations.{IsContradictory, clause_ok, conclusion, line_ok};
+ghost use Rattle.ae_rules.specs.Valuations.{clause_holds, literal_holds, Where, Respects, Means, IsModel};
+ghost use Rattle.ae_base.specs.Relations.{Pairwise};
+ghost use Rattle.ae_rules.specs.Derivations.{IsContradictory, clause_ok, conclusion};
 ghost use Rattle.ae_core.specs.declared.problems.Problem.{Problem};
 ghost use Rattle.ae_core.specs.declared.proofs.ClauseLine.{ClauseLine};
 ghost use Rattle.ae_core.specs.declared.proofs.Block.{Block};
-ghost use Rattle.ae_core.specs.Orders.{sort_order, term_order, formula_order};
 ghost use Rattle.ae_core.specs.declared.problems.Signature.{Signature};
 ghost use Rattle.ae_core.specs.declared.terms.Head.{Head};
 ghost use Rattle.ae_core.specs.declared.terms.Sort.{Sort};
@@ -70,7 +68,7 @@ pub fn blocks_hold<V>()
     ensures { (sig : Signature) (v : Formula → Bool) (ev : Term → V) (le lt : V → V → Bool) → IsModel sig v ev le lt → (b : Block) → IsContradictory sig b → clause_holds v (map opposite b.deriv.hyps) ≡ true }
 {}
 
-/// Each formula of the clause that a line states is closed and well sorted, where all that stands in the line is.
+/// Each formula of the clause that a line states is closed and well sorted.
 pub fn stated_formulas_are_sorted()
-    ensures { (p : Problem) (g : ℕ) (l : ClauseLine) (c : Clause) → line_ok p g l ≡ true → conclusion p g l ≡ Some c → clause_ok p.signature c ≡ true }
+    ensures { (p : Problem) (g : ℕ) (l : ClauseLine) (c : Clause) → conclusion p g l ≡ Some c → clause_ok p.signature c ≡ true }
 {}

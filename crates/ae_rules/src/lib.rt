@@ -2,5 +2,8 @@
 //! definitions.
 #![tactic(auto)]
 
+pub mod facts;
 pub mod laws;
 pub mod linear_laws;
+pub mod literals;
+pub mod rows;

@@ -1,7 +1,8 @@
 -- Whether one of the constants that a line puts stands in a term, a formula, a clause and a line.
 use Rattle.std.specs.Prelude.{ℕ, Bool, false, not, ◌||◌, List, [], Some, slice_get}
 use Rattle.std.specs.List.{list_any}
-use Rattle.ae_core.specs.Decided.{decided, Term_discrete}
+use Rattle.ae_base.specs.Decided.{decided}
+use Rattle.ae_core.specs.Decided.{Term_discrete}
 use Rattle.ae_core.specs.Sorts.{same_sort}
 use Rattle.ae_core.specs.Options.{or_else, ◌>>=◌}
 use Rattle.ae_rules.specs.Clauses.{Clause}

@@ -1,5 +1,4 @@
 use Rattle.std.proofs.Common.{◌≡◌, map, take}
-use Rattle.ae_core.specs.Sorts as spec
 use Rattle.ae_core.specs.Putting as spec_putting
 use Rattle.ae_core.proofs.sorts.fields_sorts.Given as goal
 

@@ -5,7 +5,8 @@ use mir.Syntax.{w128}
 use Rattle.ae_math.specs.Forms.{scale}
 use Rattle.ae_num.specs.Forms.{first_wide, IfWide}
 use Rattle.ae_rules.specs.Linear.{Linear}
-use Rattle.ae_rules.specs.Lines.{Fact, whole}
+use Rattle.ae_rules.specs.Lines.{Fact}
+use Rattle.ae_math.specs.Fractions.{whole}
 use Rattle.ae_numeric.specs.Stated.{scaled, sum_steps}
 use Rattle.ae_numeric.specs.Computing.{IsResult, IsFormOf, IsWideIn}
 use Rattle.ae_numeric.specs.Sums as spec

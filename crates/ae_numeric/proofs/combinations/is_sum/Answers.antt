@@ -6,7 +6,8 @@ use Rattle.ae_math.specs.Forms.{scale}
 use Rattle.ae_num.specs.Forms.{first_wide, IfWide}
 use Rattle.ae_num.proofs.StepLaws.{if_ok}
 use Rattle.ae_rules.specs.Linear.{IsSame}
-use Rattle.ae_rules.specs.Lines.{Fact, whole}
+use Rattle.ae_rules.specs.Lines.{Fact}
+use Rattle.ae_math.specs.Fractions.{whole}
 use Rattle.ae_numeric.specs.Stated.{sum_steps}
 use Rattle.ae_numeric.specs.Sums as spec
 use Rattle.ae_numeric.proofs.FitLaws.{fit_left, fit_right, fit_summands, fit_steps, unfit_steps, sum_fit, fit_sum}

@@ -2,14 +2,13 @@ use Rattle.std.specs.Prelude.{◌≡◌, pos, Some, None, IfOk, IfErr}
 use Rattle.std.proofs.Common.{subst, to_z, of_z}
 use Rattle.std.proofs.lemmas.Int.{to_z-of_z}
 use mir.Syntax.{w128}
-use Rattle.ae_math.specs.Fractions.{ratio}
+use Rattle.ae_math.specs.Fractions.{ratio, whole}
 use Rattle.ae_math.specs.Forms.{scale}
 use Rattle.ae_num.specs.declared.forms.Lin.{Lin}
 use Rattle.ae_num.specs.declared.numbers.NumFail.{NumFail}
 use Rattle.ae_num.specs.Forms.{meaning, SameMeaning, IsNormal, first_wide, IfWide, multiple_of, scale_steps}
 use Rattle.ae_num.proofs.StepLaws.{if_both}
 use Rattle.ae_rules.specs.Linear.{Linear}
-use Rattle.ae_rules.specs.Lines.{whole}
 use Rattle.ae_numeric.specs.Stated.{Computation, scaled}
 use Rattle.ae_numeric.specs.Computing.{IsResult, IsFormOf, IsWideIn}
 use Rattle.ae_numeric.specs.Sums as spec

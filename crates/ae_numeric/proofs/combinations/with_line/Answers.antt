@@ -7,7 +7,8 @@ use Rattle.ae_num.specs.declared.numbers.NumFail.{NumFail}
 use Rattle.ae_num.specs.Forms.{meaning, SameMeaning, IsNormal, first_wide, IfWide, sum_of, plus_steps}
 use Rattle.ae_num.proofs.StepLaws.{if_both}
 use Rattle.ae_rules.specs.Linear.{Linear}
-use Rattle.ae_rules.specs.Lines.{Fact, states, whole}
+use Rattle.ae_rules.specs.Lines.{Fact, states}
+use Rattle.ae_math.specs.Fractions.{whole}
 use Rattle.ae_numeric.specs.Stated.{Computation, scaled, added, known}
 use Rattle.ae_numeric.specs.Computing.{IsResult, IsFormOf, IsWideIn}
 use Rattle.ae_numeric.specs.Sums as spec

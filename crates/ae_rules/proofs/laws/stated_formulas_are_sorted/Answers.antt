@@ -1,5 +1,5 @@
-use Rattle.ae_rules.proofs.Stated.{line_sorted}
+use Rattle.ae_rules.proofs.Stated.{stated_sorted}
 use Rattle.ae_rules.proofs.laws.stated_formulas_are_sorted.Goals as goal
 
 pub returns : goal.returns
-returns c = line_sorted
+returns c = stated_sorted
