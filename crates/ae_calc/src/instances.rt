@@ -6,7 +6,7 @@ ghost use Rattle.ae_core.specs.Putting.{put_formula};
 ghost use Rattle.ae_rules.specs.Instances as spec;
 ghost use Rattle.ae_core.specs.declared.formulas.Formula.{out-Formula};
 
-use crate::rows::with_part;
+use ae_rules::literals::{literal, signed};
 use ae_core::copies::copy_sort;
 use ae_core::formulas::{Clause, Formula, Quant};
 use ae_core::lists::{Boxed, List, at};
@@ -79,7 +79,10 @@ pub fn put_clause(
     ensures { IfOk result (λ c. c ≡ record { positive = sign; formula = whole.now } ∷ literal (not sign) (put_formula terms.now quant.now.body) ∷ []) }
 {
     let body = substitute(alloc, quant, terms)?;
-    with_part(alloc, sign, whole, !sign, &body)
+    let mut clause = List::new(alloc);
+    clause.push(signed(alloc, sign, whole)?)?;
+    clause.push(literal(alloc, !sign, &body)?)?;
+    Ok(clause)
 }
 
 /// The same where the terms are of the sorts of the block's variables; otherwise there is none.

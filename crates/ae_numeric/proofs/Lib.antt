@@ -1,4 +1,5 @@
 pub mod AllowedLaws
+pub mod Checks
 pub mod Computations
 pub mod ComputedLaws
 pub mod DenialLaws

@@ -6,9 +6,8 @@ use Rattle.ae_num.specs.Forms.{Step}
 use Rattle.ae_base.specs.Decided.{decided}
 use Rattle.ae_core.specs.Decided.{Sort_discrete}
 use Rattle.ae_core.specs.Sorts.{sort_of, same_sort, same_numeric}
-use Rattle.ae_base.specs.Options.{known}
-use Rattle.ae_core.specs.Options.{only, ◌>>=◌}
-use Rattle.ae_rules.proofs.Congruence.{same_numeric_is}
+use Rattle.ae_base.specs.Options.{known, only, when, ◌>>=◌}
+use Rattle.ae_core.proofs.SortFacts.{same_numeric_is}
 use Rattle.ae_rules.specs.Lines.{Fact, equal, at_most, states, HaveSort, Rounds, AllowedRound, gap}
 use Rattle.ae_rules.specs.Derivations.{EndsGcd}
 use Rattle.ae_core.specs.declared.terms.Sort.{Sort, Int}
@@ -19,7 +18,7 @@ use Rattle.ae_core.specs.declared.proofs.EqLine.TheVariants.{LeRound}
 use Rattle.ae_core.specs.declared.proofs.Ending.TheVariants.{Gcd}
 use Rattle.ae_core.specs.declared.proofs.Relation.{Relation}
 use Rattle.ae_core.specs.declared.proofs.Relation.TheVariants.{Equal, AtMost, Below}
-use Rattle.ae_numeric.specs.Stated.{fact_at, is_inequality, is_equation, of_one_sort, steps_where, line_steps, ending_steps, round_steps, forward}
+use Rattle.ae_numeric.specs.Stated.{fact_at, is_inequality, is_equation, of_one_sort, steps_of, line_steps, ending_steps, round_steps, forward}
 use Rattle.ae_numeric.specs.Computing.{IsSorted}
 use Rattle.ae_numeric.specs.Rounding.{IsRounded, IsUnsolvable}
 
@@ -105,11 +104,11 @@ fact_there lines k l f b e s = ap (λ o. o >>= λ l. Some (states l)) (slice_get
 same_fact : (f g : Fact) → ◌≡◌ {A = Option Fact} (Some f) (Some g) → f ≡ g
 same_fact f g e = cc
 
-steps_there : (o : Option Fact) (f : Fact) (test : Fact → Bool) (steps : Fact → List Step) → o ≡ Some f → test f ≡ true → steps_where o test steps ≡ steps f
-steps_there o f test steps e t = ap (λ x. steps_where x test steps) e ∙ ap (λ b. cond b (steps f) []) t
+steps_there : (o : Option Fact) (f : Fact) (test : Fact → Bool) (steps : Fact → List Step) → o ≡ Some f → test f ≡ true → steps_of (o >>= λ f. when (test f) f) steps ≡ steps f
+steps_there o f test steps e t = ap (λ x. steps_of (x >>= λ f. when (test f) f) steps) e ∙ ap (λ b. steps_of (when b f) steps) t
 
-steps_none : (o : Option Fact) (f : Fact) (test : Fact → Bool) (steps : Fact → List Step) → o ≡ Some f → test f ≡ false → steps_where o test steps ≡ []
-steps_none o f test steps e t = ap (λ x. steps_where x test steps) e ∙ ap (λ b. cond b (steps f) []) t
+steps_none : (o : Option Fact) (f : Fact) (test : Fact → Bool) (steps : Fact → List Step) → o ≡ Some f → test f ≡ false → steps_of (o >>= λ f. when (test f) f) steps ≡ []
+steps_none o f test steps e t = ap (λ x. steps_of (x >>= λ f. when (test f) f) steps) e ∙ ap (λ b. steps_of (when b f) steps) t
 
 inequality_test : (f : Fact) → f.relation ≢ Equal → is_inequality f ≡ true
 inequality_test f n = by_relation f.relation n

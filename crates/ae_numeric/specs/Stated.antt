@@ -8,7 +8,7 @@ use Rattle.ae_num.specs.Forms.{Step, plus_steps, scale_steps, sum_of, multiple_o
 use Rattle.ae_num.specs.declared.forms.Lin.{Lin}
 use Rattle.ae_core.specs.Decided.{Term_discrete}
 use Rattle.ae_core.specs.Sorts.{sort_of, same_numeric}
-use Rattle.ae_core.specs.Options.{all_known, ◌>>=◌}
+use Rattle.ae_base.specs.Options.{all_known, ◌>>=◌, or_else, when}
 use Rattle.ae_rules.specs.Lines.{Fact, equal, at_most, below, states}
 use Rattle.ae_core.specs.declared.terms.Term.{Term, Term-F, Bound, Num, Fresh, Apply, para-Term}
 use Rattle.ae_core.specs.declared.terms.Term.TheOpen as layer

@@ -15,7 +15,6 @@ ghost use Rattle.ae_numeric.specs.Computing.{IsSorted, AreDistinct, IsResult, Is
 ghost use Rattle.ae_numeric.specs.Sums as spec;
 ghost use Rattle.ae_numeric.specs.Denials as denial;
 
-use crate::facts::stated;
 use crate::forms::difference;
 use crate::keys::Keys;
 use ae_core::problems::Signature;
@@ -23,6 +22,7 @@ use ae_core::proofs::{EqLine, Relation, Scaled};
 use ae_core::sorts::{same_numeric, sort_of};
 use ae_core::terms::{Sort, Term};
 use ae_num::forms::{Lin, Part, plus, scale, zero};
+use ae_rules::facts::stated;
 use ae_num::numbers::NumFail;
 use std::alloc::{AllocError, Global};
 

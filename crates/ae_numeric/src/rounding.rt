@@ -16,7 +16,6 @@ ghost use Rattle.ae_numeric.specs.Stated as spec;
 ghost use Rattle.ae_numeric.specs.Computing.{IsSorted, AreDistinct, IsResult, IsFormOf, IsWideIn};
 ghost use Rattle.ae_numeric.specs.Rounding.{IsRounded, lowered, IsUnsolvable, IsQuotient, IsApart, factor_sizes, times_part};
 
-use crate::facts::stated;
 use crate::forms::difference;
 use crate::keys::Keys;
 use ae_core::problems::Signature;
@@ -24,6 +23,7 @@ use ae_core::proofs::{EqLine, Relation};
 use ae_core::sorts::{is_sort, same_numeric, sort_of};
 use ae_core::terms::{Sort, Term};
 use ae_num::forms::{Lin, Part, fraction, plus};
+use ae_rules::facts::stated;
 use ae_num::numbers::{NumFail, gcd};
 use std::alloc::{AllocError, Global};
 
