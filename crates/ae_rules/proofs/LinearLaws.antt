@@ -2,12 +2,13 @@
 use Rattle.std.specs.Prelude.{ℕ, ℤ, pos, Bool, true, false, cond, List, [], ◌∷◌, ◌≡◌, ◌≢◌, map}
 use Rattle.std.specs.List.{AllByRecursion}
 use mathlib.Core.Path.{refl, sym, ap, ◌∙◌}
-use Rattle.ae_math.specs.Fractions.{ℚ, zero_ℚ, one_ℚ, neg_ℚ, inverse_ℚ, ◌+ℚ◌, ◌*ℚ◌, ratio, cancel}
+use Rattle.ae_math.specs.Fractions.{ℚ, zero_ℚ, one_ℚ, neg_ℚ, inverse_ℚ, ◌+ℚ◌, ◌*ℚ◌, ratio, whole}
+use Rattle.ae_math.proofs.Wholes.{whole_same, zero_whole}
 use Rattle.ae_math.specs.Forms.{Form, number, single, plus, scale, minus, is_zero, is_constant, SameForm, value}
-use Rattle.ae_math.proofs.FractionLaws.{same_frac, add_neg_q, zero_add_q, mul_zero_q, neg_mul_q, one_mul_q, same_from_zero_q, cancel_q}
-use Rattle.ae_math.proofs.FormLaws.{value-same, value-plus, value-scale}
+use Rattle.ae_math.proofs.FractionLaws.{add_neg_q, zero_add_q, mul_zero_q, same_from_zero_q, cancel_q}
+use Rattle.ae_math.proofs.FormLaws.{minus_one, value-same, value-plus, value-scale}
 use Rattle.ae_core.specs.Decided.{Term_discrete}
-use Rattle.ae_rules.specs.Lines.{Fact, equal, whole, gap, total}
+use Rattle.ae_rules.specs.Lines.{Fact, equal, gap, total}
 use Rattle.ae_rules.specs.Linear.{times, applied, form_step, form}
 use Rattle.ae_rules.specs.Combinations.{IsLinear, AllHold, Combines}
 use Rattle.ae_core.specs.declared.terms.Sort.{Sort}
@@ -74,13 +75,6 @@ real_quotient ss a top bottom real n =
     ∙ ap (λ z. cond z (single (Apply (head.Real op.Div) ss (a ∷ Num top bottom real ∷ []))) (scale (inverse_ℚ (ratio top bottom)) (form a))) n
 
 -- ---- a combination of equations that hold is an equation that holds
-minus_one : (x : ℚ) → neg_ℚ one_ℚ *ℚ x ≡ neg_ℚ x
-minus_one x = neg_mul_q one_ℚ x ∙ ap neg_ℚ (one_mul_q x)
-
-whole_zero : (z : ℤ) → whole z ≡ zero_ℚ → z ≡ pos 0
-unfolding zero_ℚ
-whole_zero z e = cancel z (pos 0) 0 (same_frac z (pos 0) 0 0 e)
-
 module _ (L : Term → ℚ) (u : ℚ) (linear : IsLinear L u) where
   gap_value : (f : Fact) → value L u (gap f) ≡ L f.right +ℚ neg_ℚ (L f.left)
   gap_value f =
@@ -100,5 +94,5 @@ module _ (L : Term → ℚ) (u : ℚ) (linear : IsLinear L u) where
   lin_respects s t d fs n same h =
       let zero' : whole d *ℚ value L u (gap (equal s t)) ≡ whole d *ℚ zero_ℚ =
       sym (value-scale L u (whole d) (gap (equal s t))) ∙ value-same Term_discrete L u (scale (whole d) (gap (equal s t))) (total fs) same ∙ total_zero fs h ∙ sym (mul_zero_q (whole d)) in
-      let none : value L u (gap (equal s t)) ≡ zero_ℚ = cancel_q (whole d) _ _ (λ e. n (whole_zero d e)) zero' in
+      let none : value L u (gap (equal s t)) ≡ zero_ℚ = cancel_q (whole d) _ _ (λ e. n (whole_same d (pos 0) (e ∙ zero_whole))) zero' in
       sym (same_from_zero_q (L t) (L s) (sym (gap_value (equal s t)) ∙ none))

@@ -128,17 +128,17 @@ module _ (sig : Signature) (ok : Fact → Bool) (hyps : List Lit) where
   pub shown_by : (xs : List EqLine) → AllAllowed sig ok hyps [] xs → (l : EqLine) → ok (states l) ≡ true → Allowed sig hyps xs l → Shown sig ok hyps (states l)
   shown_by xs a l o b = record { lines = xs ++ l ∷ []; all = all_append [] xs (l ∷ []) a ((o, b), tt); at = length xs + 0; is = stated_last xs l }
 
-  record ShownAll (us vs : List Term) : Type 0 where
-    lines : List EqLine
-    all : AllAllowed sig ok hyps [] lines
-    at : List ℕ
-    are : Equated lines at us vs
+  pub record ShownAll (us vs : List Term) : Type 0 where
+    pub lines : List EqLine
+    pub all : AllAllowed sig ok hyps [] lines
+    pub at : List ℕ
+    pub are : Equated lines at us vs
 
-  record ShownEach (fs : List (ℤ × Fact)) : Type 0 where
-    lines : List EqLine
-    all : AllAllowed sig ok hyps [] lines
-    at : List Scaled
-    are : Combined lines at fs
+  pub record ShownEach (fs : List (ℤ × Fact)) : Type 0 where
+    pub lines : List EqLine
+    pub all : AllAllowed sig ok hyps [] lines
+    pub at : List Scaled
+    pub are : Combined lines at fs
 
   pub trans_written : (s m t : Term) → ok (equal s t) ≡ true → Shown sig ok hyps (equal s m) → Shown sig ok hyps (equal m t) → Shown sig ok hyps (equal s t)
   unfolding joined

@@ -1,10 +1,10 @@
 -- Values of terms that are those of their linear forms, and combinations of equations.
 use Rattle.std.specs.Prelude.{ℤ, List, ◌≡◌}
 use Rattle.std.specs.List.{AllByRecursion}
-use Rattle.ae_math.specs.Fractions.{ℚ}
+use Rattle.ae_math.specs.Fractions.{ℚ, whole}
 use Rattle.ae_math.specs.Forms.{scale, value}
 use Rattle.ae_rules.specs.Linear.{form, IsSame}
-use Rattle.ae_rules.specs.Lines.{Fact, equal, whole, gap, total}
+use Rattle.ae_rules.specs.Lines.{Fact, equal, gap, total}
 use Rattle.ae_core.specs.declared.terms.Term.{Term}
 
 -- the values of terms are those of their linear forms, where the number 1 has the value u

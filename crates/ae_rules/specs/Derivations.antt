@@ -1,11 +1,11 @@
 -- Contradictory literals, and a derivation of a goal.
 use Rattle.std.specs.Prelude.{ℕ, ℤ, pos, ◌*ℤ◌, Bool, true, false, ◌&&◌, List, [], ◌∷◌, ◌++◌, ◌≡◌, ◌≢◌, map, reverse, slice_get, Option, Some, None}
 use Rattle.std.specs.List.{AllByRecursion, Contains, list_all, flat_map}
-use Rattle.ae_math.specs.Fractions.{ℚ, zero_ℚ, neg_ℚ, is_positive}
+use Rattle.ae_math.specs.Fractions.{ℚ, zero_ℚ, neg_ℚ, is_positive, whole}
 use Rattle.ae_core.specs.Sorts.{term_ok, formula_ok, is_closed_sort}
 use Rattle.ae_base.specs.Options.{◌>>=◌, or_else, only, all_known}
 use Rattle.ae_rules.specs.Linear.{Linear, factor_of}
-use Rattle.ae_rules.specs.Lines.{Fact, equal, states, Stated, Given, Equated, AllAllowed, fact_ok, gap, whole, HaveSort, AreNumbers, AreMultiples}
+use Rattle.ae_rules.specs.Lines.{Fact, equal, states, Stated, Given, Equated, AllAllowed, fact_ok, gap, HaveSort, AreNumbers, AreMultiples}
 use Rattle.ae_rules.specs.Clauses.{Clause, yes_of, no_of, opposite, row, refutes}
 use Rattle.ae_rules.specs.Instances.{hypothesis, instance_clause, fresh_clause, fresh_terms, exhaustion, trichotomy}
 use Rattle.ae_core.specs.Constants.{constants, formula_constants, clause_constants}

@@ -2,7 +2,7 @@
 use Rattle.std.specs.Prelude.{ℕ, zero, suc, ℤ, pos, ◌<ℤ◌, ◌≤ℤ◌, ◌+ℤ◌, ◌-ℤ◌, ◌*ℤ◌, ◌⊎◌, Bool, true, false, ◌&&◌, List, [], ◌∷◌, ◌++◌, ◌≡◌, ◌≢◌, ◌↔◌, map, length, slice_get, Some}
 use Rattle.std.specs.List.{AllByRecursion}
 use Rattle.std.specs.List.Sorted.{IsPermutation}
-use Rattle.ae_math.specs.Fractions.{ℚ, frac, zero_ℚ, ◌*ℚ◌}
+use Rattle.ae_math.specs.Fractions.{ℚ, zero_ℚ, whole, ◌*ℚ◌}
 use Rattle.ae_math.specs.Forms.{plus, minus, scale, number}
 use Rattle.ae_base.specs.Decided.{pick}
 use Rattle.ae_core.specs.Decided.{Head_discrete, Sorts_discrete}
@@ -96,10 +96,6 @@ unfoldable pub flat : Head → List Sort → Term → List Term
 flat h ss = para-Term (List Term) (flat_step h ss)
 
 -- ---- sums of earlier lines
--- an integer as a fraction
-abbrev pub whole : ℤ → ℚ
-whole z = frac z 0
-
 -- the right side minus the left side
 abbrev pub gap : Fact → Linear
 gap f = minus (form f.right) (form f.left)
