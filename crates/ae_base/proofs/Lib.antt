@@ -7,3 +7,4 @@ pub mod ListFacts
 pub mod AllOf
 pub mod Relations
 pub mod Results
+pub mod Integers
