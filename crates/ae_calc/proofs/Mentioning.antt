@@ -9,7 +9,7 @@ use native.Mathlib.Omega.{arith}
 use Rattle.ae_base.specs.Decided.{decided}
 use Rattle.ae_core.specs.Decided.{Sort_discrete, Term_discrete}
 use Rattle.ae_core.specs.Sorts.{same_sort}
-use Rattle.ae_core.specs.Options.{or_else, ◌>>=◌}
+use Rattle.ae_base.specs.Options.{or_else, ◌>>=◌}
 use Rattle.ae_rules.specs.Instances.{count_from}
 use Rattle.ae_core.specs.Constants.{constants, constants_step, formula_constants, formula_constants_step}
 use Rattle.ae_core.specs.declared.terms.Sort.{Sort}

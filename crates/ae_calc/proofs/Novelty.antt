@@ -7,7 +7,7 @@ use mathlib.Core.Path.{refl, sym, ap, ◌∙◌, subst}
 use native.Mathlib.Omega.{arith}
 use Rattle.ae_base.specs.Decided.{decided}
 use Rattle.ae_core.specs.Decided.{Term_discrete}
-use Rattle.ae_core.specs.Options.{or_else}
+use Rattle.ae_base.specs.Options.{or_else}
 use Rattle.ae_rules.specs.Lines.{states}
 use Rattle.ae_rules.specs.Clauses.{Clause}
 use Rattle.ae_rules.specs.Instances.{count_from, fresh_terms}

@@ -1,6 +1,6 @@
 //! The clauses of the lines that put sorts or terms: hypotheses, instances and fresh constants.
 ghost use Rattle.std.specs.Prelude.{◌≡◌, ◌∷◌, [], IfOk, ◌+◌, ◌≤◌, ◌^◌, length, not};
-ghost use Rattle.ae_core.specs.Options.{when};
+ghost use Rattle.ae_base.specs.Options.{when};
 ghost use Rattle.ae_rules.specs.Clauses.{literal};
 ghost use Rattle.ae_core.specs.Putting.{put_formula};
 ghost use Rattle.ae_rules.specs.Instances as spec;

@@ -13,5 +13,3 @@ pub mod instances;
 pub mod lines;
 pub mod mentions;
 pub mod propagation;
-#[cfg(test)]
-mod tests;

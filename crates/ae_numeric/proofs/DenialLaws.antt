@@ -28,9 +28,9 @@ use Rattle.ae_core.specs.declared.terms.Term.{Term}
 use Rattle.ae_core.specs.declared.proofs.Relation.{Relation}
 use Rattle.ae_core.specs.declared.proofs.Relation.TheVariants.{Equal, AtMost, Below}
 use Rattle.ae_numeric.specs.Computing.{IsFormOf, IsSorted}
-use Rattle.ae_numeric.specs.Sums.{meant, summed}
-use Rattle.ae_numeric.specs.Denials.{denies, Denies, IsDenied, denied_steps}
-use Rattle.ae_numeric.proofs.Checks.{StepChecks, states_no, states_like}
+use Rattle.ae_numeric.specs.Inner.Sums.{meant, summed}
+use Rattle.ae_numeric.specs.Inner.Denials.{denies, Denies, IsDenied, denied_steps}
+use Rattle.ae_num.proofs.Checks.{StepChecks, states_no, states_like}
 use Rattle.ae_numeric.proofs.Meanings.{ratio_is_zero, no_parts_constant, part_occurs}
 use Rattle.ae_numeric.proofs.FitLaws.{Minus, minus_turned, one_sort, of_sort, sorted_of, and_true}
 

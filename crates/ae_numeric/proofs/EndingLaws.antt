@@ -15,10 +15,10 @@ use Rattle.ae_core.specs.declared.proofs.Relation.{Relation}
 use Rattle.ae_core.specs.declared.proofs.Relation.TheVariants.{Equal, AtMost, Below}
 use Rattle.ae_core.specs.declared.proofs.Ending.TheVariants as ending
 use Rattle.ae_numeric.specs.Stated.{Computation, computed, subtracted, steps_of, numeric_fact, of_one_sort, ending_steps, is_equation, is_inequality, forward, backward}
-use Rattle.ae_numeric.specs.Sums.{difference_of, summed}
-use Rattle.ae_numeric.specs.Denials.{Denies, IsDenied, denied_steps}
+use Rattle.ae_numeric.specs.Inner.Sums.{difference_of, summed}
+use Rattle.ae_numeric.specs.Inner.Denials.{Denies, IsDenied, denied_steps}
 use Rattle.ae_numeric.proofs.DenialLaws.{stated_at, same_fact}
-use Rattle.ae_numeric.proofs.Checks.{StepChecks, states_no, states_like}
+use Rattle.ae_num.proofs.Checks.{StepChecks, states_no, states_like}
 
 abbrev Of : Relation → Term → Term → Fact
 Of r s t = record { relation = r; left = s; right = t }

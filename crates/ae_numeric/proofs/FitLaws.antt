@@ -24,10 +24,10 @@ use Rattle.ae_core.specs.declared.proofs.Relation.TheVariants.{Equal, AtMost, Be
 use Rattle.std.specs.declared.result.Result.{Result}
 use Rattle.ae_num.specs.Forms.{Step}
 use Rattle.ae_num.specs.declared.numbers.NumFail.{NumFail}
-use Rattle.ae_numeric.proofs.Checks.{StepChecks, states_no, states_like}
+use Rattle.ae_num.proofs.Checks.{StepChecks, states_no, states_like}
 use Rattle.ae_numeric.specs.Stated.{facts_at, of_one_sort, steps_of, sum_steps, sum_line_steps}
 use Rattle.ae_numeric.specs.Computing.{IsSorted}
-use Rattle.ae_numeric.specs.Sums.{may_join, summed, meant, meant_sum, facts_of, part_fits, sum_fits, IsSummand, IsSum}
+use Rattle.ae_numeric.specs.Inner.Sums.{may_join, summed, meant, meant_sum, facts_of, part_fits, sum_fits, IsSummand, IsSum}
 
 -- ---- numeric sorts
 decided_yes : {P : Type 0} (d : Dec P) → decided d ≡ true → P

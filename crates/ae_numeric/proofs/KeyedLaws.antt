@@ -14,7 +14,8 @@ use Rattle.ae_core.proofs.OrderLaws.{term_exact}
 use Rattle.ae_core.specs.declared.terms.Term.{Term}
 use Rattle.ae_numeric.specs.Stated.{place_of, with_key}
 use Rattle.ae_numeric.specs.Computing.{AreDistinct}
-use Rattle.ae_numeric.specs.Keyed.{place_in, IsIndex, Keeps}
+use Rattle.ae_numeric.specs.Inner.Keyed.{place_in, IsIndex}
+use Rattle.ae_numeric.specs.Computing.{Keeps}
 
 none_some : {A B : Type 0} {x : A} → ◌≡◌ {A = Option A} None (Some x) → B
 none_some e = cc

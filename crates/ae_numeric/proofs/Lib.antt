@@ -1,5 +1,4 @@
 pub mod AllowedLaws
-pub mod Checks
 pub mod Computations
 pub mod ComputedLaws
 pub mod DenialLaws

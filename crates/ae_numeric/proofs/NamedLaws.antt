@@ -22,7 +22,7 @@ use Rattle.ae_rules.specs.Linear.{Linear, IsSame, is_number as is_constant_form,
 use Rattle.ae_core.specs.declared.terms.Term.{Term, Bound}
 use Rattle.ae_numeric.specs.Stated.{place_of, with_key, key_form, is_number}
 use Rattle.ae_numeric.specs.Computing.{named, AreDistinct, HasKeys, IsFormOf}
-use Rattle.ae_numeric.specs.Keyed.{Keeps}
+use Rattle.ae_numeric.specs.Computing.{Keeps}
 use Rattle.ae_numeric.proofs.KeyedLaws.{keeps_within, keeps_get, place_within, place_get}
 
 -- ---- terms put for the keys of a form

@@ -9,7 +9,7 @@ use Rattle.ae_core.specs.Sorts.{sort_of, same_sort, same_numeric}
 use Rattle.ae_base.specs.Options.{known, only, when, ◌>>=◌}
 use Rattle.ae_core.proofs.SortFacts.{same_numeric_is}
 use Rattle.ae_rules.specs.Lines.{Fact, equal, at_most, states, HaveSort, Rounds, AllowedRound, gap}
-use Rattle.ae_rules.specs.Derivations.{EndsGcd}
+use Rattle.ae_rules.specs.Derivations.{EndsGcd, HasNoSolution}
 use Rattle.ae_core.specs.declared.terms.Sort.{Sort, Int}
 use Rattle.ae_core.specs.declared.terms.Term.{Term}
 use Rattle.ae_core.specs.declared.problems.Signature.{Signature}
@@ -20,7 +20,7 @@ use Rattle.ae_core.specs.declared.proofs.Relation.{Relation}
 use Rattle.ae_core.specs.declared.proofs.Relation.TheVariants.{Equal, AtMost, Below}
 use Rattle.ae_numeric.specs.Stated.{fact_at, is_inequality, is_equation, of_one_sort, steps_of, line_steps, ending_steps, round_steps, forward}
 use Rattle.ae_numeric.specs.Computing.{IsSorted}
-use Rattle.ae_numeric.specs.Rounding.{IsRounded, IsUnsolvable}
+use Rattle.ae_numeric.specs.Inner.Rounding.{IsRounded}
 
 -- ---- sorts
 pub never : {A : Type 0} → false ≡ true → A
@@ -228,10 +228,10 @@ module _ (sig : Signature) (lines : List EqLine) (s t : Term) (k : ℕ) (there :
   pub gcd_states : of_one_sort sig (equal s t) (equal s t) ≡ true → ending_steps sig lines (Gcd k) ≡ (forward (equal s t) []).steps
   gcd_states e = steps_there (fact_at lines k) (equal s t) (λ g. is_equation g && of_one_sort sig g g) (λ g. (forward g []).steps) there e
 
-  pub ends_unsolvable : EndsGcd sig lines k → IsUnsolvable (gap (equal s t))
+  pub ends_unsolvable : EndsGcd sig lines k → HasNoSolution (gap (equal s t))
   ends_unsolvable a =
-      subst (λ f. IsUnsolvable (gap f)) (same_fact (equal a.0 a.1) (equal s t) (sym a.2 ∙ there))
-      (record { occurs = a.4; divisor = a.5; divides = a.6; constant = a.7; is = a.8; apart = a.9 })
+      subst (λ f. HasNoSolution (gap f)) (same_fact (equal a.0 a.1) (equal s t) (sym a.2 ∙ there))
+      a.4
 
   pub ends_int : (x : Sort) → EndsGcd sig lines k → sort_of sig s ≡ Some x → x ≡ Int
   ends_int x a e = same_some x Int (sym e ∙ (subst (HaveSort sig Int) (same_fact (equal a.0 a.1) (equal s t) (sym a.2 ∙ there)) a.3).0)
@@ -239,5 +239,5 @@ module _ (sig : Signature) (lines : List EqLine) (s t : Term) (k : ℕ) (there :
       same_some : (x y : Sort) → ◌≡◌ {A = Option Sort} (Some x) (Some y) → x ≡ y
       same_some x y e = cc
 
-  pub unsolvable_ends : HaveSort sig Int (equal s t) → IsUnsolvable (gap (equal s t)) → EndsGcd sig lines k
-  unsolvable_ends h u = (s, t, there, h, u.occurs, u.divisor, u.divides, u.constant, u.is, u.apart)
+  pub unsolvable_ends : HaveSort sig Int (equal s t) → HasNoSolution (gap (equal s t)) → EndsGcd sig lines k
+  unsolvable_ends h u = (s, t, there, h, u)

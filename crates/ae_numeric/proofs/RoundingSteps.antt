@@ -16,7 +16,7 @@ use Rattle.ae_core.specs.declared.proofs.Relation.{Relation}
 use Rattle.ae_core.specs.declared.proofs.Relation.TheVariants.{Equal, AtMost, Below}
 use Rattle.ae_numeric.specs.Stated.{Computation, known, minus_one, taken_down}
 use Rattle.ae_numeric.specs.Computing.{AreDistinct, IsFormOf, IsResult, IsWideIn}
-use Rattle.ae_numeric.specs.Rounding.{lowered}
+use Rattle.ae_numeric.specs.Inner.Rounding.{lowered}
 use Rattle.ae_numeric.proofs.Meanings.{sum_form}
 use Rattle.ae_numeric.proofs.Computations.{both_none, then_wide, added_result, added_wide, added_to_result, added_to_wide}
 

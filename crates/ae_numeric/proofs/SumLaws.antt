@@ -21,7 +21,7 @@ use Rattle.ae_core.specs.declared.proofs.Scaled.{Scaled}
 use Rattle.ae_core.specs.declared.proofs.Relation.{Relation}
 use Rattle.ae_numeric.specs.Stated.{Computation, known, nought, scaled, added, added_up, sum_steps}
 use Rattle.ae_numeric.specs.Computing.{IsSorted, AreDistinct, IsResult, IsFormOf, IsWideIn}
-use Rattle.ae_numeric.specs.Sums.{summed, meant, facts_of, meant_sum, IsSummand, IsRunning}
+use Rattle.ae_numeric.specs.Inner.Sums.{summed, meant, facts_of, meant_sum, IsSummand, IsRunning}
 use Rattle.ae_numeric.proofs.Meanings.{means_same, kept_twice, kept_form, equal_forms, same_meanings}
 use Rattle.ae_numeric.proofs.Computations.{added_up_push, added_up_append, added_to_result, added_to_wide, more_wide, wide_too}
 

@@ -9,12 +9,11 @@ use Rattle.ae_num.specs.declared.forms.Lin.{Lin}
 use Rattle.ae_core.specs.Decided.{Term_discrete}
 use Rattle.ae_core.specs.Sorts.{sort_of, same_numeric}
 use Rattle.ae_base.specs.Options.{all_known, ◌>>=◌, or_else, when}
+use Rattle.ae_rules.specs.Linear.{Rule, rule_of, opaque_term, sum_of as sum_rule, difference_of as difference_rule, negation_of as negation_rule, product_of as product_rule, quotient_of as quotient_rule}
 use Rattle.ae_rules.specs.Lines.{Fact, equal, at_most, below, states}
 use Rattle.ae_core.specs.declared.terms.Term.{Term, Term-F, Bound, Num, Fresh, Apply, para-Term}
 use Rattle.ae_core.specs.declared.terms.Term.TheOpen as layer
 use Rattle.ae_core.specs.declared.terms.Head.{Head}
-use Rattle.ae_core.specs.declared.terms.Head.TheVariants as head
-use Rattle.ae_core.specs.declared.terms.Op.TheVariants as op
 use Rattle.ae_core.specs.declared.problems.Signature.{Signature}
 use Rattle.ae_core.specs.declared.proofs.EqLine.{EqLine}
 use Rattle.ae_core.specs.declared.proofs.EqLine.TheVariants.{EqLin, LeSum, LtSum, LeRound}
@@ -117,18 +116,17 @@ divided_by whole a (Num n d real) =
     cond (int_eq n (pos 0)) (opaque whole) (scaled (inverse_top (numeral n d)) (inverse_bottom (numeral n d)) a)
 divided_by whole a _ = opaque whole
 
--- an application to arguments, each with its computation
+-- the computation of an application, of arguments that each stand with theirs, by the one table of the arithmetic that is computed
+abbrev pub ruled : Term → Rule (Term × Computation) → Computation
+ruled whole opaque_term = opaque whole
+ruled whole (sum_rule a b) = added a.1 b.1
+ruled whole (difference_rule a b) = subtracted a.1 b.1
+ruled whole (negation_rule a) = scaled (neg_ℤ (pos 1)) (pos 1) a.1
+ruled whole (product_rule a b) = multiplied whole a.1 b.1
+ruled whole (quotient_rule a b) = divided_by whole a.1 b.0
+
 abbrev pub applied : Term → Head → List (Term × Computation) → Computation
-applied whole (head.Int op.Add) (a ∷ b ∷ []) = added a.1 b.1
-applied whole (head.Int op.Sub) (a ∷ b ∷ []) = subtracted a.1 b.1
-applied whole (head.Int op.Neg) (a ∷ []) = scaled (neg_ℤ (pos 1)) (pos 1) a.1
-applied whole (head.Int op.Mul) (a ∷ b ∷ []) = multiplied whole a.1 b.1
-applied whole (head.Real op.Add) (a ∷ b ∷ []) = added a.1 b.1
-applied whole (head.Real op.Sub) (a ∷ b ∷ []) = subtracted a.1 b.1
-applied whole (head.Real op.Neg) (a ∷ []) = scaled (neg_ℤ (pos 1)) (pos 1) a.1
-applied whole (head.Real op.Mul) (a ∷ b ∷ []) = multiplied whole a.1 b.1
-applied whole (head.Real op.Div) (a ∷ b ∷ []) = divided_by whole a.1 b.0
-applied whole _ _ = opaque whole
+applied whole h args = ruled whole (rule_of h args)
 
 abbrev pub computed_step : Term-F (Term × Computation) → Computation
 computed_step (layer.Bound n) = opaque (Bound n)

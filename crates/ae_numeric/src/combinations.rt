@@ -12,8 +12,8 @@ ghost use Rattle.ae_core.specs.declared.proofs.EqLine.TheVariants.{EqLin, LeSum,
 ghost use Rattle.ae_core.specs.declared.proofs.Ending.TheVariants.{Const, Zero};
 ghost use Rattle.ae_numeric.specs.Stated.{known, nought, scaled, added, added_up, sum_steps, sum_line_steps, line_steps, ending_steps, is_equation as equation};
 ghost use Rattle.ae_numeric.specs.Computing.{IsSorted, AreDistinct, IsResult, IsFormOf, IsWideIn};
-ghost use Rattle.ae_numeric.specs.Sums as spec;
-ghost use Rattle.ae_numeric.specs.Denials as denial;
+ghost use Rattle.ae_numeric.specs.Inner.Sums as spec;
+ghost use Rattle.ae_numeric.specs.Inner.Denials as denial;
 
 use crate::forms::difference;
 use crate::keys::Keys;

@@ -6,15 +6,15 @@ ghost use Rattle.ae_math.specs.Forms.{minus, plus as sum_of_forms};
 ghost use Rattle.ae_num.specs.Forms.{meaning, SameMeaning, IsNormal, IsCommonDivisor, first_wide, IfWide, plus_steps, sum_of};
 ghost use Rattle.ae_rules.specs.Linear.{form};
 ghost use Rattle.ae_core.specs.Sorts as sorts;
-ghost use Rattle.ae_core.specs.Options as sorts_options;
+ghost use Rattle.ae_base.specs.Options as sorts_options;
 ghost use Rattle.ae_rules.specs.Lines.{AllowedRound, IsFloor, at_most, equal, gap};
-ghost use Rattle.ae_rules.specs.Derivations.{EndsGcd};
+ghost use Rattle.ae_rules.specs.Derivations.{EndsGcd, HasNoSolution};
 ghost use Rattle.ae_core.specs.declared.proofs.EqLine.TheVariants.{LeRound};
 ghost use Rattle.ae_core.specs.declared.proofs.Ending.TheVariants.{Gcd};
 ghost use Rattle.ae_numeric.specs.Stated.{computed, subtracted, taken_down, line_steps, ending_steps, round_steps, of_one_sort, forward};
 ghost use Rattle.ae_numeric.specs.Stated as spec;
 ghost use Rattle.ae_numeric.specs.Computing.{IsSorted, AreDistinct, IsResult, IsFormOf, IsWideIn};
-ghost use Rattle.ae_numeric.specs.Rounding.{IsRounded, lowered, IsUnsolvable, IsQuotient, IsApart, factor_sizes, times_part};
+ghost use Rattle.ae_numeric.specs.Inner.Rounding.{IsRounded, lowered, IsQuotient, IsApart, factor_sizes, times_part};
 
 use crate::forms::difference;
 use crate::keys::Keys;
@@ -183,7 +183,7 @@ fn rounds(
 fn is_unsolvable(alloc: Global, left: &Term, right: &Term) -> Result<bool, NumFail>
     requires left { IsSorted left.now }
     requires right { IsSorted right.now }
-    ensures exact { IfOk result (λ b. IsTrue b ↔ IsUnsolvable (gap (equal left.now right.now))) }
+    ensures exact { IfOk result (λ b. IsTrue b ↔ HasNoSolution (gap (equal left.now right.now))) }
     ensures fits { OnOk result (first_wide (forward (equal left.now right.now) []).steps ≡ None) }
     ensures wide { IfErr result (λ fail. IfWide fail (λ w. first_wide (forward (equal left.now right.now) []).steps ≡ Some w)) }
 {

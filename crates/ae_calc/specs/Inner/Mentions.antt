@@ -4,7 +4,7 @@ use Rattle.std.specs.List.{list_any}
 use Rattle.ae_base.specs.Decided.{decided}
 use Rattle.ae_core.specs.Decided.{Term_discrete}
 use Rattle.ae_core.specs.Sorts.{same_sort}
-use Rattle.ae_core.specs.Options.{or_else, ◌>>=◌}
+use Rattle.ae_base.specs.Options.{or_else, ◌>>=◌}
 use Rattle.ae_rules.specs.Clauses.{Clause}
 use Rattle.ae_rules.specs.Lines.{states}
 use Rattle.ae_rules.specs.Instances.{count_from, fresh_terms}

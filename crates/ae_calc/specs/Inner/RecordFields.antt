@@ -1,6 +1,6 @@
 -- Records: how many fields a type has, and when lines equate the fields of two terms.
 use Rattle.std.specs.Prelude.{ℕ, List, length, slice_get, ◌≡◌, Option, Some, None}
-use Rattle.ae_core.specs.Options.{◌>>=◌}
+use Rattle.ae_base.specs.Options.{◌>>=◌}
 use Rattle.ae_rules.specs.Lines.{Equated, fields_from}
 use Rattle.ae_core.specs.declared.terms.Sort.{Sort, Named}
 use Rattle.ae_core.specs.declared.terms.Term.{Term, Apply}

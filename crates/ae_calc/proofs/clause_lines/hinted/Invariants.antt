@@ -1,5 +1,5 @@
 use Rattle.std.proofs.Common.{◌≡◌, map, take, Some}
-use Rattle.ae_core.specs.Options.{all_known}
+use Rattle.ae_base.specs.Options.{all_known}
 use Rattle.ae_rules.specs.Derivations as spec
 use Rattle.ae_calc.proofs.clause_lines.hinted.Given as goal
 

@@ -9,7 +9,7 @@ use Rattle.ae_rules.specs.Lines.{Fact}
 use Rattle.ae_math.specs.Fractions.{whole}
 use Rattle.ae_numeric.specs.Stated.{scaled, sum_steps}
 use Rattle.ae_numeric.specs.Computing.{IsResult, IsFormOf, IsWideIn}
-use Rattle.ae_numeric.specs.Sums as spec
+use Rattle.ae_numeric.specs.Inner.Sums as spec
 use Rattle.ae_numeric.proofs.SumLaws.{own_wide, rest_wide, all_fit, balance_exact}
 use Rattle.ae_numeric.proofs.Computations.{err_is}
 use Rattle.ae_numeric.proofs.combinations.balances.Goals as goal

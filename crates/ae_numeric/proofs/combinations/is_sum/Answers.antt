@@ -7,8 +7,8 @@ use Rattle.ae_rules.specs.Linear.{IsSame}
 use Rattle.ae_rules.specs.Lines.{Fact}
 use Rattle.ae_math.specs.Fractions.{whole}
 use Rattle.ae_numeric.specs.Stated.{sum_steps}
-use Rattle.ae_numeric.specs.Sums as spec
-use Rattle.ae_numeric.proofs.Checks.{StepChecks}
+use Rattle.ae_numeric.specs.Inner.Sums as spec
+use Rattle.ae_num.proofs.Checks.{StepChecks}
 use Rattle.ae_numeric.proofs.FitLaws.{fit_sorted, sum_not, sum_is}
 use Rattle.ae_numeric.proofs.combinations.is_sum.Goals as goal
 

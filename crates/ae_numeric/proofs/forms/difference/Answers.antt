@@ -8,8 +8,8 @@ use Rattle.ae_rules.specs.Linear.{form}
 use Rattle.ae_core.specs.declared.terms.Term.{Bound}
 use Rattle.ae_numeric.specs.Stated.{computed, subtracted}
 use Rattle.ae_numeric.specs.Computing.{IsFormOf, IsResult, IsWideIn}
-use Rattle.ae_numeric.specs.Rules.{AreResults}
-use Rattle.ae_numeric.specs.Keyed.{Keeps}
+use Rattle.ae_numeric.specs.Inner.Rules.{AreResults}
+use Rattle.ae_numeric.specs.Computing.{Keeps}
 use Rattle.ae_numeric.specs.declared.forms.Operation.TheVariants.{Difference}
 use Rattle.ae_numeric.proofs.KeyedLaws.{keeps_then}
 use Rattle.ae_numeric.proofs.NamedLaws.{kept_form, difference_is_form}

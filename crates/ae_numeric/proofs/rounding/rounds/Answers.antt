@@ -8,7 +8,7 @@ use Rattle.ae_rules.specs.Linear.{form}
 use Rattle.ae_rules.specs.Lines.{Fact, at_most}
 use Rattle.ae_numeric.specs.Stated.{computed, subtracted, taken_down, round_steps}
 use Rattle.ae_numeric.specs.Computing.{IsFormOf, IsResult}
-use Rattle.ae_numeric.specs.Rounding.{lowered}
+use Rattle.ae_numeric.specs.Inner.Rounding.{lowered}
 use Rattle.ae_numeric.proofs.Meanings.{kept_form}
 use Rattle.ae_numeric.proofs.RoundingLaws.{rounded_quotient, quotient_rounded}
 use Rattle.ae_numeric.proofs.RoundingSteps.{two_fit, second_wide}

@@ -9,7 +9,7 @@ use Rattle.ae_core.specs.declared.problems.Signature.{Signature}
 use Rattle.ae_core.specs.declared.proofs.Relation.{Relation}
 use Rattle.ae_core.specs.declared.proofs.Relation.TheVariants.{Equal, AtMost, Below}
 use Rattle.ae_numeric.specs.Stated.{of_one_sort}
-use Rattle.ae_numeric.specs.Sums.{summed}
+use Rattle.ae_numeric.specs.Inner.Sums.{summed}
 
 -- the relation denies that the gap is this number, over any positive denominator
 abbrev pub denies : Relation → ℤ → Bool

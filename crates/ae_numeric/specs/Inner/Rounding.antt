@@ -31,15 +31,6 @@ abbrev pub lowered : Relation → Linear → Linear
 lowered Below f = plus f (number (whole (neg_ℤ (pos 1))))
 lowered _ f = f
 
--- a sum of opaque terms with whole factors, which have a common divisor that doesn't divide the constant
-pub record IsUnsolvable (gap : Linear) : Type 0 where
-  pub occurs : (u : Term) × (factor_of gap u ≢ zero_ℚ)
-  pub divisor : ℕ
-  pub divides : AreMultiples gap divisor
-  pub constant : ℤ
-  pub is : gap.constant ≡ whole constant
-  pub apart : (z : ℤ) → constant ≢ z *ℤ pos divisor
-
 -- ---- normal forms
 -- the factors, without their signs
 abbrev pub factor_sizes : List Part → List ℕ

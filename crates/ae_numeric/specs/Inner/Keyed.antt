@@ -1,5 +1,5 @@
 -- Terms as keys, lent, and where each stands among the keys.
-use Rattle.std.specs.Prelude.{ℕ, suc, ◌<◌, ◌≡◌, List, [], ◌∷◌, length, slice_get, Option, Some, None}
+use Rattle.std.specs.Prelude.{ℕ, suc, ◌≡◌, List, [], ◌∷◌, Option, Some, None}
 use Rattle.std.specs.Option.{option_map}
 use Rattle.std.specs.Cmp.{IsTotalOrder}
 use Rattle.std.proofs.lemmas.Cmp.{on_total}
@@ -20,7 +20,3 @@ place_in (k ∷ ks) t = pick (Term_discrete k t) (Some 0) (option_map suc (place
 -- it finds each term where it stands
 abbrev pub IsIndex : List Term → (Term → Option ℕ) → Type 0
 IsIndex ks found = (t : Term) → found t ≡ place_in ks t
-
--- the first keys are those from before
-abbrev pub Keeps : List Term → List Term → Type 0
-Keeps before after = (k : ℕ) → k < length before → slice_get after k ≡ slice_get before k
