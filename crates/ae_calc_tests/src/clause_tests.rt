@@ -1,5 +1,5 @@
 //! Each kind of clause line where it is allowed, and where it is refused.
-use crate::fixture::{A, B, By, C, Fact, RED, Say, THING, U, X, block, different, equal, formula, literals, named, row, signature, term, word};
+use crate::fixture::{A, B, By, C, Fact, RED, Say, THING, U, X, block, different, equal, formula, literals, named, signature, step, term, word};
 use ae_calc::clause_lines::allowed;
 use ae_core::formulas::{Formula, Quant};
 use ae_core::lists::{Boxed, List};
@@ -179,7 +179,7 @@ fn numbers_of_one_sort_are_in_order(rt: HostRuntime) -> Result<(), NumFail> {
 fn denied(alloc: Global, hyp: Fact) -> Result<ClauseLine, AllocError> {
     let hyps = [hyp, different(hyp.left, hyp.right)];
     let ending = Ending::Neq { line: 0, hyp: 1 };
-    Ok(ClauseLine::Block(block(alloc, &hyps, &[row(hyp, By::Hyp(0))], ending)?))
+    Ok(ClauseLine::Block(block(alloc, &hyps, &[step(hyp, By::Hyp(0))], ending)?))
 }
 
 #[test]

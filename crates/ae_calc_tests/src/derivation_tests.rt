@@ -1,5 +1,5 @@
 //! Whole proofs: one that derives its goal, and what is left when a part is taken away.
-use crate::fixture::{A, B, By, C, Row, Say, block, different, equal, formula, row, signature, word};
+use crate::fixture::{A, B, By, C, Row, Say, block, different, equal, formula, signature, step, word};
 use ae_calc::derivation::derives;
 use ae_core::formulas::Formula;
 use ae_core::lists::{Boxed, List};
@@ -45,9 +45,9 @@ fn joining(alloc: Global, first: usize, second: usize) -> Result<ClauseLine, All
     let (a, b, c) = ([Say::Of(A)], [Say::Of(B)], [Say::Of(C)]);
     let hyps = [equal(&a, &b), equal(&b, &c), different(&a, &c)];
     let rows: [Row; 3] = [
-        row(hyps[0], By::Hyp(0)),
-        row(hyps[1], By::Hyp(1)),
-        row(equal(&a, &c), By::Trans(first, second)),
+        step(hyps[0], By::Hyp(0)),
+        step(hyps[1], By::Hyp(1)),
+        step(equal(&a, &c), By::Trans(first, second)),
     ];
     let ending = Ending::Neq { line: 2, hyp: 2 };
     Ok(ClauseLine::Block(block(alloc, &hyps, &rows, ending)?))

@@ -1,5 +1,5 @@
 //! Each derived line and each ending, once allowed and at least once refused.
-use crate::fixture::{A, B, By, C, EVEN, Fact, GREEN, JOIN, PAIR, POINT, RED, Row, Say, U, WRAP, X, Y, block, different, equal, fact, row, signature, term};
+use crate::fixture::{A, B, By, C, EVEN, Fact, GREEN, JOIN, PAIR, POINT, RED, Row, Say, U, WRAP, X, Y, block, different, equal, relate, signature, step, term};
 use ae_calc::lines::block_allowed;
 use ae_core::formulas::{Formula, Lit};
 use ae_core::lists::List;
@@ -35,24 +35,24 @@ fn each_line_of_terms(rt: HostRuntime) -> Result<(), NumFail> {
     );
     let hyps = [equal(&a, &b), equal(&b, &c), equal(&c, &c), different(&a, &b)];
     let rows = [
-        row(equal(&a, &b), By::Hyp(0)),
-        row(equal(&b, &c), By::Hyp(1)),
-        row(equal(&c, &c), By::Hyp(2)),
+        step(equal(&a, &b), By::Hyp(0)),
+        step(equal(&b, &c), By::Hyp(1)),
+        step(equal(&c, &c), By::Hyp(2)),
     ];
     for (line, right) in [
-        (row(equal(&b, &c), By::Hyp(1)), true),
-        (row(equal(&b, &c), By::Hyp(0)), false),
-        (row(equal(&a, &a), By::Refl), true),
-        (row(equal(&a, &b), By::Refl), false),
-        (row(equal(&b, &a), By::Sym(0)), true),
-        (row(equal(&b, &c), By::Sym(0)), false),
-        (row(equal(&a, &c), By::Trans(0, 1)), true),
-        (row(equal(&a, &c), By::Trans(1, 0)), false),
-        (row(equal(&wa, &wb), By::Cong(&[0])), true),
-        (row(equal(&wa, &wb), By::Cong(&[])), false),
-        (row(equal(&grouped, &regrouped), By::Ac), true),
-        (row(equal(&grouped, &short), By::Ac), false),
-        (row(equal(&pair, &turned), By::Ac), false),
+        (step(equal(&b, &c), By::Hyp(1)), true),
+        (step(equal(&b, &c), By::Hyp(0)), false),
+        (step(equal(&a, &a), By::Refl), true),
+        (step(equal(&a, &b), By::Refl), false),
+        (step(equal(&b, &a), By::Sym(0)), true),
+        (step(equal(&b, &c), By::Sym(0)), false),
+        (step(equal(&a, &c), By::Trans(0, 1)), true),
+        (step(equal(&a, &c), By::Trans(1, 0)), false),
+        (step(equal(&wa, &wb), By::Cong(&[0])), true),
+        (step(equal(&wa, &wb), By::Cong(&[])), false),
+        (step(equal(&grouped, &regrouped), By::Ac), true),
+        (step(equal(&grouped, &short), By::Ac), false),
+        (step(equal(&pair, &turned), By::Ac), false),
     ] {
         assert_eq!(rt; stands(rt.alloc(), &hyps, rows, line)?, right);
     }
@@ -68,16 +68,16 @@ fn each_line_of_records(rt: HostRuntime) -> Result<(), NumFail> {
     let cy = [Say::At(1), Say::Point, Say::At(0), Say::Of(POINT), Say::At(1), Say::Of(POINT)];
     let hyps = [equal(&a, &b), equal(&a, &a), equal(&a, &a), different(&a, &b)];
     let rows = [
-        row(equal(&a, &b), By::Hyp(0)),
-        row(equal(&cx, &px), By::Field),
-        row(equal(&cy, &py), By::Field),
+        step(equal(&a, &b), By::Hyp(0)),
+        step(equal(&cx, &px), By::Field),
+        step(equal(&cy, &py), By::Field),
     ];
     for (line, right) in [
-        (row(equal(&cy, &py), By::Field), true),
-        (row(equal(&cy, &px), By::Field), false),
-        (row(equal(&copy, &p), By::Fields(&[1, 2])), true),
-        (row(equal(&copy, &p), By::Fields(&[2, 1])), false),
-        (row(equal(&copy, &p), By::Fields(&[1])), false),
+        (step(equal(&cy, &py), By::Field), true),
+        (step(equal(&cy, &px), By::Field), false),
+        (step(equal(&copy, &p), By::Fields(&[1, 2])), true),
+        (step(equal(&copy, &p), By::Fields(&[2, 1])), false),
+        (step(equal(&copy, &p), By::Fields(&[1])), false),
     ] {
         assert_eq!(rt; stands(rt.alloc(), &hyps, rows, line)?, right);
     }
@@ -89,9 +89,9 @@ fn follows(alloc: Global, given: Fact, from: Fact, line: Row) -> Result<bool, Nu
     let (a, b) = ([Say::Of(A)], [Say::Of(B)]);
     let hyps = [equal(&a, &b), given, equal(&a, &a), different(&a, &b)];
     let rows = [
-        row(equal(&a, &b), By::Hyp(0)),
-        row(from, By::Hyp(1)),
-        row(equal(&a, &a), By::Refl),
+        step(equal(&a, &b), By::Hyp(0)),
+        step(from, By::Hyp(1)),
+        step(equal(&a, &a), By::Refl),
     ];
     stands(alloc, &hyps, rows, line)
 }
@@ -101,16 +101,16 @@ fn each_inequality_by_a_hypothesis(rt: HostRuntime) -> Result<(), NumFail> {
     let (x, y) = ([Say::Of(X)], [Say::Of(Y)]);
     let (le, lt) = (Relation::AtMost, Relation::Below);
     for (given, states, right) in [
-        (fact(true, le, &x, &y), fact(true, le, &x, &y), true),
-        (fact(false, le, &x, &y), fact(true, le, &x, &y), false),
-        (fact(false, lt, &y, &x), fact(true, le, &x, &y), true),
-        (fact(true, lt, &y, &x), fact(true, le, &x, &y), false),
-        (fact(true, lt, &x, &y), fact(true, lt, &x, &y), true),
-        (fact(false, lt, &x, &y), fact(true, lt, &x, &y), false),
-        (fact(false, le, &y, &x), fact(true, lt, &x, &y), true),
-        (fact(true, le, &y, &x), fact(true, lt, &x, &y), false),
+        (relate(true, le, &x, &y), relate(true, le, &x, &y), true),
+        (relate(false, le, &x, &y), relate(true, le, &x, &y), false),
+        (relate(false, lt, &y, &x), relate(true, le, &x, &y), true),
+        (relate(true, lt, &y, &x), relate(true, le, &x, &y), false),
+        (relate(true, lt, &x, &y), relate(true, lt, &x, &y), true),
+        (relate(false, lt, &x, &y), relate(true, lt, &x, &y), false),
+        (relate(false, le, &y, &x), relate(true, lt, &x, &y), true),
+        (relate(true, le, &y, &x), relate(true, lt, &x, &y), false),
     ] {
-        assert_eq!(rt; follows(rt.alloc(), given, states, row(states, By::Hyp(1)))?, right);
+        assert_eq!(rt; follows(rt.alloc(), given, states, step(states, By::Hyp(1)))?, right);
     }
     Ok(())
 }
@@ -126,17 +126,17 @@ fn each_sum_and_rounding(rt: HostRuntime) -> Result<(), NumFail> {
     let (none, two, three) = ([Say::Int(0)], [Say::Int(2)], [Say::Int(3)]);
     let (eq, le, lt) = (Relation::Equal, Relation::AtMost, Relation::Below);
     for (given, states, by, right) in [
-        (fact(true, eq, &x, &y), fact(true, eq, &dx, &dy), By::Sum(3, 6, 1), true),
-        (fact(true, eq, &x, &y), fact(true, eq, &dx, &dy), By::Sum(3, 5, 1), false),
-        (fact(true, eq, &x, &y), fact(true, eq, &dx, &dy), By::Sum(0, 0, 1), false),
-        (fact(true, le, &x, &y), fact(true, le, &dx, &dy), By::Sum(1, 2, 1), true),
-        (fact(true, le, &x, &y), fact(true, le, &dy, &dx), By::Sum(1, -2, 1), false),
-        (fact(true, lt, &x, &y), fact(true, lt, &dx, &dy), By::Sum(1, 2, 1), true),
-        (fact(true, le, &x, &y), fact(true, lt, &dx, &dy), By::Sum(1, 2, 1), false),
-        (fact(true, le, &none, &lower), fact(true, le, &two, &x), By::Round(1), true),
-        (fact(true, le, &none, &lower), fact(true, le, &three, &x), By::Round(1), false),
+        (relate(true, eq, &x, &y), relate(true, eq, &dx, &dy), By::Sum(3, 6, 1), true),
+        (relate(true, eq, &x, &y), relate(true, eq, &dx, &dy), By::Sum(3, 5, 1), false),
+        (relate(true, eq, &x, &y), relate(true, eq, &dx, &dy), By::Sum(0, 0, 1), false),
+        (relate(true, le, &x, &y), relate(true, le, &dx, &dy), By::Sum(1, 2, 1), true),
+        (relate(true, le, &x, &y), relate(true, le, &dy, &dx), By::Sum(1, -2, 1), false),
+        (relate(true, lt, &x, &y), relate(true, lt, &dx, &dy), By::Sum(1, 2, 1), true),
+        (relate(true, le, &x, &y), relate(true, lt, &dx, &dy), By::Sum(1, 2, 1), false),
+        (relate(true, le, &none, &lower), relate(true, le, &two, &x), By::Round(1), true),
+        (relate(true, le, &none, &lower), relate(true, le, &three, &x), By::Round(1), false),
     ] {
-        assert_eq!(rt; follows(rt.alloc(), given, given, row(states, by))?, right);
+        assert_eq!(rt; follows(rt.alloc(), given, given, step(states, by))?, right);
     }
     Ok(())
 }
@@ -155,14 +155,14 @@ fn a_wide_product_is_answered(rt: HostRuntime) {
         right: i128::MAX,
     });
     for times in [0, 2] {
-        let line = row(given, By::Sum(times, i128::MAX, 1));
+        let line = step(given, By::Sum(times, i128::MAX, 1));
         assert_eq!(rt; follows(rt.alloc(), given, given, line), Err(wide));
     }
 }
 
 /// The block of one hypothesis, with the line for it and an ending that looks at this line.
 fn contradicts(alloc: Global, hyp: Fact, ending: Ending) -> Result<bool, NumFail> {
-    ends(alloc, &[hyp], &[row(hyp, By::Hyp(0))], ending)
+    ends(alloc, &[hyp], &[step(hyp, By::Hyp(0))], ending)
 }
 
 #[test]
@@ -186,9 +186,9 @@ fn each_ending_of_a_line(rt: HostRuntime) -> Result<(), NumFail> {
         (equal(&x, &double), false, false, false, false),
         (equal(&one, &two), false, false, true, false),
         (equal(&u, &u), false, false, false, false),
-        (fact(true, le, &next, &x), false, false, false, true),
-        (fact(true, le, &x, &x), false, false, false, false),
-        (fact(true, lt, &x, &x), false, false, false, true),
+        (relate(true, le, &next, &x), false, false, false, true),
+        (relate(true, le, &x, &x), false, false, false, false),
+        (relate(true, lt, &x, &x), false, false, false, true),
     ] {
         let alloc = rt.alloc();
         assert_eq!(rt; contradicts(alloc, hyp, Ending::Clash { line: 0 })?, clash, "clash");
@@ -219,7 +219,7 @@ fn even_block(alloc: Global, yes: usize, no: usize) -> Result<Block, AllocError>
         no,
         lines: List::from_slice(alloc, &[0])?,
     };
-    let mut block = block(alloc, &[equal(&a, &b)], &[row(equal(&a, &b), By::Hyp(0))], ending)?;
+    let mut block = block(alloc, &[equal(&a, &b)], &[step(equal(&a, &b), By::Hyp(0))], ending)?;
     block.deriv.hyps.push(even(alloc, true, A)?)?;
     block.deriv.hyps.push(even(alloc, false, B)?)?;
     Ok(block)
@@ -240,7 +240,7 @@ fn a_predicate_of_equal_arguments(rt: HostRuntime) -> Result<(), NumFail> {
 fn a_denied_equation(rt: HostRuntime) -> Result<(), NumFail> {
     let (a, b) = ([Say::Of(A)], [Say::Of(B)]);
     let hyps = [equal(&a, &b), different(&a, &b)];
-    let rows = [row(equal(&a, &b), By::Hyp(0))];
+    let rows = [step(equal(&a, &b), By::Hyp(0))];
     for (hyp, right) in [(1, true), (0, false)] {
         assert_eq!(rt; ends(rt.alloc(), &hyps, &rows, Ending::Neq { line: 0, hyp })?, right);
     }

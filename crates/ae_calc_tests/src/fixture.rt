@@ -234,14 +234,14 @@ pub struct Fact<'a> {
 }
 
 pub fn equal<'a>(left: &'a [Say], right: &'a [Say]) -> Fact<'a> {
-    fact(true, Relation::Equal, left, right)
+    relate(true, Relation::Equal, left, right)
 }
 
 pub fn different<'a>(left: &'a [Say], right: &'a [Say]) -> Fact<'a> {
-    fact(false, Relation::Equal, left, right)
+    relate(false, Relation::Equal, left, right)
 }
 
-pub fn fact<'a>(
+pub fn relate<'a>(
     positive: bool,
     relation: Relation,
     left: &'a [Say],
@@ -304,7 +304,7 @@ pub struct Row<'a> {
     pub by: By<'a>,
 }
 
-pub fn row<'a>(states: Fact<'a>, by: By<'a>) -> Row<'a> {
+pub fn step<'a>(states: Fact<'a>, by: By<'a>) -> Row<'a> {
     Row { states, by }
 }
 
