@@ -1,9 +1,9 @@
 -- Sizes and signs of integers. The library has lemmas.Int (unsigned_abs-mul, quot-rem, ..), lemmas.Bool.Decides (Decides-int_eq); the
 -- integers as a ring are in ae_math (specs/Inner/Integers: `ring`).
-use Rattle.std.specs.Prelude.{ℕ, zero, suc, ◌<◌, ◌≡◌, ◌≢◌, ℤ, pos, negsuc, neg_ℤ, ◌≤ℤ◌, ◌<ℤ◌, int_lt, unsigned_abs, true, false}
+use Rattle.std.specs.Prelude.{ℕ, zero, suc, ◌<◌, ◌≡◌, ◌≢◌, ℤ, pos, negsuc, neg_ℤ, ◌≤ℤ◌, ◌<ℤ◌, int_lt, unsigned_abs, true}
 use Rattle.std.proofs.Common.{refl, sym, ap, ◌∙◌, arith}
 use borrow.Author.Differences.{ints}
-use Rattle.ae_base.proofs.Tests.{false_true, true_false, zero_below}
+use Rattle.ae_base.proofs.Tests.{false_true, zero_below}
 
 -- ---- sizes
 pub size_back : (z : ℤ) → pos 0 ≤ℤ z → pos (unsigned_abs z) ≡ z

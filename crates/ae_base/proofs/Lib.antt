@@ -8,3 +8,4 @@ pub mod AllOf
 pub mod Relations
 pub mod Results
 pub mod Integers
+pub mod Orders

@@ -3,7 +3,7 @@ use Rattle.std.specs.Prelude.{ℕ, ℤ, pos, negsuc, ◌≡◌, ◌≢◌, ◌<�
 use Rattle.std.specs.List.{AllByRecursion}
 use Rattle.std.specs.Int.{◌∣◌}
 use Rattle.std.specs.Int.RustNames.{int_div}
-use Rattle.std.proofs.Common.{arith, refl, sym, ap, ◌∙◌, subst, zero, suc}
+use Rattle.std.proofs.Common.{arith, sym, ap, ◌∙◌, subst, zero, suc}
 use Rattle.std.proofs.lemmas.Nat.Gcd.{dvd_refl}
 use native.Mathlib.Nat.{dvd_of_mul-dvd-mul_right, mul-dvd-mul_right, one-mul, one-dvd, dvd-zero, le-mul_of_pos_right}
 use borrow.Author.Differences.{ints}
@@ -12,8 +12,7 @@ use Rattle.std.proofs.lemmas.Int.{unsigned_abs-mul}
 use Rattle.ae_base.proofs.Integers.{size_back, size_positive}
 use Rattle.ae_num.specs.declared.forms.Part.{Part}
 use Rattle.ae_num.specs.declared.forms.Lin.{Lin}
-use Rattle.ae_num.specs.Forms.{factor_of, AllAbove, IsRising, IsNormal, DividesAll, IsCommonDivisor, sizes, divided_part, divided}
-use Rattle.ae_num.specs.Inner.Reduction.{Reduced}
+use Rattle.ae_num.specs.Forms.{factor_of, AllAbove, IsRising, IsNormal, DividesAll, IsCommonDivisor, sizes, divided_part, divided, Reduced}
 
 abbrev Factors : List Part → List ℕ
 Factors ps = map (λ p. unsigned_abs p.factor) ps

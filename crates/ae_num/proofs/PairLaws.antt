@@ -1,8 +1,7 @@
 -- The keys of two forms in order, and the first pair of factors.
-use Rattle.std.specs.Prelude.{ℕ, pos, ◌≡◌, ◌<◌, ◌≤◌, ◌+◌, true, false, cond, nat_eq, nat_lt, List, [], ◌∷◌, map, drop, length, slice_get, Some, None}
+use Rattle.std.specs.Prelude.{ℕ, pos, ◌≡◌, ◌<◌, ◌+◌, true, false, cond, nat_eq, nat_lt, List, [], ◌∷◌, map, drop, length, slice_get, Some, None}
 use Rattle.std.specs.List.{AllByRecursion}
 use Rattle.std.proofs.Common.{arith, refl, sym, ap, ◌∙◌, subst, zero, suc}
-use Rattle.std.proofs.lemmas.Bool.Decides.{nat_tests}
 use Rattle.std.proofs.lemmas.Bool.{eq-eqb, lt-ltb, le-ltb}
 use Rattle.ae_base.proofs.Tests.{nat_eq_below, nat_eq_above}
 use Rattle.ae_num.specs.declared.forms.Part.{Part}

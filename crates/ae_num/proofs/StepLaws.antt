@@ -1,5 +1,5 @@
 -- The first of some stated products and sums that leaves the limits.
-use Rattle.std.specs.Prelude.{ℕ, ℤ, ◌*ℤ◌, ◌+ℤ◌, ◌≡◌, ◌<◌, ◌^◌, true, false, cond, nat_le, List, [], ◌∷◌, ◌++◌, Some, None, Ok, Err, IsErrAnd, IfErr, IfOk, unsigned_abs}
+use Rattle.std.specs.Prelude.{ℤ, ◌*ℤ◌, ◌+ℤ◌, ◌≡◌, ◌^◌, true, false, cond, List, [], ◌∷◌, ◌++◌, Some, None, Ok, Err, IsErrAnd, IfErr, unsigned_abs}
 use Rattle.std.proofs.Common.{arith, refl, sym, ap, ◌∙◌, subst}
 use Rattle.std.proofs.lemmas.Bool.Decides.{nat_tests}
 use Rattle.std.proofs.lemmas.Bool.{lt-leb}

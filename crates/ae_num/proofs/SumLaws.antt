@@ -7,7 +7,6 @@ use lib.IntN.{ℤ_discrete}
 use Rattle.ae_base.specs.Decided.{pick}
 use Rattle.ae_base.proofs.Decided.{pick_yes, pick_no}
 use Rattle.std.proofs.lemmas.Bool.{eqb-true, ltb-true}
-use Rattle.ae_base.proofs.Tests.{nat_eq_itself}
 use Rattle.std.proofs.Math.Bool.{or_assoc}
 use Rattle.ae_num.specs.declared.forms.Part.{Part}
 use Rattle.ae_num.specs.declared.pairs.Pair.{Pair}

@@ -16,7 +16,7 @@ use Rattle.ae_num.specs.declared.forms.Part.{Part}
 use Rattle.ae_num.specs.declared.forms.Lin.{Lin}
 use Rattle.ae_core.specs.Decided.{Term_discrete}
 use Rattle.ae_rules.specs.Linear.{Linear, form}
-use Rattle.ae_rules.specs.Derivations.{IsConstant}
+use Rattle.ae_rules.specs.Derivations.{IsNumber}
 use Rattle.ae_core.specs.Sorts.{sort_of, same_numeric}
 use Rattle.ae_base.specs.Options.{◌>>=◌}
 use Rattle.ae_rules.specs.Lines.{Fact, equal, states, Stated, AreNumbers}
@@ -92,16 +92,16 @@ number_test Below z (pos (suc n)) p =
     (λ e. is ∙ not_true (int_lt (pos 0) z) e, λ h. not_of (int_lt (pos 0) z) (sym is ∙ h))
 
 -- ---- left minus right, and right minus left
-constant_turned : (s t : Linear) → IsConstant (minus s t) → IsConstant (minus t s)
+constant_turned : (s t : Linear) → IsNumber (minus s t) → IsNumber (minus t s)
 constant_turned s t h u = (minus_turned t s).factors u ∙ factor_in-scale Term_discrete Minus (minus s t).parts u ∙ ap (λ x. Minus *ℚ x) (h u) ∙ mul_zero_q Minus
 
 zero_turned : (s t : Linear) → (minus s t).constant ≡ zero_ℚ → (minus t s).constant ≡ zero_ℚ
 zero_turned s t e = (minus_turned t s).constants ∙ ap (λ x. Minus *ℚ x) e ∙ mul_zero_q Minus
 
 abbrev IsGapDenied : Relation → Term → Term → Type 0
-IsGapDenied r s t = IsConstant (minus (form t) (form s)) × Denies r (minus (form t) (form s)).constant
+IsGapDenied r s t = IsNumber (minus (form t) (form s)) × Denies r (minus (form t) (form s)).constant
 
-turned_denial : (r : Relation) (s t : Term) → (IsConstant (meant r s t) × Denies r (meant r s t).constant) ↔ IsGapDenied r s t
+turned_denial : (r : Relation) (s t : Term) → (IsNumber (meant r s t) × Denies r (meant r s t).constant) ↔ IsGapDenied r s t
 turned_denial AtMost s t = (λ h. h, λ h. h)
 turned_denial Below s t = (λ h. h, λ h. h)
 turned_denial Equal s t = (
@@ -110,7 +110,7 @@ turned_denial Equal s t = (
 )
 
 -- ---- a form that is a number
-parts_none : (ks : List Term) (f : Lin) (a : Linear) → IsFormOf ks f a → IsConstant a → f.parts ≡ []
+parts_none : (ks : List Term) (f : Lin) (a : Linear) → IsFormOf ks f a → IsNumber a → f.parts ≡ []
 parts_none ks f a p h = by_parts f.parts refl
   where
     by_parts : (ps : List Part) → f.parts ≡ ps → ps ≡ []

@@ -8,25 +8,27 @@ ghost use Rattle.ae_lex.specs.declared.kinds.Token.{Token};
 ghost use Rattle.ae_lex.specs.declared.kinds.TokenKind.TheVariants as kind;
 ghost use Rattle.ae_lex.specs.declared.kinds.Reserved.TheVariants as word;
 ghost use Rattle.ae_lex.specs.declared.kinds.Sign.TheVariants as sign;
-ghost use Rattle.ae_syntax.specs.Kinds.{same, quantifies};
+ghost use Rattle.ae_syntax.specs.declared.cursor.TheConstants.{DEPTH_LIMIT};
+ghost use Rattle.ae_syntax.specs.Kinds.{quantifies};
+ghost use Rattle.ae_syntax.specs.Inner.SameKinds.{same};
 ghost use Rattle.ae_syntax.specs.Parts.{token, tree, trees, setting, settings, trigger, triggers, group, groups, names};
-ghost use Rattle.ae_syntax.specs.Grammar.{Row, of_settings, of_exprs, of_triggers, of_groups};
-ghost use Rattle.ae_syntax.specs.Machine.{an_expr, an_and, an_not, a_rel, a_sum, a_prod, a_unary, a_post, an_atom, more_arrow, more_or, more_and, more_rel, more_sum, more_prod, more_post, call, triggers_or_dot, row_wants, element_wants, constant};
-ghost use Rattle.ae_syntax.specs.Reading.{Answered, ConstantAnswered, placed, AreNames, IsAt, Sets, SetsNone, grip, distinct_wants, ascribed_wants, record_wants, change_wants};
+ghost use Rattle.ae_syntax.specs.Grammar.{Items, of_settings, of_exprs, of_triggers, of_groups};
+ghost use Rattle.ae_syntax.specs.Inner.Machine.{an_expr, an_and, an_not, a_rel, a_sum, a_prod, a_unary, a_post, an_atom, more_arrow, more_or, more_and, more_rel, more_sum, more_prod, more_post, call, triggers_or_dot, items_wants, element_wants, constant};
+ghost use Rattle.ae_syntax.specs.Inner.Reading.{Answered, ConstantAnswered, placed, IsAt, Sets, SetsNone, grip, distinct_wants, ascribed_wants, record_wants, change_wants};
 
 use crate::cursor::{
     additive, arrow, deeper, is_sign, is_word, multiplicative, next, quantifies, relation, same,
     stands, stands_sign, stands_word, take, take_sign, take_word,
 };
-use crate::exprs::{BinaryOp, Expr, Form, Group, Number, Quantifier, Setting, Trigger};
+use crate::exprs::{BinaryOp, Expr, ExprKind, Number, Quantifier, Setting, Trigger};
 use crate::faults::Refusal;
 use crate::nodes::{
     applied, ascribed, bare, binary, bracketed, conditional, distinct_of, expression, field_of,
-    group_of, let_in, negation, negative, quantified, record_of, setting_of, span, trigger_of,
-    update_of,
+    let_in, negation, negative, quantified, record_of, setting_of, span, trigger_of, update_of,
 };
+use crate::read_groups::read_groups;
 use crate::read_types::read_type;
-use crate::spans::{List, Span};
+use crate::spans::List;
 use ae_lex::{Reserved, Sign, Token, TokenKind};
 use std::alloc::Global;
 
@@ -39,7 +41,7 @@ pub fn read_expr(
     depth: usize,
 ) -> Result<(Expr, usize), Refusal>
     requires within { at ≤ length tokens.now }
-    requires shallow { depth ≤ 1000 }
+    requires shallow { depth ≤ DEPTH_LIMIT }
     ensures { Answered (λ p. tree p) (an_expr depth ∷ []) [] tokens.now 1 at result }
 {
     let (left, to) = read_not(alloc, tokens, at, depth)?;
@@ -57,7 +59,7 @@ fn more_arrow(
     depth: usize,
 ) -> Result<(Expr, usize), Refusal>
     requires within { at ≤ length tokens.now }
-    requires shallow { depth ≤ 1000 }
+    requires shallow { depth ≤ DEPTH_LIMIT }
     requires weak { grip (drop at tokens.now) < 2 }
     ensures { Answered (λ p. tree p) (more_arrow depth ∷ []) (tree left ∷ []) tokens.now 1 at result }
 {
@@ -82,7 +84,7 @@ fn more_or(
     depth: usize,
 ) -> Result<(Expr, usize), Refusal>
     requires within { at ≤ length tokens.now }
-    requires shallow { depth ≤ 1000 }
+    requires shallow { depth ≤ DEPTH_LIMIT }
     requires weak { grip (drop at tokens.now) < 3 }
     ensures { Answered (λ p. tree p) (more_or depth ∷ []) (tree left ∷ []) tokens.now 2 at result }
 {
@@ -103,7 +105,7 @@ fn read_and(
     depth: usize,
 ) -> Result<(Expr, usize), Refusal>
     requires within { at ≤ length tokens.now }
-    requires shallow { depth ≤ 1000 }
+    requires shallow { depth ≤ DEPTH_LIMIT }
     ensures { Answered (λ p. tree p) (an_and depth ∷ []) [] tokens.now 3 at result }
 {
     let (left, to) = read_not(alloc, tokens, at, depth)?;
@@ -119,7 +121,7 @@ fn more_and(
     depth: usize,
 ) -> Result<(Expr, usize), Refusal>
     requires within { at ≤ length tokens.now }
-    requires shallow { depth ≤ 1000 }
+    requires shallow { depth ≤ DEPTH_LIMIT }
     requires weak { grip (drop at tokens.now) < 4 }
     ensures { Answered (λ p. tree p) (more_and depth ∷ []) (tree left ∷ []) tokens.now 3 at result }
 {
@@ -140,7 +142,7 @@ fn read_not(
     depth: usize,
 ) -> Result<(Expr, usize), Refusal>
     requires within { at ≤ length tokens.now }
-    requires shallow { depth ≤ 1000 }
+    requires shallow { depth ≤ DEPTH_LIMIT }
     ensures { Answered (λ p. tree p) (an_not depth ∷ []) [] tokens.now 4 at result }
 {
     let Some(first) = next(tokens, at) else {
@@ -170,7 +172,7 @@ fn read_negation(
     depth: usize,
 ) -> Result<(Expr, usize), Refusal>
     requires within { at ≤ length tokens.now }
-    requires shallow { depth ≤ 1000 }
+    requires shallow { depth ≤ DEPTH_LIMIT }
     requires here { IsAt tokens.now at first }
     requires word { same first.kind (kind.Reserved word.Not) ≡ true }
     ensures { Answered (λ p. tree p) (an_not depth ∷ []) [] tokens.now 4 at result }
@@ -192,7 +194,7 @@ fn read_block(
     depth: usize,
 ) -> Result<(Expr, usize), Refusal>
     requires within { at ≤ length tokens.now }
-    requires shallow { depth ≤ 1000 }
+    requires shallow { depth ≤ DEPTH_LIMIT }
     requires here { IsAt tokens.now at first }
     requires word { quantifies first.kind ≡ Some quantifier }
     ensures { Answered (λ p. tree p) (an_not depth ∷ []) [] tokens.now 1 at result }
@@ -205,69 +207,6 @@ fn read_block(
     Ok((block, to))
 }
 
-// Identifiers parted by commas or by bars.
-pub fn read_names(
-    alloc: Global,
-    tokens: &[Token],
-    at: usize,
-    separator: Sign,
-) -> Result<(List<Span>, usize), Refusal>
-    requires within { at ≤ length tokens.now }
-    ensures { (row : Row) (d : ℕ) → AreNames row separator → d ≤ 1000
-        → Answered (λ p. names p) (row_wants row d) [] tokens.now 8 at result }
-{
-    let mut found = List::new(alloc);
-    let first = take(tokens, at, TokenKind::Ident)?;
-    found.push(span(first))?;
-    let mut end = at + 1;
-    while stands_sign(tokens, end, separator) {
-        let name = take(tokens, end + 1, TokenKind::Ident)?;
-        found.push(span(name))?;
-        end += 2;
-    }
-    Ok((found, end))
-}
-
-// Variables with their sort.
-fn read_group(
-    alloc: Global,
-    tokens: &[Token],
-    at: usize,
-    depth: usize,
-) -> Result<(Group, usize), Refusal>
-    requires within { at ≤ length tokens.now }
-    requires shallow { depth ≤ 1000 }
-    ensures { Answered (λ p. group p) (element_wants of_groups depth) [] tokens.now 8 at result }
-{
-    let (names, to) = read_names(alloc, tokens, at, Sign::Comma)?;
-    take_sign(tokens, to, Sign::Colon)?;
-    let (sort, to) = read_type(alloc, tokens, to + 1, depth)?;
-    Ok((group_of(names, sort), to))
-}
-
-// Groups of variables parted by commas.
-fn read_groups(
-    alloc: Global,
-    tokens: &[Token],
-    at: usize,
-    depth: usize,
-) -> Result<(List<Group>, usize), Refusal>
-    requires within { at ≤ length tokens.now }
-    requires shallow { depth ≤ 1000 }
-    ensures { Answered (λ p. groups p) (row_wants of_groups depth) [] tokens.now 8 at result }
-{
-    let mut found = List::new(alloc);
-    let (first, to) = read_group(alloc, tokens, at, depth)?;
-    found.push(first)?;
-    let mut end = to;
-    while stands_sign(tokens, end, Sign::Comma) {
-        let (group, to) = read_group(alloc, tokens, end + 1, depth)?;
-        found.push(group)?;
-        end = to;
-    }
-    Ok((found, end))
-}
-
 // The triggers in square brackets, or none, and the point after them.
 #[cycle(expression)]
 fn read_triggers(
@@ -277,7 +216,7 @@ fn read_triggers(
     depth: usize,
 ) -> Result<(List<Trigger>, usize), Refusal>
     requires within { at ≤ length tokens.now }
-    requires shallow { depth ≤ 1000 }
+    requires shallow { depth ≤ DEPTH_LIMIT }
     ensures { Answered (λ p. triggers p) (triggers_or_dot depth ∷ []) [] tokens.now 8 at result }
 {
     if stands_sign(tokens, at, Sign::Dot) {
@@ -285,7 +224,7 @@ fn read_triggers(
     }
     take_sign(tokens, at, Sign::OpenBracket)?;
     let inner = deeper(depth, at)?;
-    let (found, to) = read_trigger_row(alloc, tokens, at + 1, inner)?;
+    let (found, to) = read_trigger_items(alloc, tokens, at + 1, inner)?;
     take_sign(tokens, to, Sign::CloseBracket)?;
     take_sign(tokens, to + 1, Sign::Dot)?;
     Ok((found, to + 2))
@@ -293,15 +232,15 @@ fn read_triggers(
 
 // Triggers parted by bars.
 #[cycle(expression)]
-fn read_trigger_row(
+fn read_trigger_items(
     alloc: Global,
     tokens: &[Token],
     at: usize,
     depth: usize,
 ) -> Result<(List<Trigger>, usize), Refusal>
     requires within { at ≤ length tokens.now }
-    requires shallow { depth ≤ 1000 }
-    ensures { Answered (λ p. triggers p) (row_wants of_triggers depth) [] tokens.now 1 at result }
+    requires shallow { depth ≤ DEPTH_LIMIT }
+    ensures { Answered (λ p. triggers p) (items_wants of_triggers depth) [] tokens.now 1 at result }
 {
     let mut found = List::new(alloc);
     let (first, to) = read_trigger(alloc, tokens, at, depth)?;
@@ -323,7 +262,7 @@ fn read_trigger(
     depth: usize,
 ) -> Result<(Trigger, usize), Refusal>
     requires within { at ≤ length tokens.now }
-    requires shallow { depth ≤ 1000 }
+    requires shallow { depth ≤ DEPTH_LIMIT }
     ensures { Answered (λ p. trigger p) (element_wants of_triggers depth) [] tokens.now 1 at result }
 {
     let (terms, to) = read_terms(alloc, tokens, at, depth)?;
@@ -339,7 +278,7 @@ fn read_let(
     depth: usize,
 ) -> Result<(Expr, usize), Refusal>
     requires within { at ≤ length tokens.now }
-    requires shallow { depth ≤ 1000 }
+    requires shallow { depth ≤ DEPTH_LIMIT }
     requires here { IsAt tokens.now at first }
     requires word { same first.kind (kind.Reserved word.Let) ≡ true }
     ensures { Answered (λ p. tree p) (an_not depth ∷ []) [] tokens.now 1 at result }
@@ -363,7 +302,7 @@ fn read_if(
     depth: usize,
 ) -> Result<(Expr, usize), Refusal>
     requires within { at ≤ length tokens.now }
-    requires shallow { depth ≤ 1000 }
+    requires shallow { depth ≤ DEPTH_LIMIT }
     requires here { IsAt tokens.now at first }
     requires word { same first.kind (kind.Reserved word.If) ≡ true }
     ensures { Answered (λ p. tree p) (an_not depth ∷ []) [] tokens.now 1 at result }
@@ -386,7 +325,7 @@ fn read_rel(
     depth: usize,
 ) -> Result<(Expr, usize), Refusal>
     requires within { at ≤ length tokens.now }
-    requires shallow { depth ≤ 1000 }
+    requires shallow { depth ≤ DEPTH_LIMIT }
     ensures { Answered (λ p. tree p) (a_rel depth ∷ []) [] tokens.now 4 at result }
 {
     let (left, to) = read_unary(alloc, tokens, at, depth)?;
@@ -404,7 +343,7 @@ fn more_rel(
     depth: usize,
 ) -> Result<(Expr, usize), Refusal>
     requires within { at ≤ length tokens.now }
-    requires shallow { depth ≤ 1000 }
+    requires shallow { depth ≤ DEPTH_LIMIT }
     requires weak { grip (drop at tokens.now) < 5 }
     ensures { Answered (λ p. tree p) (more_rel depth ∷ []) (tree left ∷ []) tokens.now 4 at result }
 {
@@ -427,7 +366,7 @@ fn read_sum(
     depth: usize,
 ) -> Result<(Expr, usize), Refusal>
     requires within { at ≤ length tokens.now }
-    requires shallow { depth ≤ 1000 }
+    requires shallow { depth ≤ DEPTH_LIMIT }
     ensures { Answered (λ p. tree p) (a_sum depth ∷ []) [] tokens.now 5 at result }
 {
     let (left, to) = read_unary(alloc, tokens, at, depth)?;
@@ -444,7 +383,7 @@ fn more_sum(
     depth: usize,
 ) -> Result<(Expr, usize), Refusal>
     requires within { at ≤ length tokens.now }
-    requires shallow { depth ≤ 1000 }
+    requires shallow { depth ≤ DEPTH_LIMIT }
     requires weak { grip (drop at tokens.now) < 6 }
     ensures { Answered (λ p. tree p) (more_sum depth ∷ []) (tree left ∷ []) tokens.now 5 at result }
 {
@@ -468,7 +407,7 @@ fn read_prod(
     depth: usize,
 ) -> Result<(Expr, usize), Refusal>
     requires within { at ≤ length tokens.now }
-    requires shallow { depth ≤ 1000 }
+    requires shallow { depth ≤ DEPTH_LIMIT }
     ensures { Answered (λ p. tree p) (a_prod depth ∷ []) [] tokens.now 6 at result }
 {
     let (left, to) = read_unary(alloc, tokens, at, depth)?;
@@ -484,7 +423,7 @@ fn more_prod(
     depth: usize,
 ) -> Result<(Expr, usize), Refusal>
     requires within { at ≤ length tokens.now }
-    requires shallow { depth ≤ 1000 }
+    requires shallow { depth ≤ DEPTH_LIMIT }
     requires weak { grip (drop at tokens.now) < 7 }
     ensures { Answered (λ p. tree p) (more_prod depth ∷ []) (tree left ∷ []) tokens.now 6 at result }
 {
@@ -508,7 +447,7 @@ fn read_unary(
     depth: usize,
 ) -> Result<(Expr, usize), Refusal>
     requires within { at ≤ length tokens.now }
-    requires shallow { depth ≤ 1000 }
+    requires shallow { depth ≤ DEPTH_LIMIT }
     ensures { Answered (λ p. tree p) (a_unary depth ∷ []) [] tokens.now 7 at result }
 {
     let Some(first) = next(tokens, at) else {
@@ -530,7 +469,7 @@ fn read_negative(
     depth: usize,
 ) -> Result<(Expr, usize), Refusal>
     requires within { at ≤ length tokens.now }
-    requires shallow { depth ≤ 1000 }
+    requires shallow { depth ≤ DEPTH_LIMIT }
     requires here { IsAt tokens.now at first }
     requires sign { same first.kind (kind.Sign sign.Minus) ≡ true }
     ensures { Answered (λ p. tree p) (a_unary depth ∷ []) [] tokens.now 7 at result }
@@ -549,7 +488,7 @@ fn read_post(
     depth: usize,
 ) -> Result<(Expr, usize), Refusal>
     requires within { at ≤ length tokens.now }
-    requires shallow { depth ≤ 1000 }
+    requires shallow { depth ≤ DEPTH_LIMIT }
     ensures { Answered (λ p. tree p) (a_post depth ∷ []) [] tokens.now 7 at result }
 {
     let (left, to) = read_atom(alloc, tokens, at, depth)?;
@@ -565,7 +504,7 @@ fn more_post(
     depth: usize,
 ) -> Result<(Expr, usize), Refusal>
     requires within { at ≤ length tokens.now }
-    requires shallow { depth ≤ 1000 }
+    requires shallow { depth ≤ DEPTH_LIMIT }
     ensures { Answered (λ p. tree p) (more_post depth ∷ []) (tree left ∷ []) tokens.now 7 at result }
 {
     if !stands_sign(tokens, at, Sign::Dot) {
@@ -578,17 +517,17 @@ fn more_post(
 }
 
 // An atom that is one token.
-fn constant(kind: TokenKind) -> Option<Form>
+fn constant(kind: TokenKind) -> Option<ExprKind>
     ensures { (t : Token) → constant t kind ≡ placed t result }
 {
     match kind {
-        TokenKind::Whole(value) => Some(Form::Numeral(Number::Whole(value))),
+        TokenKind::Whole(value) => Some(ExprKind::Numeral(Number::Whole(value))),
         TokenKind::Decimal { top, bottom } => {
-            Some(Form::Numeral(Number::Decimal { top, bottom }))
+            Some(ExprKind::Numeral(Number::Decimal { top, bottom }))
         }
-        TokenKind::Reserved(Reserved::True) => Some(Form::True),
-        TokenKind::Reserved(Reserved::False) => Some(Form::False),
-        TokenKind::Reserved(Reserved::Void) => Some(Form::Void),
+        TokenKind::Reserved(Reserved::True) => Some(ExprKind::True),
+        TokenKind::Reserved(Reserved::False) => Some(ExprKind::False),
+        TokenKind::Reserved(Reserved::Void) => Some(ExprKind::Void),
         _ => None,
     }
 }
@@ -596,10 +535,10 @@ fn constant(kind: TokenKind) -> Option<Form>
 fn read_constant(alloc: Global, first: Token, at: usize) -> Result<Expr, Refusal>
     ensures { ConstantAnswered first at result }
 {
-    let Some(form) = constant(first.kind) else {
+    let Some(kind) = constant(first.kind) else {
         return Err(Refusal::Wrong { at });
     };
-    let atom = expression(alloc, span(first), form)?;
+    let atom = expression(alloc, span(first), kind)?;
     Ok(atom)
 }
 
@@ -611,7 +550,7 @@ fn read_atom(
     depth: usize,
 ) -> Result<(Expr, usize), Refusal>
     requires within { at ≤ length tokens.now }
-    requires shallow { depth ≤ 1000 }
+    requires shallow { depth ≤ DEPTH_LIMIT }
     ensures { Answered (λ p. tree p) (an_atom depth ∷ []) [] tokens.now 8 at result }
 {
     let Some(first) = next(tokens, at) else {
@@ -643,7 +582,7 @@ fn read_call(
     depth: usize,
 ) -> Result<(Expr, usize), Refusal>
     requires within { at ≤ length tokens.now }
-    requires shallow { depth ≤ 1000 }
+    requires shallow { depth ≤ DEPTH_LIMIT }
     ensures { Answered (λ p. tree p) (call depth ∷ []) (token name ∷ []) tokens.now 8 at result }
 {
     if !stands_sign(tokens, at, Sign::OpenParen) {
@@ -666,8 +605,8 @@ fn read_terms(
     depth: usize,
 ) -> Result<(List<Expr>, usize), Refusal>
     requires within { at ≤ length tokens.now }
-    requires shallow { depth ≤ 1000 }
-    ensures { Answered (λ p. trees p) (row_wants of_exprs depth) [] tokens.now 1 at result }
+    requires shallow { depth ≤ DEPTH_LIMIT }
+    ensures { Answered (λ p. trees p) (items_wants of_exprs depth) [] tokens.now 1 at result }
 {
     let mut found = List::new(alloc);
     let (first, to) = read_expr(alloc, tokens, at, depth)?;
@@ -691,7 +630,7 @@ fn read_brackets(
     depth: usize,
 ) -> Result<(Expr, usize), Refusal>
     requires within { at ≤ length tokens.now }
-    requires shallow { depth ≤ 1000 }
+    requires shallow { depth ≤ DEPTH_LIMIT }
     requires here { IsAt tokens.now at opener }
     requires sign { same opener.kind (kind.Sign sign.OpenParen) ≡ true }
     ensures { Answered (λ p. tree p) (an_atom depth ∷ []) [] tokens.now 8 at result }
@@ -716,8 +655,8 @@ fn read_ascribed(
     depth: usize,
 ) -> Result<(Expr, usize), Refusal>
     requires within { at < length tokens.now }
-    requires shallow { depth ≤ 1000 }
-    ensures { (d : ℕ) → d ≤ 1000
+    requires shallow { depth ≤ DEPTH_LIMIT }
+    ensures { (d : ℕ) → d ≤ DEPTH_LIMIT
         → Answered (λ p. tree p) (ascribed_wants depth d) (tree body ∷ token opener ∷ []) tokens.now 8 (at + 1) result }
 {
     let (sort, to) = read_type(alloc, tokens, at + 1, depth)?;
@@ -735,7 +674,7 @@ fn read_distinct(
     depth: usize,
 ) -> Result<(Expr, usize), Refusal>
     requires within { at ≤ length tokens.now }
-    requires shallow { depth ≤ 1000 }
+    requires shallow { depth ≤ DEPTH_LIMIT }
     ensures { Answered (λ p. tree p) (distinct_wants depth) (token first ∷ []) tokens.now 8 at result }
 {
     take_sign(tokens, at, Sign::OpenParen)?;
@@ -756,7 +695,7 @@ fn read_braces(
     depth: usize,
 ) -> Result<(Expr, usize), Refusal>
     requires within { at ≤ length tokens.now }
-    requires shallow { depth ≤ 1000 }
+    requires shallow { depth ≤ DEPTH_LIMIT }
     requires here { IsAt tokens.now at opener }
     requires sign { same opener.kind (kind.Sign sign.OpenBrace) ≡ true }
     ensures { Answered (λ p. tree p) (an_atom depth ∷ []) [] tokens.now 8 at result }
@@ -786,8 +725,8 @@ fn read_record(
     depth: usize,
 ) -> Result<(Expr, usize), Refusal>
     requires within { at ≤ length tokens.now }
-    requires shallow { depth ≤ 1000 }
-    ensures { (d : ℕ) → d ≤ 1000 → Answered (λ p. tree p) (record_wants depth d) (token opener ∷ []) tokens.now 8 at result }
+    requires shallow { depth ≤ DEPTH_LIMIT }
+    ensures { (d : ℕ) → d ≤ DEPTH_LIMIT → Answered (λ p. tree p) (record_wants depth d) (token opener ∷ []) tokens.now 8 at result }
 {
     let (settings, to) = read_settings(alloc, tokens, at, depth)?;
     let close = take_sign(tokens, to, Sign::CloseBrace)?;
@@ -805,8 +744,8 @@ fn read_update(
     depth: usize,
 ) -> Result<(Expr, usize), Refusal>
     requires within { at ≤ length tokens.now }
-    requires shallow { depth ≤ 1000 }
-    ensures { (d : ℕ) → d ≤ 1000 → Answered (λ p. tree p) (change_wants depth d) (token opener ∷ []) tokens.now 8 at result }
+    requires shallow { depth ≤ DEPTH_LIMIT }
+    ensures { (d : ℕ) → d ≤ DEPTH_LIMIT → Answered (λ p. tree p) (change_wants depth d) (token opener ∷ []) tokens.now 8 at result }
 {
     let (base, to) = read_post(alloc, tokens, at, depth)?;
     take_word(tokens, to, Reserved::With)?;
@@ -825,8 +764,8 @@ fn read_settings(
     depth: usize,
 ) -> Result<(List<Setting>, usize), Refusal>
     requires within { at ≤ length tokens.now }
-    requires shallow { depth ≤ 1000 }
-    ensures { Answered (λ p. settings p) (row_wants of_settings depth) [] tokens.now 1 at result }
+    requires shallow { depth ≤ DEPTH_LIMIT }
+    ensures { Answered (λ p. settings p) (items_wants of_settings depth) [] tokens.now 1 at result }
 {
     let mut found = List::new(alloc);
     let (first, to) = read_setting(alloc, tokens, at, depth)?;
@@ -848,7 +787,7 @@ fn read_setting(
     depth: usize,
 ) -> Result<(Setting, usize), Refusal>
     requires within { at ≤ length tokens.now }
-    requires shallow { depth ≤ 1000 }
+    requires shallow { depth ≤ DEPTH_LIMIT }
     ensures { Answered (λ p. setting p) (element_wants of_settings depth) [] tokens.now 1 at result }
 {
     let name = take(tokens, at, TokenKind::Ident)?;

@@ -4,7 +4,7 @@ use Rattle.std.specs.Ordering.{int_eq}
 use Rattle.ae_math.specs.Fractions.{ℚ, zero_ℚ}
 use Rattle.ae_num.specs.Forms.{Step}
 use Rattle.ae_rules.specs.Lines.{Fact, gap}
-use Rattle.ae_rules.specs.Derivations.{IsConstant, CannotHold}
+use Rattle.ae_rules.specs.Derivations.{IsNumber, CannotHold}
 use Rattle.ae_core.specs.declared.problems.Signature.{Signature}
 use Rattle.ae_core.specs.declared.proofs.Relation.{Relation}
 use Rattle.ae_core.specs.declared.proofs.Relation.TheVariants.{Equal, AtMost, Below}
@@ -25,7 +25,7 @@ Denies Below x = CannotHold Below x
 
 -- the gap of the fact is a number that it denies
 abbrev pub IsDenied : Fact → Type 0
-IsDenied f = IsConstant (gap f) × Denies f.relation (gap f).constant
+IsDenied f = IsNumber (gap f) × Denies f.relation (gap f).constant
 
 -- what is stated for it, where its terms are of one numeric sort
 abbrev pub denied_steps : Signature → Fact → List Step

@@ -6,7 +6,7 @@ use Rattle.std.proofs.lemmas.Cmp.{on_total}
 use Rattle.ae_base.specs.Decided.{pick}
 use Rattle.ae_core.specs.Decided.{Term_discrete}
 use Rattle.ae_core.specs.Orders.{term_order, term_tree}
-use Rattle.ae_core.specs.TreeOrder.{tree_total}
+use Rattle.ae_core.specs.Inner.TreeOrder.{tree_total}
 use Rattle.ae_core.specs.declared.terms.Term.{Term}
 
 pub term_total : IsTotalOrder term_order
