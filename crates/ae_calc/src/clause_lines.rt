@@ -166,7 +166,6 @@ fn put_constants_clause(
 }
 
 /// The clause of a line `exh`. There is none where the term isn't closed, well sorted and of an enumeration.
-#[tactic(auto, using(crate::proofs::Fitting::exhausted_term))]
 fn enumeration_clause(
     alloc: Global,
     signature: &Signature,
@@ -186,7 +185,6 @@ fn enumeration_clause(
 }
 
 /// The clause of a line `tri`. There is none where the terms aren't closed numbers of one sort.
-#[tactic(auto, using(crate::proofs::Fitting::compared_terms))]
 fn order_clause(
     alloc: Global,
     signature: &Signature,
