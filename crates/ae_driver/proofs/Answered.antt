@@ -1,4 +1,4 @@
--- A refuted chain is a valid goal of its form's problem.
+-- A refuted chain is a valid goal of its text's problem, and a chain that values tell apart is one that has a saturated state.
 use Rattle.std.specs.Prelude.{ℕ, zero, suc, ◌+◌, ◌<◌, ◌≤◌, ◌⊎◌, true, List, [], ◌∷◌, ◌++◌, ◌≡◌, map, length, get_or, take, slice_get, ◌≢◌, Option, Some, None, IfSome, Result, Ok, Err, IfOk}
 use Rattle.std.specs.List.{AllByRecursion}
 use Rattle.std.proofs.Common.{refl, sym, ap, ◌∙◌, subst, arith, inl, inr, ⊎_elim, append_assoc, append-nil, length-append}
@@ -13,22 +13,24 @@ use Rattle.ae_core.specs.declared.formulas.Formula.{Formula}
 use Rattle.ae_core.specs.declared.problems.Problem.{Problem}
 use Rattle.ae_core.specs.declared.proofs.Proof.{Proof}
 use Rattle.ae_core.specs.declared.problems.Item.TheVariants.{Axiom, Goal}
-use Rattle.ae_driver.specs.declared.form.Chain.{Chain}
-use Rattle.ae_driver.specs.declared.form.Form.{Form}
+use Rattle.ae_driver.specs.declared.first_text.Chain.{Chain}
+use Rattle.ae_driver.specs.declared.first_text.FirstText.{FirstText}
 use Rattle.ae_driver.specs.declared.search.Named.{Named}
 use Rattle.ae_driver.specs.declared.search.Refutation.{Refutation}
-use Rattle.ae_driver.specs.Form.{IsForm, IsGoal}
-use Rattle.ae_driver.specs.Chains.{constant, chain, symbol_entry, goal_item, signature, problem, the_type, chain_proof}
-use Rattle.ae_driver.specs.Search.{Refutes, IsOpen, block_of}
+use Rattle.ae_driver.specs.Inner.Places.{IsWellPlaced, IsGoalOver}
+use Rattle.ae_driver.specs.Problems.{constant, chain, symbol_entry, goal_item, signature, problem, the_type}
+use Rattle.ae_driver.specs.Inner.ChainProofs.{chain_proof}
+use Rattle.ae_driver.specs.Inner.Search.{Refutes, IsOpen, block_of}
 use Rattle.ae_driver.specs.Texts.{proof_text}
-use Rattle.ae_driver.specs.Bytes.{proof_bytes}
-use Rattle.ae_driver.specs.Values.{numbers_of}
+use Rattle.ae_driver.specs.Inner.Bytes.{proof_bytes}
+use Rattle.ae_driver.specs.Inner.Merging.{numbers_of}
 use Rattle.ae_driver.specs.Truth.{truth}
 use Rattle.ae_driver.specs.StateTexts.{state_text}
-use Rattle.ae_driver.specs.StateChains.{constants_from, state_of}
-use Rattle.ae_driver.specs.StateBytes.{state_bytes, unknown_bytes}
+use Rattle.ae_driver.specs.Inner.StateChains.{constants_from, state_of}
+use Rattle.ae_driver.specs.Inner.StateBytes.{state_bytes, unknown_bytes}
 use Rattle.ae_driver.specs.States.{alike, IsConstant, IsCompleted, IsSaturated}
-use Rattle.ae_driver.specs.Output.{goal_name, IsValidPart, IsUnknownPart, IsPart, IsPartOf, by_refutation, by_values, AreParts, PartEnds, HasParts, GoalsEnd, RefusalEnds, TextEnds, IsDone, IsFileOf, Reads, IsRefused, by_lexis, by_syntax, by_form, IsRefusedText, IsOutOfMemory, IsCutOff, IsOffered, IsRead, IsTooLong, writes_parts, writes_refusal, valid_bytes}
+use Rattle.ae_driver.specs.Output.{goal_name, IsValidPart, IsUnknownPart, IsPart, AreParts, IsDone, IsFileOf, Reads, IsRefused, by_lexis, by_syntax, by_form, IsRefusedText, IsOutOfMemory, IsCutOff, IsOffered, IsRead, IsTooLong, writes_parts, writes_refusal}
+use Rattle.ae_driver.specs.Inner.Endings.{IsPartOf, by_refutation, by_values, PartEnds, HasParts, GoalsEnd, RefusalEnds, TextEnds, valid_bytes}
 use Rattle.ae_report.specs.declared.refusal.Refusal.{Refusal}
 use Rattle.ae_lex.proofs.Unique.{one_list, never_both as never_both_in_lexis}
 use Rattle.ae_syntax.proofs.FileLaws.{one_tree, never_both}
@@ -39,17 +41,18 @@ use Rattle.ae_lex.specs.declared.kinds.LexFault.TheVariants as lex
 use Rattle.ae_syntax.specs.declared.faults.SyntaxFault.{SyntaxFault}
 use Rattle.ae_syntax.specs.declared.faults.SyntaxFault.TheVariants as syntax
 use Rattle.ae_report.specs.Lines.{IsWithin, lex_refused_at, syntax_refused_at}
-use Rattle.ae_driver.specs.Form.{IsFormOf}
+use Rattle.ae_driver.specs.FirstTexts.{IsFirstTextOf}
+use Rattle.ae_driver.specs.declared.program.TheConstants.{INPUT_LIMIT}
 use Rattle.ae_driver.specs.declared.program.Status.{Status}
 use Rattle.ae_driver.specs.declared.program.Status.TheVariants as status
 use Rattle.ae_io.specs.Moves.{Written, Lost, Untold, Told, Gets, GetsPrefix, Rose}
 use Rattle.ae_io.proofs.Moves.{gets_then}
 use Rattle.ae_driver.proofs.Propagates.{decided_true}
 use Rattle.ae_driver.proofs.ChainProof.{derives, no_chain}
-use Rattle.ae_driver.proofs.Soundness.{get_map, body_is, sound}
+use Rattle.ae_driver.proofs.FromModels.{get_map, body_is, sound}
 use Rattle.ae_driver.proofs.TextProof.{text_proof}
 use Rattle.ae_driver.proofs.StateTextProof.{text_state}
-use Rattle.ae_driver.proofs.ValueFacts.{IsValues, Same, values_are, hypotheses_same}
+use Rattle.ae_driver.proofs.MergedValues.{IsValues, Same, values_are, hypotheses_same}
 use Rattle.ae_driver.proofs.Saturated.{constant_inj, all_among, first_literal, consistent, equal_sides, apart_sides, goal_is_false, all_named, all_apart}
 
 none_some : {Y : Type 0} {y : Y} → ◌≡◌ {A = Option Y} None (Some y) → ⊥
@@ -74,7 +77,7 @@ symbol_fits name =
     ap (λ b. only b (Some the_type) >>= λ s. Some (put_sort [] s)) (decided_true (Sorts_discrete [] []) refl)
     ∙ ap Some (put_named [] 0 [])
 
-module _ (f : Form) where
+module _ (f : FirstText) where
   constants_fit : (c : ℕ) → c < length f.constants → sort_of (signature f) (constant c) ≡ Some the_type
   constants_fit c lt =
       let n = name_at f.constants c lt in
@@ -98,10 +101,10 @@ module _ (f : Form) where
   no_axiom (g ∷ gs) (suc i) name b e = no_axiom gs i name b e
 
   -- the part of a goal that is refuted
-  valid_part : (k : ℕ) (g : Chain) (r : Refutation) → IsForm f → slice_get f.goals k ≡ Some g → Refutes (length f.constants) g.hyps g.last r
+  valid_part : (k : ℕ) (g : Chain) (r : Refutation) → IsWellPlaced f → slice_get f.goals k ≡ Some g → Refutes (length f.constants) g.hyps g.last r
       → IsValidPart (problem f) k (valid_bytes f.constants g r)
   valid_part k g r is e h =
-      let ok : IsGoal (length f.constants) g = all_at (IsGoal (length f.constants)) f.goals k g is.goals e in
+      let ok : IsGoalOver (length f.constants) g = all_at (IsGoalOver (length f.constants)) f.goals k g is.goals e in
       record {
         name = g.name;
         is_name = name_is k g e;
@@ -167,11 +170,11 @@ module _ (f : Form) where
       }
 
   -- the state of a goal whose sides have different values
-  pub saturated : (k : ℕ) (g : Chain) (vs : List Named) → IsForm f → slice_get f.goals k ≡ Some g → IsOpen (length f.constants) g.hyps g.last vs
+  pub saturated : (k : ℕ) (g : Chain) (vs : List Named) → IsWellPlaced f → slice_get f.goals k ≡ Some g → IsOpen (length f.constants) g.hyps g.last vs
       → IsSaturated (problem f) k (state_of (length f.constants) g.hyps g.last (numbers_of vs))
   saturated k g vs is e open_values =
       let n = length f.constants in
-      let ok : IsGoal n g = all_at (IsGoal n) f.goals k g is.goals e in
+      let ok : IsGoalOver n g = all_at (IsGoalOver n) f.goals k g is.goals e in
       let values : IsValues n (numbers_of vs) = subst (IsValues n) (sym open_values.numbers) (values_are n g.hyps ok.hyps) in
       let same : AllByRecursion (Same (numbers_of vs)) g.hyps = subst (λ z. AllByRecursion (Same z) g.hyps) (sym open_values.numbers) (hypotheses_same n g.hyps ok.hyps) in
       record {
@@ -187,18 +190,18 @@ module _ (f : Form) where
       }
 
   -- these values of constants are as the hypotheses say, and tell the sides of the last equation apart
-  none_derive : (k : ℕ) (g : Chain) (vs : List Named) → IsForm f → slice_get f.goals k ≡ Some g → IsOpen (length f.constants) g.hyps g.last vs → (proof : Proof) → Derives (problem f) k proof → ⊥
+  none_derive : (k : ℕ) (g : Chain) (vs : List Named) → IsWellPlaced f → slice_get f.goals k ≡ Some g → IsOpen (length f.constants) g.hyps g.last vs → (proof : Proof) → Derives (problem f) k proof → ⊥
   none_derive k g vs is e open_values proof derives =
       let n = length f.constants in
-      let ok : IsGoal n g = all_at (IsGoal n) f.goals k g is.goals e in
+      let ok : IsGoalOver n g = all_at (IsGoalOver n) f.goals k g is.goals e in
       let same : AllByRecursion (Same (numbers_of vs)) g.hyps = subst (λ z. AllByRecursion (Same z) g.hyps) (sym open_values.numbers) (hypotheses_same n g.hyps ok.hyps) in
       open_values.apart (sound f k g proof (λ c. get_or (numbers_of vs) c 0) derives e same)
 
-  unknown_part : (k : ℕ) (g : Chain) (vs : List Named) → IsForm f → slice_get f.goals k ≡ Some g → IsOpen (length f.constants) g.hyps g.last vs
+  unknown_part : (k : ℕ) (g : Chain) (vs : List Named) → IsWellPlaced f → slice_get f.goals k ≡ Some g → IsOpen (length f.constants) g.hyps g.last vs
       → IsUnknownPart (problem f) k (unknown_bytes f.constants g vs)
   unknown_part k g vs is e open_values =
       let n = length f.constants in
-      let ok : IsGoal n g = all_at (IsGoal n) f.goals k g is.goals e in
+      let ok : IsGoalOver n g = all_at (IsGoalOver n) f.goals k g is.goals e in
       let state = state_of n g.hyps g.last (numbers_of vs) in
       let sat = saturated k g vs is e open_values in
       record {
@@ -213,7 +216,7 @@ module _ (f : Form) where
       }
 
   -- the part of a goal
-  pub goal_is_part : (k : ℕ) (g : Chain) (part : List ℕ) → IsForm f → slice_get f.goals k ≡ Some g → IsPartOf f.constants g part → IsPart (problem f) k part
+  pub goal_is_part : (k : ℕ) (g : Chain) (part : List ℕ) → IsWellPlaced f → slice_get f.goals k ≡ Some g → IsPartOf f.constants g part → IsPart (problem f) k part
   goal_is_part k g part is e (by_refutation r h are) = inl (subst (IsValidPart (problem f) k) (sym are) (valid_part k g r is e h))
   goal_is_part k g part is e (by_values vs h are) = inr (subst (IsUnknownPart (problem f) k) (sym are) (unknown_part k g vs is e h))
 
@@ -239,7 +242,7 @@ gets_nothing Lost = tt
 gets_nothing Untold = tt
 gets_nothing (Told xs) = sym (append-nil xs)
 
-module _ (f : Form) (is : IsForm f) where
+module _ (f : FirstText) (is : IsWellPlaced f) where
   pub nothing_yet : (a : Written) → HasParts f 0 a a
   nothing_yet a = record { bytes = []; parts = refl; written = gets_nothing a }
 
@@ -282,11 +285,11 @@ cut_off_is left text a c r (bytes, may, got) =
 pub no_memory_yet : (left : Option (List ℕ)) (a : Written) → IsOutOfMemory left a a
 no_memory_yet left a = record { bytes = []; begun = inl refl; written = gets_nothing a }
 
-pub is_read : (left : Option (List ℕ)) (text : List ℕ) → IfSome left (λ xs. text ≡ xs) → length text ≤ 16777216 → IsRead left text
+pub is_read : (left : Option (List ℕ)) (text : List ℕ) → IfSome left (λ xs. text ≡ xs) → length text ≤ INPUT_LIMIT → IsRead left text
 is_read None text told le = record { told = tt; within = le }
 is_read (Some xs) text told le = record { told = sym told; within = le }
 
-pub is_too_long : (left : Option (List ℕ)) → IfSome left (λ xs. 16777216 < length xs) → IsTooLong left
+pub is_too_long : (left : Option (List ℕ)) → IfSome left (λ xs. INPUT_LIMIT < length xs) → IsTooLong left
 is_too_long None h = tt
 is_too_long (Some xs) h = h
 
@@ -338,25 +341,25 @@ syntax_place text (syntax.TooDeep at) le = le
 syntax_place text (syntax.OutsideProfile at) le = le
 syntax_place text syntax.Memory le = tt
 
--- a text of the form isn't refused
+-- a first text isn't refused
 file_one : (text : List ℕ) (f g : File) → IsFileOf text f → IsFileOf text g → f ≡ g
 file_one text f g p q = one_tree p.tokens f g p.parsed (subst (λ ts. IsParsed ts g) (one_list text q.tokens p.tokens q.tokenized p.tokenized) q.parsed)
 
-not_refused : (text : List ℕ) (form : Form) (why : Refusal) → Reads text form → IsRefused text why → ⊥
-not_refused text form why r (by_lexis f h) = never_both_in_lexis text r.is_file.tokens f r.is_file.tokenized h
-not_refused text form why r (by_syntax ts f t h) = never_both text ts r.file f (subst (λ us. IsParsed us r.file) (one_list text r.is_file.tokens ts r.is_file.tokenized t) r.is_file.parsed) h
-not_refused text form why r (by_form file h none) = none form (subst (λ g. IsFormOf text g form) (file_one text r.file file r.is_file h) r.is_form)
+not_refused : (text : List ℕ) (first : FirstText) (why : Refusal) → Reads text first → IsRefused text why → ⊥
+not_refused text first why r (by_lexis f h) = never_both_in_lexis text r.is_file.tokens f r.is_file.tokenized h
+not_refused text first why r (by_syntax ts f t h) = never_both text ts r.file f (subst (λ us. IsParsed us r.file) (one_list text r.is_file.tokens ts r.is_file.tokenized t) r.is_file.parsed) h
+not_refused text first why r (by_form file h none) = none first (subst (λ g. IsFirstTextOf text g first) (file_one text r.file file r.is_file h) r.is_first)
 
--- a text of the form is answered where no write fails
+-- a first text is answered where no write fails
 pub complete_is : (left : Option (List ℕ)) (text : List ℕ) (a c : Written) (s : Status) (R : Type 0) → IsOffered left → IfSome left (λ xs. text ≡ xs) → TextEnds text a c s → (s ≡ status.WriteFault → R) → ¬ R
     → (s ≡ status.Done) ⊎ (s ≡ status.Memory)
 complete_is left text a c status.Done R o h e f n = inl refl
 complete_is left text a c status.Memory R o h e f n = inr refl
 complete_is left text a c status.WriteFault R o h e f n = absurd (n (f refl))
-complete_is left text a c status.Refused R o h (why, refused, rest) f n = absurd (not_refused text o.form why (subst (λ t. Reads t o.form) (sym (told_is left text o.text o.told h)) o.reads) refused)
+complete_is left text a c status.Refused R o h (why, refused, rest) f n = absurd (not_refused text o.first why (subst (λ t. Reads t o.first) (sym (told_is left text o.text o.told h)) o.reads) refused)
 complete_is left text a c status.ReadFault R o h e f n = absurd e
 complete_is left text a c status.Usage R o h e f n = absurd e
 
 -- no text within the limit is too long
-pub not_too_long : (left : Option (List ℕ)) → IsOffered left → IfSome left (λ xs. 16777216 < length xs) → ⊥
-not_too_long left o h = absurd (omega (arith, o.within, subst (λ z. IfSome z (λ xs. 16777216 < length xs)) o.told h))
+pub not_too_long : (left : Option (List ℕ)) → IsOffered left → IfSome left (λ xs. INPUT_LIMIT < length xs) → ⊥
+not_too_long left o h = absurd (omega (arith, o.within, subst (λ z. IfSome z (λ xs. INPUT_LIMIT < length xs)) o.told h))

@@ -17,10 +17,11 @@ use Rattle.ae_core.specs.declared.proofs.EqLine.{EqLine}
 use Rattle.ae_core.specs.declared.proofs.EqLine.TheVariants.{EqHyp, EqRefl, EqSym, EqTrans, EqCong, EqAc, EqLin, EqField, EqFields, LeHyp, LtHyp, LeSum, LtSum, LeRound}
 use Rattle.ae_core.specs.declared.proofs.ClauseLine.{ClauseLine}
 use Rattle.ae_core.specs.declared.proofs.ClauseLine.TheVariants.{Goal, Def, Block as BlockLine, Rup}
-use Rattle.ae_driver.specs.declared.form.Equation.{Equation}
-use Rattle.ae_driver.specs.Chains.{constant, equation, chain, assumed, defs, hints, chain_proof}
-use Rattle.ae_driver.specs.Form.{IsWithin}
-use Rattle.ae_driver.specs.Search.{IsStep, OfConstants, Refutes, block_of, no_signature, any}
+use Rattle.ae_driver.specs.declared.first_text.Equation.{Equation}
+use Rattle.ae_driver.specs.Problems.{constant, equation, chain}
+use Rattle.ae_driver.specs.Inner.ChainProofs.{assumed, defs, hints, chain_proof}
+use Rattle.ae_driver.specs.Inner.Places.{IsEquationOver}
+use Rattle.ae_driver.specs.Inner.Search.{IsStep, OfConstants, Refutes, block_of, no_signature, any}
 use Rattle.ae_driver.specs.declared.search.Refutation.{Refutation}
 use Rattle.ae_driver.proofs.Growing.{get_seam, last_assumed}
 use Rattle.ae_driver.proofs.Propagates.{four, five, denied, hinted_clauses, propagates_all, decided_true, both_true}
@@ -76,10 +77,10 @@ module _ (p : Problem) (k : ℕ) (n : ℕ) (s : Sort) (es : List Equation) (g : 
   same_sort : (o q : Option Sort) → o ≡ Some s → q ≡ Some s → same_known o q ≡ true
   same_sort o q a b = (λ i. same_known (a i) (b i)) ∙ decided_true (Sort_discrete s s) refl
 
-  equation_ok : (e : Equation) → IsWithin n e → formula_ok p.signature (equation e) ≡ true
+  equation_ok : (e : Equation) → IsEquationOver n e → formula_ok p.signature (equation e) ≡ true
   equation_ok e w = formula_in_eq p.signature (is_closed_sort p.signature) [] (constant e.left) (constant e.right) ∙ same_sort _ _ (constants e.left w.0) (constants e.right w.1)
 
-  chain_ok : (hs : List Equation) (t : Equation) → AllByRecursion (IsWithin n) hs → IsWithin n t → formula_ok p.signature (chain hs t) ≡ true
+  chain_ok : (hs : List Equation) (t : Equation) → AllByRecursion (IsEquationOver n) hs → IsEquationOver n t → formula_ok p.signature (chain hs t) ≡ true
   chain_ok [] t ws w = equation_ok t w
   chain_ok (e ∷ hs) t ws w =
       formula_in_or p.signature (is_closed_sort p.signature) [] (Not (equation e)) (chain hs t)
@@ -99,7 +100,7 @@ module _ (p : Problem) (k : ℕ) (n : ℕ) (s : Sort) (es : List Equation) (g : 
     (constant g.left, constant g.right, r.stated, ap (λ h. slice_get h (length es)) r.hyps ∙ last_assumed es g),
   )
 
-  assumed_ok : (hs : List Equation) (t : Equation) → AllByRecursion (IsWithin n) hs → IsWithin n t → clause_ok p.signature (assumed hs t) ≡ true
+  assumed_ok : (hs : List Equation) (t : Equation) → AllByRecursion (IsEquationOver n) hs → IsEquationOver n t → clause_ok p.signature (assumed hs t) ≡ true
   assumed_ok [] t ws w = both_true _ true (equation_ok t w) refl
   assumed_ok (e ∷ hs) t ws w = both_true _ _ (equation_ok e ws.0) (assumed_ok hs t ws.1 w)
 
@@ -111,10 +112,10 @@ module _ (p : Problem) (k : ℕ) (n : ℕ) (s : Sort) (es : List Equation) (g : 
   goal_states : conclusion p k Goal ≡ Some (is_false (chain es g) ∷ [])
   goal_states = ap (λ o. o >>= λ f. Some (no_of f ∷ [])) body ∙ ap (λ l. Some (l ∷ [])) (no_chain es g)
 
-  goal_allowed : AllByRecursion (IsWithin n) es → IsWithin n g → IsAllowed p k [] Goal
+  goal_allowed : AllByRecursion (IsEquationOver n) es → IsEquationOver n g → IsAllowed p k [] Goal
   goal_allowed ws w = (ap (λ o. or_else (o >>= λ f. Some (formula_ok p.signature f)) false) body ∙ chain_ok es g ws w, (is_false (chain es g) ∷ [], goal_states), tt)
 
-  defs_allowed : (hs : List Equation) (earlier : List ClauseLine) → AllByRecursion (IsWithin n) hs → IsWithin n g → AreAllowed p k earlier (defs hs g)
+  defs_allowed : (hs : List Equation) (earlier : List ClauseLine) → AllByRecursion (IsEquationOver n) hs → IsEquationOver n g → AreAllowed p k earlier (defs hs g)
   defs_allowed [] earlier ws w = tt
   defs_allowed (e ∷ hs) earlier ws w =
       let ok = chain_ok (e ∷ hs) g ws w in
@@ -151,7 +152,7 @@ module _ (p : Problem) (k : ℕ) (n : ℕ) (s : Sort) (es : List Equation) (g : 
       ∙ ap (λ o. (o >>= λ cs. Some (four e hs g ∷ cs)) >>= λ cs. Some (first ∷ cs)) (hinted_is hs earlier (x + 1) (x + 2) b (five e hs g) block ds.1 atb ds.2)
 
   -- ---- the whole proof
-  pub derives : (f : Refutation) → AllByRecursion (IsWithin n) es → IsWithin n g → Refutes n es g f → Derives p k (chain_proof es g (block_of es f))
+  pub derives : (f : Refutation) → AllByRecursion (IsEquationOver n) es → IsEquationOver n g → Refutes n es g f → Derives p k (chain_proof es g (block_of es f))
   derives f ws w r =
       let b = block_of es f in
       let count = length es + length es + 1 in

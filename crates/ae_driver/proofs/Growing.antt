@@ -16,10 +16,11 @@ use Rattle.ae_core.proofs.Written.{all_append}
 use Rattle.ae_core.specs.declared.formulas.Lit.{Lit}
 use Rattle.ae_core.specs.declared.proofs.EqLine.{EqLine}
 use Rattle.ae_core.specs.Sorts.{◌>>=◌}
-use Rattle.ae_driver.specs.Chains.{constant, equation, assumed}
-use Rattle.ae_driver.specs.declared.form.Equation.{Equation}
+use Rattle.ae_driver.specs.Problems.{constant, equation}
+use Rattle.ae_driver.specs.Inner.ChainProofs.{assumed}
+use Rattle.ae_driver.specs.declared.first_text.Equation.{Equation}
 use Rattle.ae_driver.specs.declared.search.Named.{Named}
-use Rattle.ae_driver.specs.Search.{Known, At, Holds, HoldsBy, Grows, IsValue, Valued, OfConstants, IsDerivation, no_signature, any}
+use Rattle.ae_driver.specs.Inner.Search.{Known, At, Holds, HoldsBy, Grows, IsValue, Valued, OfConstants, IsDerivation, no_signature, any}
 
 -- ---- one more line
 every_push : {X : Type 0} (P : X → Type 0) (xs : List X) (x : X) → AllByRecursion P xs → P x → AllByRecursion P (xs ++ x ∷ [])

@@ -1,4 +1,4 @@
--- The reader of the first form.
+-- The reader of first texts.
 use Rattle.std.proofs.Common.{◌≡◌, ◌≢◌, ℕ, ◌+◌, ◌<◌, ◌≤◌, List, [], ◌∷◌, ◌++◌, length, take, drop, get_or, Some, None, zero, suc, sym, ap, ◌∙◌, subst, arith, refl, rules, append_assoc}
 use Rattle.std.specs.Prelude.{◌↔◌, Bool, false, IsTrue, slice_get, Option, MatchOption, option_map, slice_index_or}
 use Rattle.std.proofs.lemmas.List.{append-nil, take_more, take_all}
@@ -12,7 +12,7 @@ use Rattle.ae_syntax.specs.declared.decls.DeclForm.{DeclForm}
 use Rattle.ae_syntax.specs.declared.decls.DeclForm.TheVariants as decl
 use Rattle.ae_syntax.specs.declared.decls.TypedName.{TypedName}
 use Rattle.ae_syntax.specs.declared.decls.File.{File}
-use Rattle.ae_driver.specs.declared.form.Form.{Form}
+use Rattle.ae_driver.specs.declared.first_text.FirstText.{FirstText}
 use Rattle.ae_syntax.specs.declared.exprs.BinaryOp.{BinaryOp}
 use Rattle.ae_syntax.specs.declared.exprs.BinaryOp.TheVariants as op
 use Rattle.ae_syntax.specs.declared.exprs.Expr.{Expr}
@@ -21,9 +21,11 @@ use Rattle.ae_syntax.specs.declared.exprs.Form.{out-Form}
 use Rattle.ae_syntax.specs.declared.exprs.Form.TheVariants.{outs-Binary}
 use Rattle.ae_syntax.specs.declared.exprs.Form.TheOpen as layer
 use Rattle.ae_syntax.specs.declared.exprs.Form.TheOpen.{Form-F}
-use Rattle.ae_driver.specs.declared.form.Equation.{Equation}
-use Rattle.ae_driver.specs.declared.form.Chain.{Chain}
-use Rattle.ae_driver.specs.Form.{Stands, Each, IsConstant, IsEquation, IsChain, IsGoalDecl, IsTypeName, IsTypeDecl, IsResult, IsLogicDecl, IsFormOf, IsWithin, IsGoal, IsForm}
+use Rattle.ae_driver.specs.declared.first_text.TheConstants.{MOST_HYPOTHESES}
+use Rattle.ae_driver.specs.declared.first_text.Equation.{Equation}
+use Rattle.ae_driver.specs.declared.first_text.Chain.{Chain}
+use Rattle.ae_driver.specs.FirstTexts.{IsNameAt, Each, IsConstantAt, IsEquation, IsChain, IsGoalDecl, IsTypeName, IsTypeDecl, IsResult, IsLogicDecl, IsFirstTextOf}
+use Rattle.ae_driver.specs.Inner.Places.{IsEquationOver, IsGoalOver, IsWellPlaced}
 
 -- ---- places in lists
 pub get_some : {X : Type 0} (xs : List X) (i : ℕ) (d : X) → i < length xs → slice_get xs i ≡ Some (get_or xs i d)
@@ -65,15 +67,15 @@ right_in _ = None
 
 binary_op : (o p : BinaryOp) (l r m s : Expr) → form.Binary o l r ≡ form.Binary p m s → o ≡ p
 unfolding op_in
-binary_op o p l r m s e = some_same o p (sym (ap op_in (outs-Binary o l r)) ∙ ap (λ f. op_in (out-Form f)) e ∙ ap op_in (outs-Binary p m s))
+binary_op o p l r m s e = some_same o p (sym (ap op_in (outs-Binary o l r)) ∙ ap (λ f. op_in (out-FirstText f)) e ∙ ap op_in (outs-Binary p m s))
 
 pub binary_left : (o p : BinaryOp) (l r m s : Expr) → form.Binary o l r ≡ form.Binary p m s → l ≡ m
 unfolding left_in
-binary_left o p l r m s e = some_same l m (sym (ap left_in (outs-Binary o l r)) ∙ ap (λ f. left_in (out-Form f)) e ∙ ap left_in (outs-Binary p m s))
+binary_left o p l r m s e = some_same l m (sym (ap left_in (outs-Binary o l r)) ∙ ap (λ f. left_in (out-FirstText f)) e ∙ ap left_in (outs-Binary p m s))
 
 pub binary_right : (o p : BinaryOp) (l r m s : Expr) → form.Binary o l r ≡ form.Binary p m s → r ≡ s
 unfolding right_in
-binary_right o p l r m s e = some_same r s (sym (ap right_in (outs-Binary o l r)) ∙ ap (λ f. right_in (out-Form f)) e ∙ ap right_in (outs-Binary p m s))
+binary_right o p l r m s e = some_same r s (sym (ap right_in (outs-Binary o l r)) ∙ ap (λ f. right_in (out-FirstText f)) e ∙ ap right_in (outs-Binary p m s))
 
 pub not_both : (e l r m s : Expr) → e.form ≡ form.Binary op.Equal l r → e.form ≡ form.Binary op.Implies m s → ⊥
 not_both e l r m s p q = let same = binary_op op.Equal op.Implies l r m s (sym p ∙ q) in search (rules, same)
@@ -92,11 +94,11 @@ module _ (text : List ℕ) (constants : List (List ℕ)) where
   no_rest e l r f n [] q (m, s, g, i, c) = not_both e m s l r g f
   no_rest e l r f n (h ∷ hs) q (m, s, g, i, c) = let same = binary_right op.Implies op.Implies l r m s (sym f ∙ g) in n hs q (subst (λ z. IsChain text constants z hs q) (sym same) c)
 
-  pub no_left : (e l r : Expr) → e.form ≡ form.Binary op.Equal l r → ((k : ℕ) → IsConstant text constants l k → ⊥) → (q : Equation) → IsEquation text constants e q → ⊥
-  no_left e l r f n q (m, s, g, i, c) = let same = binary_left op.Equal op.Equal l r m s (sym f ∙ g) in n q.left (subst (λ z. IsConstant text constants z q.left) (sym same) i)
+  pub no_left : (e l r : Expr) → e.form ≡ form.Binary op.Equal l r → ((k : ℕ) → IsConstantAt text constants l k → ⊥) → (q : Equation) → IsEquation text constants e q → ⊥
+  no_left e l r f n q (m, s, g, i, c) = let same = binary_left op.Equal op.Equal l r m s (sym f ∙ g) in n q.left (subst (λ z. IsConstantAt text constants z q.left) (sym same) i)
 
-  pub no_right : (e l r : Expr) → e.form ≡ form.Binary op.Equal l r → ((k : ℕ) → IsConstant text constants r k → ⊥) → (q : Equation) → IsEquation text constants e q → ⊥
-  no_right e l r f n q (m, s, g, i, c) = let same = binary_right op.Equal op.Equal l r m s (sym f ∙ g) in n q.right (subst (λ z. IsConstant text constants z q.right) (sym same) c)
+  pub no_right : (e l r : Expr) → e.form ≡ form.Binary op.Equal l r → ((k : ℕ) → IsConstantAt text constants r k → ⊥) → (q : Equation) → IsEquation text constants e q → ⊥
+  no_right e l r f n q (m, s, g, i, c) = let same = binary_right op.Equal op.Equal l r m s (sym f ∙ g) in n q.right (subst (λ z. IsConstantAt text constants z q.right) (sym same) c)
 
   -- an equation that ends a chain
   pub last_alone : (e : Expr) (hyps : List Equation) (found : Option Equation) → ((l r : Expr) → e.form ≡ form.Binary op.Implies l r → ⊥) → MatchOption found ((q : Equation) → IsEquation text constants e q → ⊥) (λ q. IsEquation text constants e q)
@@ -152,8 +154,8 @@ each_length R (x ∷ xs) (y ∷ ys) e = ap suc (each_length R xs ys e.1)
 pub each_all : {A B : Type 0} (R : A → B → Type 0) (xs : List A) (ys : List B) (i : ℕ) → length xs ≤ i → Each R (take i xs) ys → Each R xs ys
 each_all R xs ys i le all = subst (λ zs. Each R zs ys) (take_all i xs le) all
 
-pub goal_read : (text : List ℕ) (constants : List (List ℕ)) (d : Decl) (s : Span) (body : Expr) (name : List ℕ) (hs : List Equation) (q : Equation) → d.form ≡ decl.Goal s body → Stands text s name
-    → (gs : List Equation) × (hs ≡ [] ++ gs) × IsChain text constants body gs q → length hs ≤ 1000 → IsGoalDecl text constants d (record { name = name; hyps = hs; last = q })
+pub goal_read : (text : List ℕ) (constants : List (List ℕ)) (d : Decl) (s : Span) (body : Expr) (name : List ℕ) (hs : List Equation) (q : Equation) → d.form ≡ decl.Goal s body → IsNameAt text s name
+    → (gs : List Equation) × (hs ≡ [] ++ gs) × IsChain text constants body gs q → length hs ≤ MOST_HYPOTHESES → IsGoalDecl text constants d (record { name = name; hyps = hs; last = q })
 goal_read text constants d s body name hs q f n (gs, same, c) short = (s, body, f, n, subst (λ z. IsChain text constants body z q) (sym same) c, short)
 
 -- a chain has so many hypotheses
@@ -173,7 +175,7 @@ unfolding goal_body_in
 same_body s t a b e = some_same a b (ap goal_body_in e)
 
 pub too_long : (text : List ℕ) (constants : List (List ℕ)) (d : Decl) (s : Span) (body : Expr) (hs : List Equation) (q : Equation) → d.form ≡ decl.Goal s body → (gs : List Equation) × (hs ≡ [] ++ gs) × IsChain text constants body gs q
-    → 1000 < length hs → (g : Chain) → IsGoalDecl text constants d g → ⊥
+    → MOST_HYPOTHESES < length hs → (g : Chain) → IsGoalDecl text constants d g → ⊥
 too_long text constants d s body hs q f (gs, same, c) long g (t, other, h, at, e, short) =
     let there = subst (λ z. IsChain text constants z g.hyps g.last) (same_body t s other body (sym h ∙ f)) e in
     let alike = chain_length text constants body gs g.hyps q g.last c there in
@@ -181,7 +183,7 @@ too_long text constants d s body hs q f (gs, same, c) long g (t, other, h, at, e
     absurd (omega (arith, long, short, alike, here))
 
 -- ---- names that are different
-pub stands_one : (text : List ℕ) (s : Span) (a b : List ℕ) → Stands text s a → Stands text s b → a ≡ b
+pub stands_one : (text : List ℕ) (s : Span) (a b : List ℕ) → IsNameAt text s a → IsNameAt text s b → a ≡ b
 stands_one text s a b p q = sym p.bytes ∙ q.bytes
 
 each_get : {A B : Type 0} (R : A → B → Type 0) (xs : List A) (ys : List B) (k : ℕ) (x : A) → Each R xs ys → slice_get xs k ≡ Some x → (y : B) × R x y × (slice_get ys k ≡ Some y)
@@ -215,21 +217,21 @@ apart_at ns k i a b apart lt p q e =
     apart k i [] lt t.1 (r.0 ∙ e ∙ sym t.0)
 
 -- a name that stands twice among the places
-pub repeated : (text : List ℕ) (places : List Span) (found ns : List (List ℕ)) (i : ℕ) (s : Span) → i < length places → s ≡ get_or places i s → Each (Stands text) (take i places) found
-    → ((name : List ℕ) → Stands text s name → (k : ℕ) × (slice_get found k ≡ Some name)) → Each (Stands text) places ns → AllPairs ◌≢◌ ns → ⊥
+pub repeated : (text : List ℕ) (places : List Span) (found ns : List (List ℕ)) (i : ℕ) (s : Span) → i < length places → s ≡ get_or places i s → Each (IsNameAt text) (take i places) found
+    → ((name : List ℕ) → IsNameAt text s name → (k : ℕ) × (slice_get found k ≡ Some name)) → Each (IsNameAt text) places ns → AllPairs ◌≢◌ ns → ⊥
 repeated text places found ns i s lt e before there all apart =
-    let last = each_at (Stands text) places ns i s lt e all in
+    let last = each_at (IsNameAt text) places ns i s lt e all in
     let again = there last.0 last.1 in
-    let first = each_back (Stands text) (take i places) found again.0 last.0 before again.1 in
+    let first = each_back (IsNameAt text) (take i places) found again.0 last.0 before again.1 in
     let front = get_front places i again.0 first.0 first.2 in
-    let same = each_get (Stands text) places ns again.0 first.0 all front.0 in
+    let same = each_get (IsNameAt text) places ns again.0 first.0 all front.0 in
     apart_at ns again.0 i same.0 last.0 apart front.1 same.2 last.2 (stands_one text first.0 same.0 last.0 same.1 first.1)
 
 -- a name that isn't among those that were found
 pub other_names : (found : List (List ℕ)) (name : List ℕ) → AllPairs ◌≢◌ found → ((k : ℕ) → slice_get found k ≡ Some name → ⊥) → AllPairs ◌≢◌ (found ++ name ∷ [])
 other_names found name apart none = all_pairs_push ◌≢◌ found name apart (λ k d lt e. none k (get_some found k d lt ∙ ap Some e))
 
-pub old_name : (text : List ℕ) (s : Span) (found : List (List ℕ)) (name : List ℕ) (k : ℕ) → Stands text s name → slice_get found k ≡ Some name → (other : List ℕ) → Stands text s other → (j : ℕ) × (slice_get found j ≡ Some other)
+pub old_name : (text : List ℕ) (s : Span) (found : List (List ℕ)) (name : List ℕ) (k : ℕ) → IsNameAt text s name → slice_get found k ≡ Some name → (other : List ℕ) → IsNameAt text s other → (j : ℕ) × (slice_get found j ≡ Some other)
 old_name text s found name k at e other at_other = (k, e ∙ ap Some (stands_one text s name other at at_other))
 
 -- ---- declarations
@@ -282,38 +284,38 @@ no_constants text d type_name a ns ss r e none cs (ms, q, f, is, all) = none (su
 
 -- the constants of a declaration, by their names
 pub constants_read : (text : List ℕ) (d : Decl) (type_name : List ℕ) (a : Bool) (ns : List Span) (ss : List WrittenType) (r : SymbolResult) (found : Option (List (List ℕ))) → d.form ≡ decl.Logic a ns ss r → a ≡ false → ss ≡ [] → IsResult text r type_name
-    → MatchOption found ((cs : List (List ℕ)) → Each (Stands text) ns cs → AllPairs ◌≢◌ cs → ⊥) (λ cs. Each (Stands text) ns cs × AllPairs ◌≢◌ cs)
+    → MatchOption found ((cs : List (List ℕ)) → Each (IsNameAt text) ns cs → AllPairs ◌≢◌ cs → ⊥) (λ cs. Each (IsNameAt text) ns cs × AllPairs ◌≢◌ cs)
     → MatchOption found ((cs : List (List ℕ)) → IsLogicDecl text d type_name cs → AllPairs ◌≢◌ cs → ⊥) (λ cs. IsLogicDecl text d type_name cs × AllPairs ◌≢◌ cs)
-constants_read text d type_name a ns ss r None e f g is h = λ cs l. h cs (subst (λ z. Each (Stands text) z cs) (same_names false a l.0 ns [] ss l.1 r (sym l.2 ∙ e)) l.4)
+constants_read text d type_name a ns ss r None e f g is h = λ cs l. h cs (subst (λ z. Each (IsNameAt text) z cs) (same_names false a l.0 ns [] ss l.1 r (sym l.2 ∙ e)) l.4)
 constants_read text d type_name a ns ss r (Some cs) e f g is h = ((ns, r, e ∙ ap (λ b. decl.Logic b ns ss r) f ∙ ap (λ zs. decl.Logic false ns zs r) g, is, h.0), h.1)
 
 -- ---- a file
 module _ (text : List ℕ) (file : File) (a b : Decl) (ds : List Decl) (e : file.decls ≡ a ∷ b ∷ ds) where
-  first_is : (f : Form) (is : IsFormOf text file f) → is.first ≡ a
+  first_is : (f : FirstText) (is : IsFirstTextOf text file f) → is.first ≡ a
   first_is f is = cons_head is.first a _ _ (sym is.decls ∙ e)
 
-  second_is : (f : Form) (is : IsFormOf text file f) → is.second ≡ b
+  second_is : (f : FirstText) (is : IsFirstTextOf text file f) → is.second ≡ b
   second_is f is = cons_head is.second b _ _ (cons_tail is.first a _ _ (sym is.decls ∙ e))
 
-  pub others_are : (f : Form) (is : IsFormOf text file f) → is.others ≡ ds
+  pub others_are : (f : FirstText) (is : IsFirstTextOf text file f) → is.others ≡ ds
   others_are f is = cons_tail is.second b _ _ (cons_tail is.first a _ _ (sym is.decls ∙ e))
 
-  pub no_type : ((name : List ℕ) → IsTypeDecl text a name → ⊥) → (f : Form) → IsFormOf text file f → ⊥
+  pub no_type : ((name : List ℕ) → IsTypeDecl text a name → ⊥) → (f : FirstText) → IsFirstTextOf text file f → ⊥
   no_type none f is = none f.type_name (subst (λ d. IsTypeDecl text d f.type_name) (first_is f is) is.declares_type)
 
-  pub type_one : (name : List ℕ) → IsTypeDecl text a name → (f : Form) → IsFormOf text file f → f.type_name ≡ name
+  pub type_one : (name : List ℕ) → IsTypeDecl text a name → (f : FirstText) → IsFirstTextOf text file f → f.type_name ≡ name
   type_one name (s, g, at) f is =
       let other = subst (λ d. IsTypeDecl text d f.type_name) (first_is f is) is.declares_type in
-      stands_one text s f.type_name name (subst (λ z. Stands text z f.type_name) (same_type [] [] other.0 s [] [] (sym other.1 ∙ g)) other.2) at
+      stands_one text s f.type_name name (subst (λ z. IsNameAt text z f.type_name) (same_type [] [] other.0 s [] [] (sym other.1 ∙ g)) other.2) at
 
-  logic_there : (name : List ℕ) → IsTypeDecl text a name → (f : Form) → IsFormOf text file f → IsLogicDecl text b name f.constants
+  logic_there : (name : List ℕ) → IsTypeDecl text a name → (f : FirstText) → IsFirstTextOf text file f → IsLogicDecl text b name f.constants
   logic_there name t f is =
       subst (λ n. IsLogicDecl text b n f.constants) (type_one name t f is) (subst (λ d. IsLogicDecl text d f.type_name f.constants) (second_is f is) is.declares_constants)
 
-  pub no_logic : (name : List ℕ) → IsTypeDecl text a name → ((cs : List (List ℕ)) → IsLogicDecl text b name cs → AllPairs ◌≢◌ cs → ⊥) → (f : Form) → IsFormOf text file f → ⊥
+  pub no_logic : (name : List ℕ) → IsTypeDecl text a name → ((cs : List (List ℕ)) → IsLogicDecl text b name cs → AllPairs ◌≢◌ cs → ⊥) → (f : FirstText) → IsFirstTextOf text file f → ⊥
   no_logic name t none f is = none f.constants (logic_there name t f is) is.different
 
-  each_one : (ss : List Span) (cs es : List (List ℕ)) → Each (Stands text) ss cs → Each (Stands text) ss es → cs ≡ es
+  each_one : (ss : List Span) (cs es : List (List ℕ)) → Each (IsNameAt text) ss cs → Each (IsNameAt text) ss es → cs ≡ es
   each_one [] [] [] p q = refl
   each_one [] [] (y ∷ es) p q = absurd q
   each_one [] (x ∷ cs) es p q = absurd p
@@ -321,35 +323,35 @@ module _ (text : List ℕ) (file : File) (a b : Decl) (ds : List Decl) (e : file
   each_one (s ∷ ss) (x ∷ cs) [] p q = absurd q
   each_one (s ∷ ss) (x ∷ cs) (y ∷ es) p q = ap (λ z. z ∷ cs) (stands_one text s x y p.0 q.0) ∙ ap (λ zs. y ∷ zs) (each_one ss cs es p.1 q.1)
 
-  pub constants_one : (name : List ℕ) (cs : List (List ℕ)) → IsTypeDecl text a name → IsLogicDecl text b name cs → (f : Form) → IsFormOf text file f → f.constants ≡ cs
+  pub constants_one : (name : List ℕ) (cs : List (List ℕ)) → IsTypeDecl text a name → IsLogicDecl text b name cs → (f : FirstText) → IsFirstTextOf text file f → f.constants ≡ cs
   constants_one name cs t l f is =
       let other = logic_there name t f is in
-      each_one l.0 f.constants cs (subst (λ ns. Each (Stands text) ns f.constants) (same_names false false other.0 l.0 [] [] other.1 l.1 (sym other.2 ∙ l.2)) other.4) l.4
+      each_one l.0 f.constants cs (subst (λ ns. Each (IsNameAt text) ns f.constants) (same_names false false other.0 l.0 [] [] other.1 l.1 (sym other.2 ∙ l.2)) other.4) l.4
 
-  pub no_goals : (name : List ℕ) (cs : List (List ℕ)) → IsTypeDecl text a name → IsLogicDecl text b name cs → ((gs : List Chain) → Each (IsGoalDecl text cs) ds gs → ⊥) → (f : Form) → IsFormOf text file f → ⊥
+  pub no_goals : (name : List ℕ) (cs : List (List ℕ)) → IsTypeDecl text a name → IsLogicDecl text b name cs → ((gs : List Chain) → Each (IsGoalDecl text cs) ds gs → ⊥) → (f : FirstText) → IsFirstTextOf text file f → ⊥
   no_goals name cs t l none f is =
       none f.goals (subst (λ zs. Each (IsGoalDecl text cs) zs f.goals) (others_are f is) (subst (λ zs. Each (IsGoalDecl text zs) is.others f.goals) (constants_one name cs t l f is) is.declares_goals))
 
   pub form_is : (name : List ℕ) (cs : List (List ℕ)) (gs : List Chain) → IsTypeDecl text a name → IsLogicDecl text b name cs → AllPairs ◌≢◌ cs → Each (IsGoalDecl text cs) ds gs
-      → IsFormOf text file (record { type_name = name; constants = cs; goals = gs })
+      → IsFirstTextOf text file (record { type_name = name; constants = cs; goals = gs })
   form_is name cs gs t l apart all =
       record { first = a; second = b; others = ds; decls = e; declares_type = t; declares_constants = l; different = apart; declares_goals = all }
 
 -- ---- what follows for a form
 module _ (text : List ℕ) (constants : List (List ℕ)) where
-  equation_within : (e : Expr) (q : Equation) → IsEquation text constants e q → IsWithin (length constants) q
+  equation_within : (e : Expr) (q : Equation) → IsEquation text constants e q → IsEquationOver (length constants) q
   equation_within e q (l, r, f, a, b) = ((get_read constants q.left a.1 [] a.4).1, (get_read constants q.right b.1 [] b.4).1)
 
-  chain_within : (e : Expr) (hs : List Equation) (q : Equation) → IsChain text constants e hs q → AllByRecursion (IsWithin (length constants)) hs × IsWithin (length constants) q
+  chain_within : (e : Expr) (hs : List Equation) (q : Equation) → IsChain text constants e hs q → AllByRecursion (IsEquationOver (length constants)) hs × IsEquationOver (length constants) q
   chain_within e [] q c = (tt, equation_within e q c)
   chain_within e (h ∷ hs) q (l, r, f, i, c) = let rest = chain_within r hs q c in ((equation_within l h i, rest.0), rest.1)
 
-  goals_within : (ds : List Decl) (gs : List Chain) → Each (IsGoalDecl text constants) ds gs → AllByRecursion (IsGoal (length constants)) gs
+  goals_within : (ds : List Decl) (gs : List Chain) → Each (IsGoalDecl text constants) ds gs → AllByRecursion (IsGoalOver (length constants)) gs
   goals_within [] [] all = tt
   goals_within [] (g ∷ gs) all = absurd all
   goals_within (d ∷ ds) [] all = absurd all
   goals_within (d ∷ ds) (g ∷ gs) ((s, body, f, at, c, short), all) =
       let w = chain_within body g.hyps g.last c in (record { hyps = w.0; last = w.1; short = short }, goals_within ds gs all)
 
-pub is_form : (text : List ℕ) (file : File) (f : Form) → IsFormOf text file f → IsForm f
-is_form text file f is = record { goals = goals_within text f.constants is.others f.goals is.declares_goals }
+pub well_placed : (text : List ℕ) (file : File) (f : FirstText) → IsFirstTextOf text file f → IsWellPlaced f
+well_placed text file f is = record { goals = goals_within text f.constants is.others f.goals is.declares_goals }

@@ -15,14 +15,14 @@ use Rattle.ae_core.specs.declared.terms.Term.TheOpen as term_layer
 use Rattle.ae_core.specs.declared.terms.Term.TheVariants.{outs-Apply}
 use Rattle.ae_core.specs.declared.formulas.Formula.{Formula, Eq, Not, Or}
 use Rattle.ae_core.specs.declared.formulas.Lit.{Lit}
-use Rattle.ae_driver.specs.declared.form.Equation.{Equation}
-use Rattle.ae_driver.specs.Form.{IsWithin}
-use Rattle.ae_driver.specs.Chains.{constant, equation, chain}
+use Rattle.ae_driver.specs.declared.first_text.Equation.{Equation}
+use Rattle.ae_driver.specs.Inner.Places.{IsEquationOver}
+use Rattle.ae_driver.specs.Problems.{constant, equation, chain}
 use Rattle.ae_driver.specs.Truth.{truth, truth_step, same_truth}
 use Rattle.ae_driver.specs.StateTypes.{System}
-use Rattle.ae_driver.specs.StateChains.{state_literals, constants_from}
+use Rattle.ae_driver.specs.Inner.StateChains.{state_literals, constants_from}
 use Rattle.ae_driver.specs.States.{value_in, value_of, same_value, alike, has_name, is_named, named_step, SomeStands, IsTakenApart}
-use Rattle.ae_driver.proofs.ValueFacts.{IsValues, Same}
+use Rattle.ae_driver.proofs.MergedValues.{IsValues, Same}
 use Rattle.ae_driver.proofs.ChainProof.{no_chain, no_not}
 
 -- ---- different constants are different terms
@@ -154,7 +154,7 @@ module _ (all : List Lit) where
   )
 
 -- ---- a chain whose values tell its sides apart
-module _ (n : ℕ) (es : List Equation) (g : Equation) (vs : List ℕ) (ws : AllByRecursion (IsWithin n) es) (w : IsWithin n g) (is : IsValues n vs)
+module _ (n : ℕ) (es : List Equation) (g : Equation) (vs : List ℕ) (ws : AllByRecursion (IsEquationOver n) es) (w : IsEquationOver n g) (is : IsValues n vs)
     (same : AllByRecursion (Same vs) es) (differ : get_or vs g.left 0 ≢ get_or vs g.right 0) where
   abbrev pub the_system : System
   the_system = record { names = constants_from 0 n; values = vs }
@@ -165,30 +165,30 @@ module _ (n : ℕ) (es : List Equation) (g : Equation) (vs : List ℕ) (ws : All
   alike_is : (a b : ℕ) → a < n → b < n → alike the_system (constant a) (constant b) ≡ nat_eq (get_or vs a 0) (get_or vs b 0)
   alike_is a b la lb = λ i. same_value (value_is a la i) (value_is b lb i) (decided (Term_discrete (constant a) (constant b)))
 
-  equation_true : (e : Equation) → IsWithin n e → Same vs e → truth (alike the_system) (equation e) ≡ true
+  equation_true : (e : Equation) → IsEquationOver n e → Same vs e → truth (alike the_system) (equation e) ≡ true
   equation_true e v h = truth_eq the_system _ _ ∙ alike_is e.left e.right v.0 v.1 ∙ nat_eq_same _ _ h
 
   end_false : truth (alike the_system) (equation g) ≡ false
   end_false = truth_eq the_system _ _ ∙ alike_is g.left g.right w.0 w.1 ∙ nat_eq_apart _ _ differ
 
-  chain_false : (hs : List Equation) → AllByRecursion (IsWithin n) hs → AllByRecursion (Same vs) hs → truth (alike the_system) (chain hs g) ≡ false
+  chain_false : (hs : List Equation) → AllByRecursion (IsEquationOver n) hs → AllByRecursion (Same vs) hs → truth (alike the_system) (chain hs g) ≡ false
   chain_false [] v h = end_false
   chain_false (e ∷ hs) v h =
       truth_or the_system (Not (equation e)) (chain hs g)
       ∙ (λ i. (truth_not the_system (equation e) ∙ ap not (equation_true e v.0 h.0)) i || chain_false hs v.1 h.1 i)
 
-  equation_named : (e : Equation) → IsWithin n e → is_named the_system (equation e) ≡ true
+  equation_named : (e : Equation) → IsEquationOver n e → is_named the_system (equation e) ≡ true
   equation_named e v = named_eq the_system _ _ ∙ (λ i. known (value_is e.left v.0 i) && known (value_is e.right v.1 i))
 
-  chain_named : (hs : List Equation) → AllByRecursion (IsWithin n) hs → is_named the_system (chain hs g) ≡ true
+  chain_named : (hs : List Equation) → AllByRecursion (IsEquationOver n) hs → is_named the_system (chain hs g) ≡ true
   chain_named [] v = equation_named g w
   chain_named (e ∷ hs) v = named_or the_system (Not (equation e)) (chain hs g) ∙ (λ i. (named_not the_system (equation e) ∙ equation_named e v.0) i && chain_named hs v.1 i)
 
-  literals_true : (hs : List Equation) → AllByRecursion (IsWithin n) hs → AllByRecursion (Same vs) hs → AllByRecursion (λ l. lit_true (alike the_system) l ≡ true) (state_literals hs g)
+  literals_true : (hs : List Equation) → AllByRecursion (IsEquationOver n) hs → AllByRecursion (Same vs) hs → AllByRecursion (λ l. lit_true (alike the_system) l ≡ true) (state_literals hs g)
   literals_true [] v h = (ap (same_truth false) end_false, tt)
   literals_true (e ∷ hs) v h = (ap (same_truth false) (chain_false (e ∷ hs) v h), (ap (same_truth true) (equation_true e v.0 h.0), literals_true hs v.1 h.1))
 
-  literals_named : (hs : List Equation) → AllByRecursion (IsWithin n) hs → AllByRecursion (λ l. is_named the_system l.formula ≡ true) (state_literals hs g)
+  literals_named : (hs : List Equation) → AllByRecursion (IsEquationOver n) hs → AllByRecursion (λ l. is_named the_system l.formula ≡ true) (state_literals hs g)
   literals_named [] v = (equation_named g w, tt)
   literals_named (e ∷ hs) v = (chain_named (e ∷ hs) v, (equation_named e v.0, literals_named hs v.1))
 

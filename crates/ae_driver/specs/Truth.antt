@@ -6,9 +6,9 @@ use Rattle.ae_core.specs.declared.terms.Term.{Term}
 use Rattle.ae_core.specs.declared.formulas.Formula.{Formula, Formula-F, fold-Formula}
 use Rattle.ae_core.specs.declared.formulas.Formula.TheOpen as layer
 use Rattle.ae_core.specs.declared.proofs.Proof.{Proof}
-use Rattle.ae_driver.specs.declared.form.Chain.{Chain}
-use Rattle.ae_driver.specs.declared.form.Form.{Form}
-use Rattle.ae_driver.specs.Chains.{problem}
+use Rattle.ae_driver.specs.declared.first_text.Chain.{Chain}
+use Rattle.ae_driver.specs.declared.first_text.FirstText.{FirstText}
+use Rattle.ae_driver.specs.Problems.{problem}
 
 -- both true, or both false
 abbrev pub same_truth : Bool → Bool → Bool
@@ -37,6 +37,6 @@ truth alike = fold-Formula Bool (Unit {0}) (truth_step alike) (λ q. tt)
 -- the goal of a derivation follows from its hypotheses: where each of these holds between the values of constants, so does the last equation
 abbrev pub IsSound : Type 0
 IsSound =
-    (f : Form) (k : ℕ) (g : Chain) (proof : Proof) (value : ℕ → ℕ)
+    (f : FirstText) (k : ℕ) (g : Chain) (proof : Proof) (value : ℕ → ℕ)
     → Derives (problem f) k proof → slice_get f.goals k ≡ Some g
     → AllByRecursion (λ e. value e.left ≡ value e.right) g.hyps → value g.last.left ≡ value g.last.right

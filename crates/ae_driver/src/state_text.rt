@@ -1,11 +1,11 @@
 //! The text of a state, written from a chain of equations and the values of its constants.
 
 ghost use Rattle.std.specs.Prelude.{◌≡◌, ◌++◌, OnOk};
-ghost use Rattle.ae_driver.specs.Bytes.{name_bytes};
+ghost use Rattle.ae_driver.specs.Inner.Bytes.{name_bytes};
 ghost use Rattle.ae_driver.specs.StateTexts.{value_text};
-ghost use Rattle.ae_driver.specs.StateBytes as bytes;
+ghost use Rattle.ae_driver.specs.Inner.StateBytes as bytes;
 
-use crate::form::{Chain, Equation};
+use crate::first_text::{Chain, Equation};
 use crate::search::Named;
 use crate::text::{put, put_closings, put_equation, put_name, put_number, put_openings};
 use ae_core::words::Word;

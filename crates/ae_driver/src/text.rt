@@ -2,10 +2,10 @@
 
 ghost use Rattle.std.specs.Prelude.{◌≡◌, ◌++◌, ◌+◌, ◌<◌, ◌^◌, length, OnOk, codes, decimal};
 ghost use Rattle.std.specs.List.{flat_map};
-ghost use Rattle.ae_driver.specs.Bytes as bytes;
-ghost use Rattle.ae_driver.specs.Output.{valid_bytes};
+ghost use Rattle.ae_driver.specs.Inner.Bytes as bytes;
+ghost use Rattle.ae_driver.specs.Inner.Endings.{valid_bytes};
 
-use crate::form::{Chain, Equation};
+use crate::first_text::{Chain, Equation};
 use crate::search::Refutation;
 use ae_core::proofs::EqLine;
 use ae_core::terms::{Head, Term};

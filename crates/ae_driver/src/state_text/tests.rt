@@ -1,6 +1,6 @@
 //! The whole text of a small state.
 
-use crate::form::{Chain, Equation};
+use crate::first_text::{Chain, Equation};
 use crate::search::Named;
 use crate::state_text::put_unknown;
 use ae_core::lists::List;

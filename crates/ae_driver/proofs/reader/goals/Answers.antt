@@ -1,6 +1,6 @@
 use Rattle.std.proofs.Common.{rules, subst, sym, take, ◌+◌}
-use Rattle.ae_driver.specs.Form.{IsGoalDecl, Each}
-use Rattle.ae_driver.specs.declared.form.Chain.{Chain}
+use Rattle.ae_driver.specs.FirstTexts.{IsGoalDecl, Each}
+use Rattle.ae_driver.specs.declared.first_text.Chain.{Chain}
 use Rattle.ae_driver.proofs.Reading.{no_goal, each_more}
 use Rattle.ae_driver.proofs.reader.goals.Goals as goal
 

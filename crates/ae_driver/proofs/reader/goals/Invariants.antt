@@ -1,5 +1,5 @@
 use Rattle.std.proofs.Common.{take}
-use Rattle.ae_driver.specs.Form.{Each, IsGoalDecl}
+use Rattle.ae_driver.specs.FirstTexts.{Each, IsGoalDecl}
 use Rattle.ae_driver.proofs.reader.goals.Given as goal
 
 abbrev pub invariant-loop-decl : goal.invariant-loop-decl
