@@ -23,10 +23,12 @@ use Rattle.ae_driver.specs.Inner.ChainProofs.{assumed, defs, hints, chain_proof}
 use Rattle.ae_driver.specs.Inner.Places.{IsEquationOver}
 use Rattle.ae_driver.specs.Inner.Search.{IsStep, OfConstants, Refutes, block_of, no_signature, any}
 use Rattle.ae_driver.specs.declared.search.Refutation.{Refutation}
-use Rattle.ae_driver.proofs.Growing.{get_seam, last_assumed}
-use Rattle.ae_driver.proofs.Propagates.{four, five, denied, hinted_clauses, propagates_all, decided_true, both_true}
+use Rattle.ae_driver.proofs.Growing.{last_assumed}
+use Rattle.ae_driver.proofs.Propagates.{four, five, denied, hinted_clauses, propagates_all, decided_true}
 use Rattle.ae_core.specs.Decided.{Sort_discrete}
 use Rattle.std.proofs.lemmas.List.{reverse-append}
+use Rattle.ae_base.proofs.ListFacts.{get_seam}
+use Rattle.std.proofs.lemmas.Bool.{and_from}
 
 -- ---- literals and rows of a chain
 pub no_chain : (es : List Equation) (g : Equation) → no_of (chain es g) ≡ is_false (chain es g)
@@ -101,8 +103,8 @@ module _ (p : Problem) (k : ℕ) (n : ℕ) (s : Sort) (es : List Equation) (g : 
   )
 
   assumed_ok : (hs : List Equation) (t : Equation) → AllByRecursion (IsEquationOver n) hs → IsEquationOver n t → clause_ok p.signature (assumed hs t) ≡ true
-  assumed_ok [] t ws w = both_true _ true (equation_ok t w) refl
-  assumed_ok (e ∷ hs) t ws w = both_true _ _ (equation_ok e ws.0) (assumed_ok hs t ws.1 w)
+  assumed_ok [] t ws w = and_from _ true (equation_ok t w) refl
+  assumed_ok (e ∷ hs) t ws w = and_from _ _ (equation_ok e ws.0) (assumed_ok hs t ws.1 w)
 
   -- ---- the clause lines
   are_append : (earlier xs ys : List ClauseLine) → AreAllowed p k earlier xs → AreAllowed p k (earlier ++ xs) ys → AreAllowed p k earlier (xs ++ ys)
@@ -127,7 +129,7 @@ module _ (p : Problem) (k : ℕ) (n : ℕ) (s : Sort) (es : List Equation) (g : 
   DefsAt earlier x (e ∷ hs) = (stated_by p k earlier x ≡ Some (four e hs g)) × (stated_by p k earlier (x + 1) ≡ Some (five e hs g)) × DefsAt earlier (x + 2) hs
 
   stated_seam : (pre : List ClauseLine) (l : ClauseLine) (post : List ClauseLine) (x : ℕ) (c : Clause) → x ≡ length pre → conclusion p k l ≡ Some c → stated_by p k (pre ++ l ∷ post) x ≡ Some c
-  stated_seam pre l post x c e h = ap (λ o. o >>= conclusion p k) (get_seam pre l post x e) ∙ h
+  stated_seam pre l post x c e h = ap (λ o. o >>= conclusion p k) (ap (slice_get (pre ++ l ∷ post)) e ∙ get_seam pre post l) ∙ h
 
   defs_at : (hs : List Equation) (pre post : List ClauseLine) (x : ℕ) → x ≡ length pre → DefsAt (pre ++ (defs hs g ++ post)) x hs
   unfolding DefsAt

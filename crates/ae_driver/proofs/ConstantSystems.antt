@@ -32,19 +32,11 @@ use Rattle.ae_journal.specs.declared.systems.RuleEntry.{RuleEntry}
 use Rattle.ae_driver.specs.declared.first_text.FirstText.{FirstText}
 use Rattle.ae_driver.specs.Problems.{constant, the_type, symbol_entry, signature}
 use Rattle.ae_driver.specs.Inner.StateChains.{constants_from, constant_system}
-use Rattle.ae_driver.proofs.FromModels.{get_map}
 use Rattle.ae_driver.proofs.MergedValues.{IsValues}
-use Rattle.ae_driver.proofs.Propagates.{decided_true}
-
-none_some : {X : Type 0} {x : X} → ◌≡◌ {A = Option X} None (Some x) → ⊥
-none_some e = cc
-
-some_same : {X : Type 0} (x y : X) → Some x ≡ Some y → x ≡ y
-some_same x y e = ap (λ o. or_else o x) e
-
-decided_no : {P : Type 0} (d : Dec P) → (P → ⊥) → decided d ≡ false
-decided_no (yes p) n = absurd (n p)
-decided_no (no n) m = refl
+use Rattle.ae_driver.proofs.Propagates.{decided_true, decided_not}
+use Rattle.ae_base.proofs.ListFacts.{get_map}
+use Rattle.ae_base.proofs.Options.{never_some}
+use Rattle.std.proofs.lemmas.Option.{same_Some}
 
 -- ---- different constants are different terms, and no constant is anything else
 number_layer : Term-F Term → ℕ
@@ -73,13 +65,13 @@ arguments_are n h ss us e = let z = layers n h ss us e in cc
 no_numeral : (n : ℕ) (a b : ℤ) (real : Bool) → constant n ≡ Num a b real → ⊥
 no_numeral n a b real e = let z : term_layer.Apply (Symbol n) [] [] ≡ term_layer.Num a b real = sym (outs-Apply (Symbol n) [] []) ∙ ap out-Term e ∙ outs-Num a b real in cc
 
-same_number : (m n : ℕ) → Symbol m ≡ Symbol n → m ≡ n
+pub same_number : (m n : ℕ) → Symbol m ≡ Symbol n → m ≡ n
 same_number m n e = cc
 
 -- ---- the constants in a row
 get_constants : (n k i : ℕ) (t : Term) → slice_get (constants_from k n) i ≡ Some t → (i < n) × (t ≡ constant (k + i))
-get_constants zero k i t e = absurd (none_some e)
-get_constants (suc n) k zero t e = (omega arith, sym (some_same (constant k) t e) ∙ ap constant (let h : k ≡ k + 0 = omega arith in h))
+get_constants zero k i t e = absurd (never_some _ e)
+get_constants (suc n) k zero t e = (omega arith, sym (same_Some (constant k) t e) ∙ ap constant (let h : k ≡ k + 0 = omega arith in h))
 get_constants (suc n) k (suc i) t e =
     let r = get_constants n (k + 1) i t e in (omega (arith, r.0), r.1 ∙ ap constant (let h : (k + 1) + i ≡ k + suc i = omega arith in h))
 
@@ -102,8 +94,8 @@ unfolding forms_in
 no_forms n = ap forms_in (sym (rolls-Leaf n)) ∙ fold-roll-Value (List Lin) forms_step (value_layer.Leaf n)
 
 written_leaf : (vs : List ℕ) (i : ℕ) (v : Value) → slice_get (map Leaf vs) i ≡ Some v → (w : ℕ) × (Leaf w ≡ v)
-written_leaf [] i v e = absurd (none_some e)
-written_leaf (w ∷ vs) zero v e = (w, some_same (Leaf w) v e)
+written_leaf [] i v e = absurd (never_some _ e)
+written_leaf (w ∷ vs) zero v e = (w, same_Some (Leaf w) v e)
 written_leaf (w ∷ vs) (suc i) v e = written_leaf vs i v e
 
 leaf_at : (vs : List ℕ) (i : ℕ) → i < length vs → slice_get (map Leaf vs) i ≡ Some (Leaf (get_or vs i 0))
@@ -115,14 +107,14 @@ leaf_at (w ∷ vs) (suc i) lt = leaf_at vs i (omega (arith, lt))
 outs_type : out-Sort the_type ≡ sort_layer.Named 0 []
 outs_type = outs-Named 0 []
 
-not_int : the_type ≢ Int
+pub not_int : the_type ≢ Int
 not_int e = let z : sort_layer.Named 0 [] ≡ sort_layer.Int = sym outs_type ∙ ap out-Sort e ∙ outs-Int in cc
 
 not_real : the_type ≢ Real
 not_real e = let z : sort_layer.Named 0 [] ≡ sort_layer.Real = sym outs_type ∙ ap out-Sort e ∙ outs-Real in cc
 
 not_numeric : is_numeric the_type ≡ false
-not_numeric = ap (λ b. b || decided (Sort_discrete the_type Real)) (decided_no (Sort_discrete the_type Int) not_int) ∙ decided_no (Sort_discrete the_type Real) not_real
+not_numeric = ap (λ b. b || decided (Sort_discrete the_type Real)) (decided_not (Sort_discrete the_type Int) not_int) ∙ decided_not (Sort_discrete the_type Real) not_real
 
 symbol_fits : (name : List ℕ) → symbol_sort [] [] (symbol_entry name) ≡ Some the_type
 symbol_fits name =
@@ -139,8 +131,8 @@ and_false true = refl
 and_false false = refl
 
 entry_of : (cs : List (List ℕ)) (c : ℕ) (e : SymbolEntry) → slice_get (map symbol_entry cs) c ≡ Some e → (name : List ℕ) × (symbol_entry name ≡ e)
-entry_of [] c e h = absurd (none_some h)
-entry_of (x ∷ xs) zero e h = (x, some_same (symbol_entry x) e h)
+entry_of [] c e h = absurd (never_some _ h)
+entry_of (x ∷ xs) zero e h = (x, same_Some (symbol_entry x) e h)
 entry_of (x ∷ xs) (suc c) e h = entry_of xs c e h
 
 free_no_choice : (of place : ℕ) → Free ≡ Choice of place → ⊥
@@ -204,13 +196,13 @@ module _ (f : FirstText) where
     worth c v (m, name, value) =
         let r = name_is m (constant c) name in
         let same : c ≡ m = constant_inj c m r.1 in
-        some_same (leaf (get_or vs c 0)) v (ap (λ k. Some (leaf (get_or vs k 0))) same ∙ sym (value_is m r.0) ∙ value)
+        same_Some (leaf (get_or vs c 0)) v (ap (λ k. Some (leaf (get_or vs k 0))) same ∙ sym (value_is m r.0) ∙ value)
 
     sort_is : (i : ℕ) (t : Term) → IsName y i t → sort_of (signature f) t ≡ Some the_type
     sort_is i t e = let r = name_is i t e in ap (sort_of (signature f)) r.1 ∙ constants_fit i r.0
 
     pub its_sort : (i : ℕ) (t : Term) (s : Sort) → IsName y i t → sort_of (signature f) t ≡ Some s → the_type ≡ s
-    its_sort i t s e h = some_same the_type s (sym (sort_is i t e) ∙ h)
+    its_sort i t s e h = same_Some the_type s (sym (sort_is i t e) ∙ h)
 
     pub its_head : (i : ℕ) (h : Head) (ss : List Sort) (us : List Term) → IsName y i (Apply h ss us) → Symbol i ≡ h
     its_head i h ss us e = head_is i h ss us (sym (name_is i (Apply h ss us) e).1)
@@ -224,7 +216,7 @@ module _ (f : FirstText) where
         no_predicate i p ss us r.0 (same_number i p (head_is i (Symbol p) ss us (sym r.1 ∙ h))) ok
 
     no_record : (i : ℕ) (t : Term) (s : Sort) (ss : List Sort) → IsName y i t → sort_of (signature f) t ≡ Some s → record_fields (signature f) s ≡ Some ss → ⊥
-    no_record i t s ss e h g = none_some (sym no_fields ∙ ap (record_fields (signature f)) (its_sort i t s e h) ∙ g)
+    no_record i t s ss e h g = never_some _ (sym no_fields ∙ ap (record_fields (signature f)) (its_sort i t s e h) ∙ g)
 
     its_leaf : (w : ℕ) → w < n → get_or vs w 0 ≡ w → IsLeaf (signature f) y the_type w
     its_leaf w lt e = record {
@@ -239,12 +231,12 @@ module _ (f : FirstText) where
         let r = name_is i h.term h.is in
         let w = get_or vs i 0 in
         let sorts = its_sort i h.term s h.is h.sort in
-        let values = some_same (leaf w) v (sym (value_is i r.0) ∙ h.value) in
+        let values = same_Some (leaf w) v (sym (value_is i r.0) ∙ h.value) in
         subst (λ u. IsOver (signature f) y s u) values
         (subst (λ o. IsOver (signature f) y o (leaf w)) sorts (not_numeric, no_fields, its_leaf w (is.within i r.0) (is.leaf i r.0)))
 
     no_rule : {A : Type 0} (k : ℕ) (e : RuleEntry) → slice_get y.rules k ≡ Some e → A
-    no_rule k e h = absurd (none_some h)
+    no_rule k e h = absurd (never_some _ h)
 
     pub completed : IsCompleted (signature f) y
     completed = record {
@@ -257,7 +249,7 @@ module _ (f : FirstText) where
       over = over;
       predicate_value = λ i t e p. absurd (no_predicate_name i t e p);
       numeral = λ i a b r e. absurd (no_numeral i a b r (sym (name_is i (Num a b r) e).1));
-      computed = λ i h ss us ws v e g l. absurd (none_some (ap (λ k. linear k (beside us ws)) (its_head i h ss us e) ∙ l));
+      computed = λ i h ss us ws v e g l. absurd (never_some _ (ap (λ k. linear k (beside us ws)) (its_head i h ss us e) ∙ l));
       record_value = λ i t s ss e h g. absurd (no_record i t s ss e h g);
       written = λ i k place ss us u v e h g. absurd (no_field i k place (its_head i (Field k place) ss (Apply (Build k) ss us ∷ []) e));
       congruent = λ i j h ss us ws us_values s e g o p q. ap (value_at y) (same_number i j (its_head i h ss us e ∙ sym (its_head j h ss ws g)));

@@ -15,7 +15,7 @@ use Rattle.ae_driver.specs.declared.first_text.Equation.{Equation}
 use Rattle.ae_driver.specs.declared.first_text.Chain.{Chain}
 use Rattle.ae_driver.specs.declared.first_text.FirstText.{FirstText}
 use Rattle.ae_driver.specs.Problems.{constant, equation, chain, goal_item, problem}
-use Rattle.ae_driver.specs.Truth.{IsSound}
+use Rattle.ae_driver.specs.Soundness.{IsSound}
 use Rattle.ae_models.specs.Structures.{Value, Element, Structure}
 use Rattle.ae_models.specs.Truth.{Fresh, same, value, Settled, Holds, claim, IsTrue}
 use Rattle.ae_models.proofs.ClaimLaws.{value_apply, claim_eq, claim_or, claim_not}
@@ -23,20 +23,14 @@ use Rattle.ae_models.proofs.ModelTerms.{same_is}
 use Rattle.ae_models.proofs.FirstForm.{with_constants, constants_interpret, constants_lawful, constant_value}
 use Rattle.ae_math.specs.Fractions.{ℚ}
 use Rattle.ae_models.proofs.Soundness.{none_derives}
-
-none_some : {A P : Type 0} (x : A) → ◌≡◌ {A = Option A} None (Some x) → P
-none_some x e = cc
-
-pub get_map : {X Y : Type 0} (f : X → Y) (xs : List X) (k : ℕ) (x : X) → slice_get xs k ≡ Some x → slice_get (map f xs) k ≡ Some (f x)
-get_map f [] k x e = none_some x e
-get_map f (y ∷ ys) zero x e = ap (λ o. o >>= λ z. Some (f z)) e
-get_map f (y ∷ ys) (suc k) x e = get_map f ys k x e
+use Rattle.ae_base.proofs.ListFacts.{get_map}
+use Rattle.ae_base.proofs.Options.{never_some}
 
 pub body_is : (f : FirstText) (k : ℕ) (g : Chain) → slice_get f.goals k ≡ Some g → goal_body (problem f) k ≡ Some (chain g.hyps g.last)
 body_is f k g e = ap (λ o. o >>= λ i. elim i [ Axiom n v b ↦ None | GoalItem n v b ↦ Some b ]) (get_map goal_item f.goals k g e)
 
 pub no_axiom : {P : Type 0} (gs : List Chain) (n : ℕ) (name : List ℕ) (v : ℕ) (b : Formula) → slice_get (map goal_item gs) n ≡ Some (Axiom name v b) → P
-no_axiom [] n name v b e = none_some _ e
+no_axiom [] n name v b e = never_some _ e
 no_axiom (g ∷ gs) zero name v b e = let h : ◌≡◌ {A = Item} (goal_item g) (Axiom name v b) = same_Some (goal_item g) (Axiom name v b) e in cc h
 no_axiom (g ∷ gs) (suc n) name v b e = no_axiom gs n name v b e
 

@@ -5,10 +5,12 @@ pub mod Propagates
 pub mod ChainProof
 pub mod TextLaws
 pub mod TextProof
-pub mod Answered
 pub mod MergingInOrder
 pub mod MergedValues
 pub mod FromModels
+pub mod ConstantSystems
 pub mod Saturated
+pub mod ConstantTruth
 pub mod StateTextProof
+pub mod Answered
 pub mod Existence

@@ -1,4 +1,5 @@
 -- A text says one thing as a first text.
+use Rattle.ae_base.specs.Relations.{Pairwise}
 use Rattle.std.proofs.Common.{◌≡◌, ◌≢◌, ℕ, ◌<◌, List, [], ◌∷◌, Some, None, sym, ap, ◌∙◌, subst, arith, refl}
 use Rattle.std.specs.Prelude.{slice_get, Option}
 use Rattle.std.specs.List.{AllPairs}
@@ -20,9 +21,10 @@ use Rattle.ae_syntax.proofs.FileLaws.{one_tree}
 use Rattle.ae_driver.specs.declared.first_text.Equation.{Equation}
 use Rattle.ae_driver.specs.declared.first_text.Chain.{Chain}
 use Rattle.ae_driver.specs.declared.first_text.FirstText.{FirstText}
-use Rattle.ae_driver.specs.FirstTexts.{IsNameAt, Each, IsConstantAt, IsEquation, IsChain, IsGoalDecl, IsFirstTextOf}
+use Rattle.ae_driver.specs.FirstTexts.{IsNameAt, IsConstantAt, IsEquation, IsChain, IsGoalDecl, IsFirstTextOf}
 use Rattle.ae_driver.specs.Output.{Reads}
 use Rattle.ae_driver.proofs.Reading.{some_same, binary_left, binary_right, not_both, same_body, stands_one, apart_at, others_are, type_one, constants_one}
+use Rattle.ae_base.proofs.ListFacts.{cons_same}
 
 -- ---- the places of names
 applied_in : {A B C D : Type 0} → Form-F A B C D → Option Span
@@ -31,7 +33,7 @@ applied_in _ = None
 
 same_applied : (s t : Span) → form.Apply s [] ≡ form.Apply t [] → s ≡ t
 unfolding applied_in
-same_applied s t e = some_same s t (sym (ap applied_in (outs-Apply s [])) ∙ ap (λ f. applied_in (out-FirstText f)) e ∙ ap applied_in (outs-Apply t []))
+same_applied s t e = some_same s t (sym (ap applied_in (outs-Apply s [])) ∙ ap (λ f. applied_in (out-Form f)) e ∙ ap applied_in (outs-Apply t []))
 
 goal_span_in : DeclForm → Option Span
 goal_span_in (decl.Goal s b) = Some s
@@ -61,9 +63,6 @@ same_chain n m hs gs q p e f g = ap (λ z. record { name = z; hyps = hs; last = 
 same_first_text : (t u : List ℕ) (cs es : List (List ℕ)) (gs hs : List Chain) → t ≡ u → cs ≡ es → gs ≡ hs → ◌≡◌ {A = FirstText} (record { type_name = t; constants = cs; goals = gs }) (record { type_name = u; constants = es; goals = hs })
 same_first_text t u cs es gs hs e f g = ap (λ z. record { type_name = z; constants = cs; goals = gs }) e ∙ ap (λ z. record { type_name = u; constants = z; goals = gs }) f ∙ ap (λ z. record { type_name = u; constants = es; goals = z }) g
 
-same_list : {X : Type 0} (x y : X) (xs ys : List X) → x ≡ y → xs ≡ ys → x ∷ xs ≡ y ∷ ys
-same_list x y xs ys e f = ap (λ z. z ∷ xs) e ∙ ap (λ zs. y ∷ zs) f
-
 -- ---- goals
 module _ (text : List ℕ) (constants : List (List ℕ)) (different : AllPairs ◌≢◌ constants) where
   constant_one : (e : Expr) (k i : ℕ) → IsConstantAt text constants e k → IsConstantAt text constants e i → k ≡ i
@@ -84,27 +83,27 @@ module _ (text : List ℕ) (constants : List (List ℕ)) (different : AllPairs �
   chain_one e (h ∷ hs) (g ∷ gs) q p (l, r, f, i, c) (m, s, k, j, d) =
       let first = equation_one m h g (subst (λ z. IsEquation text constants z h) (binary_left op.Implies op.Implies l r m s (sym f ∙ k)) i) j in
       let rest = chain_one s hs gs q p (subst (λ z. IsChain text constants z hs q) (binary_right op.Implies op.Implies l r m s (sym f ∙ k)) c) d in
-      (same_list h g hs gs first rest.0, rest.1)
+      (cons_same h g hs gs first rest.0, rest.1)
 
   goal_one : (d : Decl) (g h : Chain) → IsGoalDecl text constants d g → IsGoalDecl text constants d h → g ≡ h
   goal_one d g h (s, a, e, at, c, short) (t, b, f, there, k, brief) =
       let chains = chain_one b g.hyps h.hyps g.last h.last (subst (λ z. IsChain text constants z g.hyps g.last) (same_body s t a b (sym e ∙ f)) c) k in
       same_chain g.name h.name g.hyps h.hyps g.last h.last (one_name text s t g.name h.name (same_span s t a b (sym e ∙ f)) at there) chains.0 chains.1
 
-  goals_one : (ds : List Decl) (gs hs : List Chain) → Each (IsGoalDecl text constants) ds gs → Each (IsGoalDecl text constants) ds hs → gs ≡ hs
+  goals_one : (ds : List Decl) (gs hs : List Chain) → Pairwise (IsGoalDecl text constants) ds gs → Pairwise (IsGoalDecl text constants) ds hs → gs ≡ hs
   goals_one [] [] [] p q = refl
   goals_one [] [] (h ∷ hs) p q = absurd q
   goals_one [] (g ∷ gs) hs p q = absurd p
   goals_one (d ∷ ds) [] hs p q = absurd p
   goals_one (d ∷ ds) (g ∷ gs) [] p q = absurd q
-  goals_one (d ∷ ds) (g ∷ gs) (h ∷ hs) p q = same_list g h gs hs (goal_one d g h p.0 q.0) (goals_one ds gs hs p.1 q.1)
+  goals_one (d ∷ ds) (g ∷ gs) (h ∷ hs) p q = cons_same g h gs hs (goal_one d g h p.0 q.0) (goals_one ds gs hs p.1 q.1)
 
 -- ---- a file, and a text
 first_text_one : (text : List ℕ) (file : File) (f g : FirstText) → IsFirstTextOf text file f → IsFirstTextOf text file g → f ≡ g
 first_text_one text file f g p q =
     let constants = constants_one text file q.first q.second q.others q.decls g.type_name g.constants q.declares_type q.declares_constants f p in
     let others = others_are text file q.first q.second q.others q.decls f p in
-    let goals = subst (λ ds. Each (IsGoalDecl text g.constants) ds f.goals) others (subst (λ cs. Each (IsGoalDecl text cs) p.others f.goals) constants p.declares_goals) in
+    let goals = subst (λ ds. Pairwise (IsGoalDecl text g.constants) ds f.goals) others (subst (λ cs. Pairwise (IsGoalDecl text cs) p.others f.goals) constants p.declares_goals) in
     same_first_text f.type_name g.type_name f.constants g.constants f.goals g.goals
     (type_one text file q.first q.second q.others q.decls g.type_name q.declares_type f p)
     constants

@@ -24,32 +24,29 @@ use Rattle.ae_syntax.specs.declared.exprs.Form.TheOpen.{Form-F}
 use Rattle.ae_driver.specs.declared.first_text.TheConstants.{MOST_HYPOTHESES}
 use Rattle.ae_driver.specs.declared.first_text.Equation.{Equation}
 use Rattle.ae_driver.specs.declared.first_text.Chain.{Chain}
-use Rattle.ae_driver.specs.FirstTexts.{IsNameAt, Each, IsConstantAt, IsEquation, IsChain, IsGoalDecl, IsTypeName, IsTypeDecl, IsResult, IsLogicDecl, IsFirstTextOf}
+use Rattle.ae_driver.specs.FirstTexts.{IsNameAt, IsConstantAt, IsEquation, IsChain, IsGoalDecl, IsTypeName, IsTypeDecl, IsResult, IsLogicDecl, IsFirstTextOf}
 use Rattle.ae_driver.specs.Inner.Places.{IsEquationOver, IsGoalOver, IsWellPlaced}
+use Rattle.ae_base.proofs.ListFacts.{cons_head, cons_tail, get_front, get_read}
+use Rattle.ae_base.proofs.Relations.{pairwise_at, pairwise_back, pairwise_get}
+use Rattle.ae_base.proofs.Options.{never_some}
+use Rattle.std.proofs.lemmas.Option.{slice_get-get_or}
+use Rattle.ae_base.specs.Relations.{Pairwise}
 
 -- ---- places in lists
-pub get_some : {X : Type 0} (xs : List X) (i : ℕ) (d : X) → i < length xs → slice_get xs i ≡ Some (get_or xs i d)
-get_some [] i d lt = absurd (omega (arith, lt))
-get_some (x ∷ xs) zero d lt = refl
-get_some (x ∷ xs) (suc i) d lt = get_some xs i d (omega (arith, lt))
-
 pub get_past : {X : Type 0} (xs : List X) (i : ℕ) (x : X) → length xs ≤ i → slice_get xs i ≡ Some x → ⊥
 get_past [] i x le e = search (rules, e)
 get_past (y ∷ xs) zero x le e = absurd (omega (arith, le))
 get_past (y ∷ xs) (suc i) x le e = get_past xs i x (omega (arith, le)) e
-
-none_some : {X : Type 0} {x : X} → ◌≡◌ {A = Option X} None (Some x) → ⊥
-none_some e = cc
 
 pub some_same : {X : Type 0} (x y : X) → Some x ≡ Some y → x ≡ y
 some_same x y e = search (rules, e)
 
 pub when_none : {X : Type 0} (o : Option X) (P : Type 0) (Q : X → Type 0) → o ≡ None → MatchOption o P Q → P
 when_none None P Q e h = h
-when_none (Some x) P Q e h = absurd (none_some (sym e))
+when_none (Some x) P Q e h = absurd (never_some _ (sym e))
 
 pub when_some : {X : Type 0} (o : Option X) (x : X) (P : Type 0) (Q : X → Type 0) → o ≡ Some x → MatchOption o P Q → Q x
-when_some None x P Q e h = absurd (none_some e)
+when_some None x P Q e h = absurd (never_some _ e)
 when_some (Some y) x P Q e h = subst Q (some_same y x e) h
 
 -- ---- the parts of a binary expression
@@ -67,15 +64,15 @@ right_in _ = None
 
 binary_op : (o p : BinaryOp) (l r m s : Expr) → form.Binary o l r ≡ form.Binary p m s → o ≡ p
 unfolding op_in
-binary_op o p l r m s e = some_same o p (sym (ap op_in (outs-Binary o l r)) ∙ ap (λ f. op_in (out-FirstText f)) e ∙ ap op_in (outs-Binary p m s))
+binary_op o p l r m s e = some_same o p (sym (ap op_in (outs-Binary o l r)) ∙ ap (λ f. op_in (out-Form f)) e ∙ ap op_in (outs-Binary p m s))
 
 pub binary_left : (o p : BinaryOp) (l r m s : Expr) → form.Binary o l r ≡ form.Binary p m s → l ≡ m
 unfolding left_in
-binary_left o p l r m s e = some_same l m (sym (ap left_in (outs-Binary o l r)) ∙ ap (λ f. left_in (out-FirstText f)) e ∙ ap left_in (outs-Binary p m s))
+binary_left o p l r m s e = some_same l m (sym (ap left_in (outs-Binary o l r)) ∙ ap (λ f. left_in (out-Form f)) e ∙ ap left_in (outs-Binary p m s))
 
 pub binary_right : (o p : BinaryOp) (l r m s : Expr) → form.Binary o l r ≡ form.Binary p m s → r ≡ s
 unfolding right_in
-binary_right o p l r m s e = some_same r s (sym (ap right_in (outs-Binary o l r)) ∙ ap (λ f. right_in (out-FirstText f)) e ∙ ap right_in (outs-Binary p m s))
+binary_right o p l r m s e = some_same r s (sym (ap right_in (outs-Binary o l r)) ∙ ap (λ f. right_in (out-Form f)) e ∙ ap right_in (outs-Binary p m s))
 
 pub not_both : (e l r m s : Expr) → e.form ≡ form.Binary op.Equal l r → e.form ≡ form.Binary op.Implies m s → ⊥
 not_both e l r m s p q = let same = binary_op op.Equal op.Implies l r m s (sym p ∙ q) in search (rules, same)
@@ -115,13 +112,13 @@ module _ (text : List ℕ) (constants : List (List ℕ)) where
 
 -- ---- a name among the constants
 pub found_at : (cs : List (List ℕ)) (i : ℕ) (c name : List ℕ) → i < length cs → c ≡ get_or cs i c → c ≡ name → slice_get cs i ≡ Some name
-found_at cs i c name lt e same = get_some cs i c lt ∙ ap Some (sym e ∙ same)
+found_at cs i c name lt e same = slice_get-get_or cs i c lt ∙ ap Some (sym e ∙ same)
 
 pub others_before : (cs : List (List ℕ)) (i : ℕ) (c name : List ℕ) → i < length cs → c ≡ get_or cs i c → ((k : ℕ) → k < i → slice_get cs k ≡ Some name → ⊥) → (c ≡ name → ⊥) → (k : ℕ) → k < i + 1 → slice_get cs k ≡ Some name → ⊥
 others_before cs i c name lt e before other k le f =
     let not_less : ¬ (k < i) = λ less. before k less f in
     let same : k ≡ i = omega (arith, le, not_less) in
-    other (e ∙ some_same _ _ (sym (get_some cs i c lt) ∙ subst (λ j. slice_get cs j ≡ Some name) same f))
+    other (e ∙ some_same _ _ (sym (slice_get-get_or cs i c lt) ∙ subst (λ j. slice_get cs j ≡ Some name) same f))
 
 pub none_has : (cs : List (List ℕ)) (i : ℕ) (name : List ℕ) → length cs ≤ i → ((k : ℕ) → k < i → slice_get cs k ≡ Some name → ⊥) → (k : ℕ) → slice_get cs k ≡ Some name → ⊥
 none_has cs i name le before k f =
@@ -129,31 +126,6 @@ none_has cs i name le before k f =
     get_past cs k name (omega (arith, le, not_less)) f
 
 -- ---- lists that are related element by element
-each_push : {A B : Type 0} (R : A → B → Type 0) (xs : List A) (ys : List B) (x : A) (y : B) → Each R xs ys → R x y → Each R (xs ++ x ∷ []) (ys ++ y ∷ [])
-each_push R [] [] x y e r = (r, tt)
-each_push R [] (w ∷ ys) x y e r = absurd e
-each_push R (v ∷ xs) [] x y e r = absurd e
-each_push R (v ∷ xs) (w ∷ ys) x y e r = (e.0, each_push R xs ys x y e.1 r)
-
-pub each_more : {A B : Type 0} (R : A → B → Type 0) (xs : List A) (ys : List B) (i : ℕ) (x : A) (y : B) → i < length xs → x ≡ get_or xs i x → Each R (take i xs) ys → R x y → Each R (take (i + 1) xs) (ys ++ y ∷ [])
-each_more R xs ys i x y lt e all r =
-    subst (λ zs. Each R zs (ys ++ y ∷ [])) (ap (λ z. take i xs ++ z ∷ []) e ∙ sym (take_more xs i x lt)) (each_push R (take i xs) ys x y all r)
-
-pub each_at : {A B : Type 0} (R : A → B → Type 0) (xs : List A) (ys : List B) (i : ℕ) (x : A) → i < length xs → x ≡ get_or xs i x → Each R xs ys → (y : B) × R x y × (slice_get ys i ≡ Some y)
-each_at R [] ys i x lt e all = absurd (omega (arith, lt))
-each_at R (v ∷ xs) [] i x lt e all = absurd all
-each_at R (v ∷ xs) (w ∷ ys) zero x lt e all = (w, subst (λ z. R z w) (sym e) all.0, refl)
-each_at R (v ∷ xs) (w ∷ ys) (suc i) x lt e all = each_at R xs ys i x (omega (arith, lt)) e all.1
-
-each_length : {A B : Type 0} (R : A → B → Type 0) (xs : List A) (ys : List B) → Each R xs ys → length xs ≡ length ys
-each_length R [] [] e = refl
-each_length R [] (y ∷ ys) e = absurd e
-each_length R (x ∷ xs) [] e = absurd e
-each_length R (x ∷ xs) (y ∷ ys) e = ap suc (each_length R xs ys e.1)
-
-pub each_all : {A B : Type 0} (R : A → B → Type 0) (xs : List A) (ys : List B) (i : ℕ) → length xs ≤ i → Each R (take i xs) ys → Each R xs ys
-each_all R xs ys i le all = subst (λ zs. Each R zs ys) (take_all i xs le) all
-
 pub goal_read : (text : List ℕ) (constants : List (List ℕ)) (d : Decl) (s : Span) (body : Expr) (name : List ℕ) (hs : List Equation) (q : Equation) → d.form ≡ decl.Goal s body → IsNameAt text s name
     → (gs : List Equation) × (hs ≡ [] ++ gs) × IsChain text constants body gs q → length hs ≤ MOST_HYPOTHESES → IsGoalDecl text constants d (record { name = name; hyps = hs; last = q })
 goal_read text constants d s body name hs q f n (gs, same, c) short = (s, body, f, n, subst (λ z. IsChain text constants body z q) (sym same) c, short)
@@ -186,30 +158,6 @@ too_long text constants d s body hs q f (gs, same, c) long g (t, other, h, at, e
 pub stands_one : (text : List ℕ) (s : Span) (a b : List ℕ) → IsNameAt text s a → IsNameAt text s b → a ≡ b
 stands_one text s a b p q = sym p.bytes ∙ q.bytes
 
-each_get : {A B : Type 0} (R : A → B → Type 0) (xs : List A) (ys : List B) (k : ℕ) (x : A) → Each R xs ys → slice_get xs k ≡ Some x → (y : B) × R x y × (slice_get ys k ≡ Some y)
-each_get R [] ys k x all e = absurd (none_some e)
-each_get R (v ∷ xs) [] k x all e = absurd all
-each_get R (v ∷ xs) (w ∷ ys) zero x all e = (w, subst (λ z. R z w) (some_same v x e) all.0, refl)
-each_get R (v ∷ xs) (w ∷ ys) (suc k) x all e = each_get R xs ys k x all.1 e
-
-each_back : {A B : Type 0} (R : A → B → Type 0) (xs : List A) (ys : List B) (k : ℕ) (y : B) → Each R xs ys → slice_get ys k ≡ Some y → (x : A) × R x y × (slice_get xs k ≡ Some x)
-each_back R xs [] k y all e = absurd (none_some e)
-each_back R [] (w ∷ ys) k y all e = absurd all
-each_back R (v ∷ xs) (w ∷ ys) zero y all e = (v, subst (R v) (some_same w y e) all.0, refl)
-each_back R (v ∷ xs) (w ∷ ys) (suc k) y all e = each_back R xs ys k y all.1 e
-
-get_front : {X : Type 0} (xs : List X) (i k : ℕ) (x : X) → slice_get (take i xs) k ≡ Some x → (slice_get xs k ≡ Some x) × (k < i)
-get_front [] zero k x e = absurd (none_some e)
-get_front [] (suc i) k x e = absurd (none_some e)
-get_front (y ∷ xs) zero k x e = absurd (none_some e)
-get_front (y ∷ xs) (suc i) zero x e = (e, omega arith)
-get_front (y ∷ xs) (suc i) (suc k) x e = let r = get_front xs i k x e in (r.0, omega (arith, r.1))
-
-get_read : {X : Type 0} (xs : List X) (k : ℕ) (x d : X) → slice_get xs k ≡ Some x → (slice_index_or xs k d ≡ x) × (k < length xs)
-get_read [] k x d e = absurd (none_some e)
-get_read (y ∷ xs) zero x d e = (some_same y x e, omega arith)
-get_read (y ∷ xs) (suc k) x d e = let r = get_read xs k x d e in (r.0, omega (arith, r.1))
-
 pub apart_at : (ns : List (List ℕ)) (k i : ℕ) (a b : List ℕ) → AllPairs ◌≢◌ ns → k < i → slice_get ns k ≡ Some a → slice_get ns i ≡ Some b → a ≡ b → ⊥
 apart_at ns k i a b apart lt p q e =
     let r = get_read ns k a [] p in
@@ -217,19 +165,19 @@ apart_at ns k i a b apart lt p q e =
     apart k i [] lt t.1 (r.0 ∙ e ∙ sym t.0)
 
 -- a name that stands twice among the places
-pub repeated : (text : List ℕ) (places : List Span) (found ns : List (List ℕ)) (i : ℕ) (s : Span) → i < length places → s ≡ get_or places i s → Each (IsNameAt text) (take i places) found
-    → ((name : List ℕ) → IsNameAt text s name → (k : ℕ) × (slice_get found k ≡ Some name)) → Each (IsNameAt text) places ns → AllPairs ◌≢◌ ns → ⊥
+pub repeated : (text : List ℕ) (places : List Span) (found ns : List (List ℕ)) (i : ℕ) (s : Span) → i < length places → s ≡ get_or places i s → Pairwise (IsNameAt text) (take i places) found
+    → ((name : List ℕ) → IsNameAt text s name → (k : ℕ) × (slice_get found k ≡ Some name)) → Pairwise (IsNameAt text) places ns → AllPairs ◌≢◌ ns → ⊥
 repeated text places found ns i s lt e before there all apart =
-    let last = each_at (IsNameAt text) places ns i s lt e all in
+    let last = pairwise_at (IsNameAt text) places ns i s lt e all in
     let again = there last.0 last.1 in
-    let first = each_back (IsNameAt text) (take i places) found again.0 last.0 before again.1 in
+    let first = pairwise_back (IsNameAt text) (take i places) found again.0 last.0 before again.1 in
     let front = get_front places i again.0 first.0 first.2 in
-    let same = each_get (IsNameAt text) places ns again.0 first.0 all front.0 in
+    let same = pairwise_get (IsNameAt text) places ns again.0 first.0 all front.0 in
     apart_at ns again.0 i same.0 last.0 apart front.1 same.2 last.2 (stands_one text first.0 same.0 last.0 same.1 first.1)
 
 -- a name that isn't among those that were found
 pub other_names : (found : List (List ℕ)) (name : List ℕ) → AllPairs ◌≢◌ found → ((k : ℕ) → slice_get found k ≡ Some name → ⊥) → AllPairs ◌≢◌ (found ++ name ∷ [])
-other_names found name apart none = all_pairs_push ◌≢◌ found name apart (λ k d lt e. none k (get_some found k d lt ∙ ap Some e))
+other_names found name apart none = all_pairs_push ◌≢◌ found name apart (λ k d lt e. none k (slice_get-get_or found k d lt ∙ ap Some e))
 
 pub old_name : (text : List ℕ) (s : Span) (found : List (List ℕ)) (name : List ℕ) (k : ℕ) → IsNameAt text s name → slice_get found k ≡ Some name → (other : List ℕ) → IsNameAt text s other → (j : ℕ) × (slice_get found j ≡ Some other)
 old_name text s found name k at e other at_other = (k, e ∙ ap Some (stands_one text s name other at at_other))
@@ -238,8 +186,8 @@ old_name text s found name k at e other at_other = (k, e ∙ ap Some (stands_one
 pub result_is : (text : List ℕ) (r : SymbolResult) (sort : WrittenType) (name : List ℕ) (b : Bool) → r.sort ≡ Some sort → (IsTrue b ↔ IsTypeName text sort name) → (IsTrue b ↔ IsResult text r name)
 result_is text r sort name b e i = (λ t. (sort, e, i.0 t), λ p. i.1 (subst (λ z. IsTypeName text z name) (some_same p.0 sort (sym p.1 ∙ e)) p.2))
 
-pub no_goal : (text : List ℕ) (constants : List (List ℕ)) (ds : List Decl) (gs : List Chain) (i : ℕ) (d : Decl) → i < length ds → d ≡ get_or ds i d → ((g : Chain) → IsGoalDecl text constants d g → ⊥) → Each (IsGoalDecl text constants) ds gs → ⊥
-no_goal text constants ds gs i d lt e none all = let at = each_at (IsGoalDecl text constants) ds gs i d lt e all in none at.0 at.1
+pub no_goal : (text : List ℕ) (constants : List (List ℕ)) (ds : List Decl) (gs : List Chain) (i : ℕ) (d : Decl) → i < length ds → d ≡ get_or ds i d → ((g : Chain) → IsGoalDecl text constants d g → ⊥) → Pairwise (IsGoalDecl text constants) ds gs → ⊥
+no_goal text constants ds gs i d lt e none all = let at = pairwise_at (IsGoalDecl text constants) ds gs i d lt e all in none at.0 at.1
 
 same_read : {X : Type 0} (xs : List X) (i : ℕ) (d e : X) → i < length xs → get_or xs i d ≡ get_or xs i e
 same_read [] i d e lt = absurd (omega (arith, lt))
@@ -248,12 +196,6 @@ same_read (x ∷ xs) (suc i) d e lt = same_read xs i d e (omega (arith, lt))
 
 pub read_is : {X : Type 0} (xs : List X) (i : ℕ) (d : X) → i < length xs → get_or xs i d ≡ get_or xs i (get_or xs i d)
 read_is xs i d lt = same_read xs i d (get_or xs i d) lt
-
-cons_head : {X : Type 0} (x y : X) (xs ys : List X) → x ∷ xs ≡ y ∷ ys → x ≡ y
-cons_head x y xs ys e = some_same x y (ap (λ zs. slice_get zs 0) e)
-
-cons_tail : {X : Type 0} (x y : X) (xs ys : List X) → x ∷ xs ≡ y ∷ ys → xs ≡ ys
-cons_tail x y xs ys e = ap (drop 1) e
 
 logic_result : DeclForm → Option SymbolResult
 logic_result (decl.Logic a ns ss r) = Some r
@@ -284,9 +226,9 @@ no_constants text d type_name a ns ss r e none cs (ms, q, f, is, all) = none (su
 
 -- the constants of a declaration, by their names
 pub constants_read : (text : List ℕ) (d : Decl) (type_name : List ℕ) (a : Bool) (ns : List Span) (ss : List WrittenType) (r : SymbolResult) (found : Option (List (List ℕ))) → d.form ≡ decl.Logic a ns ss r → a ≡ false → ss ≡ [] → IsResult text r type_name
-    → MatchOption found ((cs : List (List ℕ)) → Each (IsNameAt text) ns cs → AllPairs ◌≢◌ cs → ⊥) (λ cs. Each (IsNameAt text) ns cs × AllPairs ◌≢◌ cs)
+    → MatchOption found ((cs : List (List ℕ)) → Pairwise (IsNameAt text) ns cs → AllPairs ◌≢◌ cs → ⊥) (λ cs. Pairwise (IsNameAt text) ns cs × AllPairs ◌≢◌ cs)
     → MatchOption found ((cs : List (List ℕ)) → IsLogicDecl text d type_name cs → AllPairs ◌≢◌ cs → ⊥) (λ cs. IsLogicDecl text d type_name cs × AllPairs ◌≢◌ cs)
-constants_read text d type_name a ns ss r None e f g is h = λ cs l. h cs (subst (λ z. Each (IsNameAt text) z cs) (same_names false a l.0 ns [] ss l.1 r (sym l.2 ∙ e)) l.4)
+constants_read text d type_name a ns ss r None e f g is h = λ cs l. h cs (subst (λ z. Pairwise (IsNameAt text) z cs) (same_names false a l.0 ns [] ss l.1 r (sym l.2 ∙ e)) l.4)
 constants_read text d type_name a ns ss r (Some cs) e f g is h = ((ns, r, e ∙ ap (λ b. decl.Logic b ns ss r) f ∙ ap (λ zs. decl.Logic false ns zs r) g, is, h.0), h.1)
 
 -- ---- a file
@@ -315,7 +257,7 @@ module _ (text : List ℕ) (file : File) (a b : Decl) (ds : List Decl) (e : file
   pub no_logic : (name : List ℕ) → IsTypeDecl text a name → ((cs : List (List ℕ)) → IsLogicDecl text b name cs → AllPairs ◌≢◌ cs → ⊥) → (f : FirstText) → IsFirstTextOf text file f → ⊥
   no_logic name t none f is = none f.constants (logic_there name t f is) is.different
 
-  each_one : (ss : List Span) (cs es : List (List ℕ)) → Each (IsNameAt text) ss cs → Each (IsNameAt text) ss es → cs ≡ es
+  each_one : (ss : List Span) (cs es : List (List ℕ)) → Pairwise (IsNameAt text) ss cs → Pairwise (IsNameAt text) ss es → cs ≡ es
   each_one [] [] [] p q = refl
   each_one [] [] (y ∷ es) p q = absurd q
   each_one [] (x ∷ cs) es p q = absurd p
@@ -326,13 +268,13 @@ module _ (text : List ℕ) (file : File) (a b : Decl) (ds : List Decl) (e : file
   pub constants_one : (name : List ℕ) (cs : List (List ℕ)) → IsTypeDecl text a name → IsLogicDecl text b name cs → (f : FirstText) → IsFirstTextOf text file f → f.constants ≡ cs
   constants_one name cs t l f is =
       let other = logic_there name t f is in
-      each_one l.0 f.constants cs (subst (λ ns. Each (IsNameAt text) ns f.constants) (same_names false false other.0 l.0 [] [] other.1 l.1 (sym other.2 ∙ l.2)) other.4) l.4
+      each_one l.0 f.constants cs (subst (λ ns. Pairwise (IsNameAt text) ns f.constants) (same_names false false other.0 l.0 [] [] other.1 l.1 (sym other.2 ∙ l.2)) other.4) l.4
 
-  pub no_goals : (name : List ℕ) (cs : List (List ℕ)) → IsTypeDecl text a name → IsLogicDecl text b name cs → ((gs : List Chain) → Each (IsGoalDecl text cs) ds gs → ⊥) → (f : FirstText) → IsFirstTextOf text file f → ⊥
+  pub no_goals : (name : List ℕ) (cs : List (List ℕ)) → IsTypeDecl text a name → IsLogicDecl text b name cs → ((gs : List Chain) → Pairwise (IsGoalDecl text cs) ds gs → ⊥) → (f : FirstText) → IsFirstTextOf text file f → ⊥
   no_goals name cs t l none f is =
-      none f.goals (subst (λ zs. Each (IsGoalDecl text cs) zs f.goals) (others_are f is) (subst (λ zs. Each (IsGoalDecl text zs) is.others f.goals) (constants_one name cs t l f is) is.declares_goals))
+      none f.goals (subst (λ zs. Pairwise (IsGoalDecl text cs) zs f.goals) (others_are f is) (subst (λ zs. Pairwise (IsGoalDecl text zs) is.others f.goals) (constants_one name cs t l f is) is.declares_goals))
 
-  pub form_is : (name : List ℕ) (cs : List (List ℕ)) (gs : List Chain) → IsTypeDecl text a name → IsLogicDecl text b name cs → AllPairs ◌≢◌ cs → Each (IsGoalDecl text cs) ds gs
+  pub form_is : (name : List ℕ) (cs : List (List ℕ)) (gs : List Chain) → IsTypeDecl text a name → IsLogicDecl text b name cs → AllPairs ◌≢◌ cs → Pairwise (IsGoalDecl text cs) ds gs
       → IsFirstTextOf text file (record { type_name = name; constants = cs; goals = gs })
   form_is name cs gs t l apart all =
       record { first = a; second = b; others = ds; decls = e; declares_type = t; declares_constants = l; different = apart; declares_goals = all }
@@ -346,7 +288,7 @@ module _ (text : List ℕ) (constants : List (List ℕ)) where
   chain_within e [] q c = (tt, equation_within e q c)
   chain_within e (h ∷ hs) q (l, r, f, i, c) = let rest = chain_within r hs q c in ((equation_within l h i, rest.0), rest.1)
 
-  goals_within : (ds : List Decl) (gs : List Chain) → Each (IsGoalDecl text constants) ds gs → AllByRecursion (IsGoalOver (length constants)) gs
+  goals_within : (ds : List Decl) (gs : List Chain) → Pairwise (IsGoalDecl text constants) ds gs → AllByRecursion (IsGoalOver (length constants)) gs
   goals_within [] [] all = tt
   goals_within [] (g ∷ gs) all = absurd all
   goals_within (d ∷ ds) [] all = absurd all

@@ -21,8 +21,8 @@ use Rattle.ae_driver.specs.Problems.{constant, equation, chain}
 use Rattle.ae_driver.specs.Inner.ChainProofs.{assumed, defs, hints, chain_proof}
 use Rattle.ae_driver.specs.Inner.Places.{IsEquationOver}
 use Rattle.ae_driver.specs.Inner.Search.{OfConstants, Refutes, block_of, no_signature, any}
-use Rattle.ae_driver.specs.Texts.{Names, term_text, term_layer_text, formula_text, formula_text_step, of_two, of_one, literal_text, unless_negation, is_negation, sign_text, sides_text, derived_text, in_order, hypothesis_text, block_text, line_text, proof_text}
-use Rattle.ae_driver.specs.Inner.Bytes.{name_bytes, equation_bytes, opening_bytes, closing_bytes, chain_bytes, def_bytes, defs_bytes, hypothesis_bytes, assumed_bytes, term_bytes, derived_bytes, ending_bytes, rup_bytes, proof_bytes}
+use Rattle.ae_driver.specs.Texts.{Names, term_text, term_layer_text, formula_text, formula_text_step, of_two, of_one, literal_text, unless_negation, is_negation, sign_text, sides_text, derived_text, in_order, literal_line, block_text, line_text, proof_text}
+use Rattle.ae_driver.specs.Inner.Bytes.{name_bytes, equation_bytes, opening_bytes, closing_bytes, chain_bytes, def_bytes, defs_bytes, equation_line, assumed_bytes, term_bytes, derived_bytes, ending_bytes, rup_bytes, proof_bytes}
 use Rattle.ae_driver.proofs.TextLaws.{bytes_apply}
 
 -- ---- formulas
@@ -92,11 +92,11 @@ module _ (names : Names) where
       (λ i. unless_negation (is_negation (outs-Eq (constant e.left) (constant e.right) i)) (text_equation names e w i >>= λ s. Some (sign_text sign ++ s)))
 
   text_assumed : (es : List Equation) (g : Equation) → AllByRecursion (IsEquationOver (length names)) es → IsEquationOver (length names) g
-      → in_order (map (hypothesis_text names) (assumed es g)) ≡ Some (assumed_bytes names es g)
+      → in_order (map (literal_line (codes "h ") names) (assumed es g)) ≡ Some (assumed_bytes names es g)
   text_assumed [] g ws w = ap (λ o. (o >>= λ s. Some (codes "h " ++ s ++ codes "\n")) >>= λ x. Some (x ++ [])) (text_literal false g w) ∙ ap Some (append-nil _)
   text_assumed (e ∷ es) g ws w =
       (λ i. (text_literal true e ws.0 i >>= λ s. Some (codes "h " ++ s ++ codes "\n")) >>= λ x. text_assumed es g ws.1 w i >>= λ xs. Some (x ++ xs))
-      ∙ ap Some (regroup_assumed (hypothesis_bytes names e) (flat_map (hypothesis_bytes names) es) (codes "h -") (equation_bytes names g) (codes "\n"))
+      ∙ ap Some (regroup_assumed (equation_line (codes "h +") names e) (flat_map (equation_line (codes "h +") names) es) (codes "h -") (equation_bytes names g) (codes "\n"))
 
   -- a term that is a constant
   text_side : (t : Term) (n : ℕ) → t ≡ constant n → n < length names → term_text names t ≡ Some (term_bytes names t)
@@ -143,7 +143,7 @@ module _ (names : Names) where
   text_block : (es : List Equation) (g : Equation) (r : Refutation) → AllByRecursion (IsEquationOver (length names)) es → IsEquationOver (length names) g → Refutes (length names) es g r
       → block_text names (block_of es r) ≡ Some (codes "block\n" ++ assumed_bytes names es g ++ flat_map (derived_bytes names) r.deriv.lines ++ ending_bytes r.line (length es))
   text_block es g r ws w f =
-      let hyps = ap (λ h. in_order (map (hypothesis_text names) h)) f.hyps ∙ text_assumed es g ws w in
+      let hyps = ap (λ h. in_order (map (literal_line (codes "h ") names) h)) f.hyps ∙ text_assumed es g ws w in
       let lines = text_lines r.deriv.hyps [] r.deriv.lines f.derivation.of_constants f.derivation.allowed in
       (λ i. hyps i >>= λ hs. lines i >>= λ ls. Some (codes "block\n" ++ hs ++ ls ++ ending_bytes r.line (length es)))
 

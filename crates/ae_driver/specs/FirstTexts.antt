@@ -1,4 +1,5 @@
 -- First texts, told by their trees: a type, its constants, and goals that are chains of equations between them.
+use Rattle.ae_base.specs.Relations.{Pairwise}
 use Rattle.std.specs.Prelude.{◌≡◌, ◌≢◌, ℕ, ◌≤◌, false, List, [], ◌∷◌, length, slice_get, Some}
 use Rattle.std.specs.List.{AllPairs, slice_range}
 use Rattle.std.specs.Str.{IsUtf8}
@@ -23,12 +24,6 @@ pub record IsNameAt (text : List ℕ) (s : Span) (name : List ℕ) : Type 0 wher
   pub within : s.to ≤ length text
   pub bytes : slice_range text s.from s.to ≡ name
   pub utf8 : IsUtf8 name
-
--- two lists are related element by element
-abbrev pub Each : {A B : Type 0} → (A → B → Type 0) → List A → List B → Type 0
-Each R [] [] = Unit {0}
-Each R (x ∷ xs) (y ∷ ys) = R x y × Each R xs ys
-Each R _ _ = ⊥
 
 -- the expression is the constant of number k
 abbrev pub IsConstantAt : List ℕ → List (List ℕ) → Expr → ℕ → Type 0
@@ -65,7 +60,7 @@ IsResult text r name = (w : WrittenType) × (r.sort ≡ Some w) × IsTypeName te
 -- `logic c1, .., cn : t`
 abbrev pub IsLogicDecl : List ℕ → Decl → List ℕ → List (List ℕ) → Type 0
 IsLogicDecl text d type_name constants =
-    (ss : List Span) × (r : SymbolResult) × (d.form ≡ decl.Logic false ss [] r) × IsResult text r type_name × Each (IsNameAt text) ss constants
+    (ss : List Span) × (r : SymbolResult) × (d.form ≡ decl.Logic false ss [] r) × IsResult text r type_name × Pairwise (IsNameAt text) ss constants
 
 -- the file of a text is a first text, and this is what it says: a type, its constants with different names, and goals
 pub record IsFirstTextOf (text : List ℕ) (file : File) (f : FirstText) : Type 0 where
@@ -76,4 +71,4 @@ pub record IsFirstTextOf (text : List ℕ) (file : File) (f : FirstText) : Type 
   pub declares_type : IsTypeDecl text first f.type_name
   pub declares_constants : IsLogicDecl text second f.type_name f.constants
   pub different : AllPairs ◌≢◌ f.constants
-  pub declares_goals : Each (IsGoalDecl text f.constants) others f.goals
+  pub declares_goals : Pairwise (IsGoalDecl text f.constants) others f.goals

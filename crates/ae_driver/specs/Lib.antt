@@ -6,9 +6,7 @@
 pub mod FirstTexts
 pub mod Problems
 pub mod Texts
-pub mod StateTypes
 pub mod StateTexts
-pub mod Truth
-pub mod States
 pub mod Output
+pub mod Soundness
 pub mod Inner

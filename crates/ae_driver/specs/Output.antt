@@ -1,7 +1,8 @@
 -- The answer to a text: what is written, and why it is right.
 use Rattle.std.specs.Prelude.{◌≡◌, ◌⊎◌, ℕ, zero, suc, ◌<◌, ◌≤◌, List, [], ◌++◌, map, length, Option, Some, None, slice_get, codes}
 use Rattle.ae_core.specs.Sorts.{◌>>=◌}
-use Rattle.ae_core.specs.Derivations.{Derives}
+use Rattle.ae_core.specs.Derivations.{Derives, goal_body}
+use Rattle.ae_core.specs.declared.formulas.Formula.{Formula}
 use Rattle.ae_core.specs.declared.problems.Item.TheVariants.{Axiom, Goal}
 use Rattle.ae_core.specs.declared.problems.Signature.{Signature}
 use Rattle.ae_core.specs.declared.problems.Problem.{Problem}
@@ -21,9 +22,10 @@ use Rattle.ae_driver.specs.declared.program.TheConstants.{INPUT_LIMIT}
 use Rattle.ae_driver.specs.FirstTexts.{IsFirstTextOf}
 use Rattle.ae_driver.specs.Problems.{problem}
 use Rattle.ae_driver.specs.Texts.{Names, proof_text}
-use Rattle.ae_driver.specs.StateTypes.{State}
+use Rattle.ae_journal.specs.States.{IsSaturated}
+use Rattle.ae_journal.specs.Evaluate.{is_true_at, unassigned}
+use Rattle.ae_journal.specs.declared.systems.Saturated.{Saturated}
 use Rattle.ae_driver.specs.StateTexts.{state_text}
-use Rattle.ae_driver.specs.States.{IsSaturated}
 
 -- the symbols' names, by their numbers
 abbrev pub symbol_names : Signature → Names
@@ -43,12 +45,14 @@ pub record IsValidPart (p : Problem) (k : ℕ) (part : List ℕ) : Type 0 where
   pub is_text : proof_text (symbol_names p.signature) proof ≡ Some text
   pub written : part ≡ codes "goal " ++ name ++ codes " Valid\n" ++ text
 
--- the part of the goal at place k: the line `goal NAME I don't know`, and the text of a saturated state in which the goal is false; no proof derives the goal
+-- the part of the goal at place k: the line `goal NAME I don't know`, and the text of a state that is saturated whatever the bound on generations is, and in
+-- which the goal is false; no proof derives the goal
 pub record IsUnknownPart (p : Problem) (k : ℕ) (part : List ℕ) : Type 0 where
   pub name : List ℕ
   pub is_name : goal_name p k ≡ Some name
-  pub state : State
-  pub saturated : IsSaturated p k state
+  pub state : Saturated
+  pub saturated : (bound : ℕ) → IsSaturated p k state bound
+  pub goal_false : (f : Formula) → goal_body p k ≡ Some f → is_true_at p.signature state.system unassigned state.literals f ≡ false
   pub none_derives : (proof : Proof) → Derives p k proof → ⊥
   pub text : List ℕ
   pub is_text : state_text (symbol_names p.signature) state ≡ Some text

@@ -84,13 +84,14 @@ abbrev pub in_order : List (Option (List ℕ)) → Option (List ℕ)
 in_order [] = Some []
 in_order (o ∷ os) = o >>= λ x. in_order os >>= λ xs. Some (x ++ xs)
 
-abbrev pub hypothesis_text : Names → Lit → Option (List ℕ)
-hypothesis_text names l = literal_text names l >>= λ s. Some (codes "h " ++ s ++ codes "\n")
+-- a line of a word and a literal
+abbrev pub literal_line : List ℕ → Names → Lit → Option (List ℕ)
+literal_line word names l = literal_text names l >>= λ s. Some (word ++ s ++ codes "\n")
 
 -- the hypotheses, the derived lines and the ending
 abbrev pub block_text : Names → Block → Option (List ℕ)
 block_text names b =
-    in_order (map (hypothesis_text names) b.deriv.hyps) >>= λ hs. in_order (map (derived_text names) b.deriv.lines) >>= λ ls. ending_text b.ending >>= λ e.
+    in_order (map (literal_line (codes "h ") names) b.deriv.hyps) >>= λ hs. in_order (map (derived_text names) b.deriv.lines) >>= λ ls. ending_text b.ending >>= λ e.
     Some (codes "block\n" ++ hs ++ ls ++ e)
 
 abbrev pub numbers_text : List ℕ → List ℕ

@@ -1,7 +1,7 @@
 //! Laws of the definitions. These functions do nothing: each one's contract is a theorem.
 ghost use Rattle.std.specs.Prelude.{ℕ, List, ◌≡◌};
 ghost use Rattle.ae_driver.specs.Output.{Reads};
-ghost use Rattle.ae_driver.specs.Truth.{IsSound};
+ghost use Rattle.ae_driver.specs.Soundness.{IsSound};
 ghost use Rattle.ae_driver.specs.declared.first_text.FirstText.{FirstText};
 
 /// The goal of a derivation follows from its hypotheses: whatever values the constants have, where each hypothesis

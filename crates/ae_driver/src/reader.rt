@@ -1,8 +1,9 @@
 //! The reader of first texts: from the tree of a text to its type, constants and goals.
 
+ghost use Rattle.ae_base.specs.Relations.{Pairwise};
 ghost use Rattle.std.specs.Prelude.{◌≡◌, ◌≢◌, ◌↔◌, ℕ, List, [], ◌∷◌, ◌++◌, slice_get, option_map, Some, IfOk, IsTrue, MatchOption};
 ghost use Rattle.std.specs.List.{AllPairs};
-ghost use Rattle.ae_driver.specs.FirstTexts.{IsNameAt, Each, IsConstantAt, IsEquation, IsChain, IsGoalDecl, IsTypeDecl, IsTypeName, IsResult, IsLogicDecl, IsFirstTextOf};
+ghost use Rattle.ae_driver.specs.FirstTexts.{IsNameAt, IsConstantAt, IsEquation, IsChain, IsGoalDecl, IsTypeDecl, IsTypeName, IsResult, IsLogicDecl, IsFirstTextOf};
 ghost use Rattle.ae_syntax.specs.declared.exprs.Expr.{Expr};
 ghost use Rattle.ae_syntax.specs.declared.exprs.Form.{Binary};
 ghost use Rattle.ae_syntax.specs.declared.decls.Decl.{Decl};
@@ -174,7 +175,7 @@ fn goals(
     constants: &[Word],
     decls: &[Decl],
 ) -> Result<Option<List<Chain>>, AllocError>
-    ensures { IfOk result (λ found. MatchOption found ((gs : List Chain) → Each (IsGoalDecl text.now constants.now) decls.now gs → ⊥) (λ gs. Each (IsGoalDecl text.now constants.now) decls.now gs)) }
+    ensures { IfOk result (λ found. MatchOption found ((gs : List Chain) → Pairwise (IsGoalDecl text.now constants.now) decls.now gs → ⊥) (λ gs. Pairwise (IsGoalDecl text.now constants.now) decls.now gs)) }
 {
     let mut found = List::new(alloc);
     for decl in decls {
@@ -206,7 +207,7 @@ fn new_name(
 
 // The names at these places, where they are different.
 fn names(alloc: Global, text: &[u8], places: &[Span]) -> Result<Option<List<Word>>, AllocError>
-    ensures { IfOk result (λ found. MatchOption found ((ns : List (List ℕ)) → Each (IsNameAt text.now) places.now ns → AllPairs ◌≢◌ ns → ⊥) (λ ns. Each (IsNameAt text.now) places.now ns × AllPairs ◌≢◌ ns)) }
+    ensures { IfOk result (λ found. MatchOption found ((ns : List (List ℕ)) → Pairwise (IsNameAt text.now) places.now ns → AllPairs ◌≢◌ ns → ⊥) (λ ns. Pairwise (IsNameAt text.now) places.now ns × AllPairs ◌≢◌ ns)) }
 {
     let mut found = List::new(alloc);
     for at in places {

@@ -2,17 +2,15 @@
 
 ghost use Rattle.std.specs.Prelude.{◌≡◌, ◌++◌, OnOk};
 ghost use Rattle.ae_driver.specs.Inner.Bytes.{name_bytes};
-ghost use Rattle.ae_driver.specs.StateTexts.{value_text};
 ghost use Rattle.ae_driver.specs.Inner.StateBytes as bytes;
 
 use crate::first_text::{Chain, Equation};
 use crate::search::Named;
-use crate::text::{put, put_closings, put_equation, put_name, put_number, put_openings};
+use crate::text::{
+    put, put_closings, put_equation, put_equation_line, put_name, put_number, put_openings,
+};
 use ae_core::words::Word;
 use std::alloc::AllocError;
-
-#[cfg(test)]
-mod tests;
 
 // The chain doesn't follow.
 fn put_denied(
@@ -30,15 +28,6 @@ fn put_denied(
     put(out, b"\n")
 }
 
-// The hypothesis stands.
-fn put_standing(out: &mut Vec<u8>, names: &[Word], hyp: Equation) -> Result<(), AllocError>
-    ensures { OnOk result (out.new.items ≡ out.old.items ++ bytes.standing_bytes names.now hyp) }
-{
-    put(out, b"lit +")?;
-    put_equation(out, names, hyp)?;
-    put(out, b"\n")
-}
-
 fn put_literals(
     out: &mut Vec<u8>,
     names: &[Word],
@@ -49,11 +38,9 @@ fn put_literals(
 {
     for i in 0..hyps.len() {
         put_denied(out, names, &hyps[i..], last)?;
-        put_standing(out, names, hyps[i])?;
+        put_equation_line(out, b"lit +", names, hyps[i])?;
     }
-    put(out, b"lit -")?;
-    put_equation(out, names, last)?;
-    put(out, b"\n")
+    put_equation_line(out, b"lit -", names, last)
 }
 
 fn put_named(out: &mut Vec<u8>, names: &[Word], n: usize) -> Result<(), AllocError>

@@ -55,6 +55,20 @@ pub fn put_equation(out: &mut Vec<u8>, names: &[Word], of: Equation) -> Result<(
     put(out, b")")
 }
 
+/// Puts at the end a line of this start and an equation.
+pub fn put_equation_line(
+    out: &mut Vec<u8>,
+    start: &[u8],
+    names: &[Word],
+    of: Equation,
+) -> Result<(), AllocError>
+    ensures { OnOk result (out.new.items ≡ out.old.items ++ bytes.equation_line start.now names.now of) }
+{
+    put(out, start)?;
+    put_equation(out, names, of)?;
+    put(out, b"\n")
+}
+
 /// Puts at the end, for each hypothesis, what stands before the rest of the chain in its formula.
 pub fn put_openings(out: &mut Vec<u8>, names: &[Word], hyps: &[Equation]) -> Result<(), AllocError>
     ensures { OnOk result (out.new.items ≡ out.old.items ++ flat_map (bytes.opening_bytes names.now) hyps.now) }
@@ -119,13 +133,9 @@ fn put_assumed(
     ensures { OnOk result (out.new.items ≡ out.old.items ++ bytes.assumed_bytes names.now hyps.now last) }
 {
     for hyp in hyps {
-        put(out, b"h +")?;
-        put_equation(out, names, *hyp)?;
-        put(out, b"\n")?;
+        put_equation_line(out, b"h +", names, *hyp)?;
     }
-    put(out, b"h -")?;
-    put_equation(out, names, last)?;
-    put(out, b"\n")
+    put_equation_line(out, b"h -", names, last)
 }
 
 fn put_head(out: &mut Vec<u8>, names: &[Word], head: Head) -> Result<(), AllocError>

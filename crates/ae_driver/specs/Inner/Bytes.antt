@@ -35,11 +35,12 @@ abbrev pub defs_bytes : Names → List Equation → Equation → List ℕ
 defs_bytes names [] g = []
 defs_bytes names (e ∷ es) g = def_bytes names 4 (e ∷ es) g ++ def_bytes names 5 (e ∷ es) g ++ defs_bytes names es g
 
-abbrev pub hypothesis_bytes : Names → Equation → List ℕ
-hypothesis_bytes names e = codes "h +" ++ equation_bytes names e ++ codes "\n"
+-- a line of a start and an equation
+abbrev pub equation_line : List ℕ → Names → Equation → List ℕ
+equation_line start names e = start ++ equation_bytes names e ++ codes "\n"
 
 abbrev pub assumed_bytes : Names → List Equation → Equation → List ℕ
-assumed_bytes names es g = flat_map (hypothesis_bytes names) es ++ codes "h -" ++ equation_bytes names g ++ codes "\n"
+assumed_bytes names es g = flat_map (equation_line (codes "h +") names) es ++ equation_line (codes "h -") names g
 
 abbrev pub head_bytes : Names → Head → List ℕ
 head_bytes names (head.Symbol n) = name_bytes names n
