@@ -19,7 +19,8 @@ use Rattle.ae_driver.specs.Inner.Search.{IsStep, IsDerivation, Refutes, IsOpen, 
 use Rattle.ae_driver.specs.Inner.Merging.{from, merged, values_after, numbers_of}
 use Rattle.ae_driver.specs.Inner.StateBytes.{unknown_bytes}
 use Rattle.ae_driver.specs.Output.{Reads, IsPart, AreParts, IsBegun}
-use Rattle.ae_driver.specs.Inner.Endings.{by_refutation, by_values, GoalsEnd, TextEnds, valid_bytes}
+use Rattle.ae_driver.specs.Inner.Endings.{by_refutation, by_values, GoalsEnd, TextEnds}
+use Rattle.ae_driver.specs.Inner.Bytes.{valid_bytes}
 use Rattle.ae_driver.proofs.Reading.{well_placed}
 use Rattle.ae_core.specs.declared.problems.Problem.{Problem}
 use Rattle.ae_io.specs.Moves.{Written}

@@ -82,9 +82,6 @@ regroup_defs D F S R = simp append_assoc refl
 regroup_proof : (p g D b A L E R e : List ℕ) → p ++ (g ++ (D ++ (b ++ A ++ L ++ E ++ R))) ++ e ≡ (p ++ g) ++ D ++ b ++ A ++ L ++ E ++ R ++ e
 regroup_proof p g D b A L E R e = simp append_assoc refl
 
-regroup_assumed : (H F h G n : List ℕ) → H ++ (F ++ h ++ G ++ n) ≡ H ++ F ++ h ++ G ++ n
-regroup_assumed H F h G n = simp append_assoc refl
-
 module _ (names : Names) where
   pub text_literal : (sign : Bool) (e : Equation) → IsEquationOver (length names) e → literal_text names (record { positive = sign; formula = equation e }) ≡ Some (sign_text sign ++ equation_bytes names e)
   unfolding literal_text
@@ -96,7 +93,7 @@ module _ (names : Names) where
   text_assumed [] g ws w = ap (λ o. (o >>= λ s. Some (codes "h " ++ s ++ codes "\n")) >>= λ x. Some (x ++ [])) (text_literal false g w) ∙ ap Some (append-nil _)
   text_assumed (e ∷ es) g ws w =
       (λ i. (text_literal true e ws.0 i >>= λ s. Some (codes "h " ++ s ++ codes "\n")) >>= λ x. text_assumed es g ws.1 w i >>= λ xs. Some (x ++ xs))
-      ∙ ap Some (regroup_assumed (equation_line (codes "h +") names e) (flat_map (equation_line (codes "h +") names) es) (codes "h -") (equation_bytes names g) (codes "\n"))
+      ∙ ap Some (sym (append_assoc (equation_line (codes "h +") names e) (flat_map (equation_line (codes "h +") names) es) (equation_line (codes "h -") names g)))
 
   -- a term that is a constant
   text_side : (t : Term) (n : ℕ) → t ≡ constant n → n < length names → term_text names t ≡ Some (term_bytes names t)

@@ -1,5 +1,5 @@
 -- The answer to a text: what is written, and why it is right.
-use Rattle.std.specs.Prelude.{◌≡◌, ◌⊎◌, ℕ, zero, suc, ◌<◌, ◌≤◌, List, [], ◌++◌, map, length, Option, Some, None, slice_get, codes}
+use Rattle.std.specs.Prelude.{◌≡◌, ◌⊎◌, ℕ, zero, suc, false, ◌<◌, ◌≤◌, List, [], ◌++◌, map, length, Option, Some, None, slice_get, codes}
 use Rattle.ae_core.specs.Sorts.{◌>>=◌}
 use Rattle.ae_core.specs.Derivations.{Derives, goal_body}
 use Rattle.ae_core.specs.declared.formulas.Formula.{Formula}

@@ -10,7 +10,8 @@ ghost use Rattle.ae_syntax.specs.declared.faults.SyntaxFault.TheVariants.{Memory
 ghost use Rattle.ae_report.specs.Lines.{IsWithin, refused_at};
 ghost use Rattle.ae_driver.specs.Inner.Places.{IsWellPlaced, IsGoalOver};
 ghost use Rattle.ae_driver.specs.Output.{IsFileOf, IsDone, IsOffered, IsRefusedText, IsRefusedByLength, IsOutOfMemory, IsCutOff, usage_line};
-ghost use Rattle.ae_driver.specs.Inner.Endings.{IsPartOf, PartEnds, GoalsEnd, RefusalEnds, TextEnds, valid_bytes};
+ghost use Rattle.ae_driver.specs.Inner.Endings.{IsPartOf, PartEnds, GoalsEnd, RefusalEnds, TextEnds};
+ghost use Rattle.ae_driver.specs.Inner.Bytes.{valid_bytes};
 ghost use Rattle.ae_driver.specs.Inner.StateBytes.{unknown_bytes};
 ghost use Rattle.ae_driver.specs.declared.program.Status.TheVariants.{Done, Refused, ReadFault, WriteFault, Memory, Usage};
 

@@ -63,7 +63,7 @@ fn put_names(out: &mut Vec<u8>, names: &[Word]) -> Result<(), AllocError>
 }
 
 fn put_value(out: &mut Vec<u8>, n: usize, value: usize) -> Result<(), AllocError>
-    ensures { OnOk result (out.new.items ≡ out.old.items ++ value_text n value) }
+    ensures { OnOk result (out.new.items ≡ out.old.items ++ bytes.value_bytes n value) }
 {
     put(out, b"value ")?;
     put_number(out, n)?;

@@ -3,7 +3,7 @@
 ghost use Rattle.std.specs.Prelude.{◌≡◌, ◌++◌, ◌+◌, ◌<◌, ◌^◌, length, OnOk, codes, decimal};
 ghost use Rattle.std.specs.List.{flat_map};
 ghost use Rattle.ae_driver.specs.Inner.Bytes as bytes;
-ghost use Rattle.ae_driver.specs.Inner.Endings.{valid_bytes};
+ghost use Rattle.ae_driver.specs.Inner.Bytes.{valid_bytes};
 
 use crate::first_text::{Chain, Equation};
 use crate::search::Refutation;

@@ -10,6 +10,7 @@ use Rattle.ae_core.specs.declared.terms.Head.TheVariants as head
 use Rattle.ae_driver.specs.Texts.{Names, numbers_text}
 use Rattle.ae_driver.specs.Inner.ChainProofs.{hints}
 use Rattle.ae_driver.specs.declared.first_text.Equation.{Equation}
+use Rattle.ae_driver.specs.declared.first_text.Chain.{Chain}
 use Rattle.ae_driver.specs.declared.search.Refutation.{Refutation}
 
 abbrev pub name_bytes : Names → ℕ → List ℕ
@@ -72,3 +73,7 @@ rup_bytes es = codes "rup []" ++ numbers_text (hints es 0 1 (length es + length 
 abbrev pub proof_bytes : Names → List Equation → Equation → Refutation → List ℕ
 proof_bytes names es g r =
     codes "proof 1\ngoal\n" ++ defs_bytes names es g ++ codes "block\n" ++ assumed_bytes names es g ++ flat_map (derived_bytes names) r.deriv.lines ++ ending_bytes r.line (length es) ++ rup_bytes es ++ codes "end\n"
+
+-- the part of a goal that follows
+abbrev pub valid_bytes : Names → Chain → Refutation → List ℕ
+valid_bytes names g r = codes "goal " ++ g.name ++ codes " Valid\n" ++ proof_bytes names g.hyps g.last r

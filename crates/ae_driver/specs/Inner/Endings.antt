@@ -1,5 +1,5 @@
--- How each function below `run` ends, and the parts as the writers make them.
-use Rattle.std.specs.Prelude.{◌≡◌, ◌⊎◌, ℕ, ◌≤◌, List, [], ◌++◌, length, codes}
+-- How each function below `run` ends.
+use Rattle.std.specs.Prelude.{◌≡◌, ◌⊎◌, ℕ, ◌≤◌, List, [], ◌++◌, length}
 use Rattle.ae_io.specs.Moves.{Written, Gets, GetsPrefix}
 use Rattle.ae_report.specs.Lines.{IsRefusalLine}
 use Rattle.ae_report.specs.declared.refusal.Refusal.{Refusal}
@@ -13,12 +13,8 @@ use Rattle.ae_driver.specs.Problems.{problem}
 use Rattle.ae_driver.specs.Texts.{Names}
 use Rattle.ae_driver.specs.Output.{AreParts, IsRefused, IsLegalOutput, IsBegun}
 use Rattle.ae_driver.specs.Inner.Search.{Refutes, IsOpen}
-use Rattle.ae_driver.specs.Inner.Bytes.{proof_bytes}
+use Rattle.ae_driver.specs.Inner.Bytes.{valid_bytes}
 use Rattle.ae_driver.specs.Inner.StateBytes.{unknown_bytes}
-
--- ---- the parts, as the writers make them
-abbrev pub valid_bytes : Names → Chain → Refutation → List ℕ
-valid_bytes names g r = codes "goal " ++ g.name ++ codes " Valid\n" ++ proof_bytes names g.hyps g.last r
 
 -- the bytes of a part, by a refutation of the goal or by values that tell its sides apart
 pub data IsPartOf (names : Names) (g : Chain) (part : List ℕ) : Type 0 where
