@@ -1,11 +1,13 @@
 -- The proof of a chain derives its goal.
-use Rattle.std.proofs.Common.{◌≡◌, ℕ, ◌+◌, ◌<◌, true, false, ◌&&◌, List, [], ◌∷◌, ◌++◌, map, length, Option, Some, refl, sym, ap, ◌∙◌, subst, arith, append_assoc, append-nil, length-append}
+use Rattle.std.proofs.Common.{◌≡◌, ℕ, ◌+◌, ◌<◌, true, false, ◌&&◌, List, [], ◌∷◌, ◌++◌, map, length, Option, Some, refl, sym, ap, ◌∙◌}
+use Rattle.std.proofs.Common.{subst, arith, append_assoc, append-nil, length-append}
 use Rattle.std.specs.Prelude.{slice_get}
 use Rattle.std.specs.List.{AllByRecursion}
 use Rattle.ae_core.specs.Sorts.{sort_of, formula_ok, is_closed_sort, same_known, ◌>>=◌, all_known, or_else}
 use Rattle.ae_core.specs.Lines.{states, Allowed, AllAllowed, fact_ok}
 use Rattle.ae_core.specs.Clauses.{Clause, no_of, opposite, is_true, is_false, row}
-use Rattle.ae_core.specs.Derivations.{goal_body, conclusion, stated_by, hinted, is_refuted, IsAllowed, AreAllowed, last_of, Derives, IsContradictory, clause_ok}
+use Rattle.ae_core.specs.Derivations.{goal_body, conclusion, stated_by, hinted, is_refuted, IsAllowed, AreAllowed, last_of, Derives}
+use Rattle.ae_core.specs.Derivations.{IsContradictory, clause_ok}
 use Rattle.ae_core.proofs.SortLaws.{formula_in_eq, formula_in_not, formula_in_or}
 use Rattle.ae_core.proofs.ClauseLaws.{literal_eq, literal_not, literal_or, row_or}
 use Rattle.ae_core.specs.declared.terms.Sort.{Sort}
@@ -14,7 +16,8 @@ use Rattle.ae_core.specs.declared.formulas.Lit.{Lit}
 use Rattle.ae_core.specs.declared.problems.Problem.{Problem}
 use Rattle.ae_core.specs.declared.problems.Signature.{Signature}
 use Rattle.ae_core.specs.declared.proofs.EqLine.{EqLine}
-use Rattle.ae_core.specs.declared.proofs.EqLine.TheVariants.{EqHyp, EqRefl, EqSym, EqTrans, EqCong, EqAc, EqLin, EqField, EqFields, LeHyp, LtHyp, LeSum, LtSum, LeRound}
+use Rattle.ae_core.specs.declared.proofs.EqLine.TheVariants.{EqHyp, EqRefl, EqSym, EqTrans, EqCong, EqAc, EqLin, EqField, EqFields}
+use Rattle.ae_core.specs.declared.proofs.EqLine.TheVariants.{LeHyp, LtHyp, LeSum, LtSum, LeRound}
 use Rattle.ae_core.specs.declared.proofs.ClauseLine.{ClauseLine}
 use Rattle.ae_core.specs.declared.proofs.ClauseLine.TheVariants.{Goal, Def, Block as BlockLine, Rup}
 use Rattle.ae_driver.specs.declared.first_text.Equation.{Equation}

@@ -1,10 +1,12 @@
 -- The constants of a first text, with values among them that are their own values, are a completed system.
-use Rattle.std.specs.Prelude.{◌≡◌, ◌≢◌, ℕ, zero, suc, ℤ, ◌+◌, ◌<◌, Bool, true, false, cond, ◌&&◌, ◌||◌, List, [], ◌∷◌, map, length, get_or, slice_get, Option, Some, None}
+use Rattle.std.specs.Prelude.{◌≡◌, ◌≢◌, ℕ, zero, suc, ℤ, ◌+◌, ◌<◌, Bool, true, false, cond, ◌&&◌, ◌||◌, List, [], ◌∷◌, map, length}
+use Rattle.std.specs.Prelude.{get_or, slice_get, Option, Some, None}
 use Rattle.std.specs.List.{AllByRecursion, list_all}
 use Rattle.std.proofs.Common.{refl, sym, ap, ◌∙◌, subst, arith, true≢false, inl}
 use Rattle.std.proofs.Math.ListN.{length-map}
 use Rattle.ae_core.specs.Decided.{decided, Sort_discrete, Sorts_discrete}
-use Rattle.ae_core.specs.Sorts.{◌>>=◌, or_else, only, all_known, is_numeric, is_closed_sort, sort_of, sort_in, put_sort, symbol_sort, predicate_ok, predicate_fits, formula_ok}
+use Rattle.ae_core.specs.Sorts.{◌>>=◌, or_else, only, all_known, is_numeric, is_closed_sort, sort_of, sort_in, put_sort, symbol_sort}
+use Rattle.ae_core.specs.Sorts.{predicate_ok, predicate_fits, formula_ok}
 use Rattle.ae_core.specs.Instances.{choices_of}
 use Rattle.ae_core.specs.Derivations.{IsConstructor}
 use Rattle.ae_core.proofs.SortLaws.{sort_in_apply, put_named, formula_in_pred}
@@ -26,7 +28,8 @@ use Rattle.ae_num.specs.declared.forms.Value.{Value, Leaf, fold-roll-Value}
 use Rattle.ae_num.specs.declared.forms.Value.TheOpen as value_layer
 use Rattle.ae_num.specs.declared.forms.Value.TheVariants.{rolls-Leaf}
 use Rattle.ae_journal.specs.Values.{Val, once, leaf, meaning, meaning_step}
-use Rattle.ae_journal.specs.Systems.{IsCompleted, own, IsName, IsNamed, value_at, ValueOf, Has, IsLeaf, IsOver, IsPredicateName, record_fields, fields_of, linear, beside, forms_in, forms_step, IsNormalValue}
+use Rattle.ae_journal.specs.Systems.{IsCompleted, own, IsName, IsNamed, value_at, ValueOf, Has, IsLeaf, IsOver, IsPredicateName}
+use Rattle.ae_journal.specs.Systems.{record_fields, fields_of, linear, beside, forms_in, forms_step, IsNormalValue}
 use Rattle.ae_journal.specs.declared.systems.System.{System}
 use Rattle.ae_journal.specs.declared.systems.RuleEntry.{RuleEntry}
 use Rattle.ae_driver.specs.declared.first_text.FirstText.{FirstText}

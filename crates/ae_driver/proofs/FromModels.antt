@@ -1,5 +1,6 @@
 -- No derivation has a goal that is false under some values of the constants: these values are an interpretation.
-use Rattle.std.specs.Prelude.{ℕ, zero, suc, Bool, true, false, List, [], ◌∷◌, ◌≡◌, map, nat_eq, nat_lt, slice_get, length, Option, Some, None}
+use Rattle.std.specs.Prelude.{ℕ, zero, suc, Bool, true, false, List, [], ◌∷◌, ◌≡◌, map, nat_eq, nat_lt, slice_get, length, Option, Some}
+use Rattle.std.specs.Prelude.{None}
 use Rattle.std.specs.List.{AllByRecursion, list_all}
 use Rattle.std.proofs.Common.{refl, sym, ap, ◌∙◌, subst, true≢false, ⊎_elim}
 use Rattle.std.proofs.lemmas.Option.{same_Some}

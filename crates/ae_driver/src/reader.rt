@@ -3,7 +3,8 @@
 ghost use Rattle.ae_base.specs.Relations.{Pairwise};
 ghost use Rattle.std.specs.Prelude.{◌≡◌, ◌≢◌, ◌↔◌, ℕ, List, [], ◌∷◌, ◌++◌, slice_get, option_map, Some, IfOk, IsTrue, MatchOption};
 ghost use Rattle.std.specs.List.{AllPairs};
-ghost use Rattle.ae_driver.specs.FirstTexts.{IsNameAt, IsConstantAt, IsEquation, IsChain, IsGoalDecl, IsTypeDecl, IsTypeName, IsResult, IsLogicDecl, IsFirstTextOf};
+ghost use Rattle.ae_driver.specs.FirstTexts.{IsNameAt, IsConstantAt, IsEquation, IsChain, IsGoalDecl, IsTypeDecl, IsTypeName, IsResult};
+ghost use Rattle.ae_driver.specs.FirstTexts.{IsLogicDecl, IsFirstTextOf};
 ghost use Rattle.ae_syntax.specs.declared.exprs.Expr.{Expr};
 ghost use Rattle.ae_syntax.specs.declared.exprs.Form.{Binary};
 ghost use Rattle.ae_syntax.specs.declared.decls.Decl.{Decl};

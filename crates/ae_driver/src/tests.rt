@@ -136,7 +136,7 @@ fn longest_chain(alloc: Global) -> Result<(Status, Vec<u8>), AllocError> {
 #[test]
 fn limits(rt: HostRuntime) -> Result<(), Fail> {
     let (status, line) = too_long(rt.alloc())?;
-    assert!(rt; status == Status::Refused && line.as_slice() == b"refused input too long\n");
+    assert!(rt; status == Status::Refused && line.as_slice() == b"refused input too long\n".as_slice());
     let (status, part) = longest_chain(rt.alloc())?;
     assert!(rt; status == Status::Done && part.starts_with(b"goal g Valid\nproof 1\ngoal\n"));
     Ok(())
