@@ -12,23 +12,26 @@ the variables' own types beside them in any order. An item that states no relati
     tools/duplicates.py             the groups of statements that stand twice or more; exit status 1 if there is one
     tools/duplicates.py --all       every statement over library types alone, by crate and file: what may go to ae_base
     tools/duplicates.py --library   also those that the kit's std proves already (KIT in the environment, or /opt/rattle)
-    tools/duplicates.py --copies P  beside each copy that stands under the path P the place of the others
+ROOT in the environment is another copy of the repository to look at.
 """
 import os
 import re
 import sys
 from collections import defaultdict
 
-ROOT = os.path.dirname(os.path.dirname(os.path.abspath(__file__)))
+ROOT = os.environ.get("ROOT") or os.path.dirname(os.path.dirname(os.path.abspath(__file__)))
 KIT = os.environ.get("KIT", "/opt/rattle")
 SHARED = "ae_base"
 SPELLINGS = {
     "none": "None", "some": "Some", "eqb": "nat_eq", "ltb": "nat_lt", "leb": "nat_le", "nil": "[]", "cons": "◌∷◌",
     "slice_index_or": "get_or", "ok": "Ok", "err": "Err", "Maybe": "Option",
 }
+LOOSE = {"→", "×", "⊎", "↔"}
+TESTS = {"≡", "≢", "<", "≤", "<ℤ", "≤ℤ", "∣", "∈"}
+PLAIN_TYPES = {"Bool", "List", "Option", "Result", "Type", "Unit", "Ordering", "Some", "None", "Ok", "Err", "Less", "Equal", "Greater"}
 RELATIONS = {"≡", "≢", "<", "≤", "⊥", "¬", "↔", "∈", "Path", "IsTrue", "Decides", "IsPermutation", "AllByRecursion", "All", "⊎", "<ℤ", "≤ℤ", "Dec"}
 SYMBOLS = "()[]{}|,"
-TOKEN = re.compile(r"[()\[\]{}|,]|[^\s()\[\]{}|,]+")
+TOKEN = re.compile(r"\|\||[()\[\]{}|,]|[^\s()\[\]{}|,]+")
 HEAD = re.compile(r"^( *)((?:pub |abbrev |unfoldable |opaque )*)([^\s:(){}]+)((?: +[({][^:]*:[^\n]*?[)}])*) : (.*)$")
 SKIP = ("use ", "pub use ", "mod ", "pub mod ", "infix", "--", "data ", "pub data ", "record ", "pub record ", "syntax", "pub syntax",
         "unfolding", "tactic", "pub tactic", "ruleset", "pub ruleset", "rules", "pub rules")
@@ -56,7 +59,7 @@ def operator_parts(name):
 
 def read_renames():
     table = {}
-    path = os.path.join(ROOT, "tools", "renames.tsv")
+    path = os.path.join(os.path.dirname(os.path.abspath(__file__)), "renames.tsv")
     if os.path.exists(path):
         for line in open(path, encoding="utf-8"):
             if "\t" in line and not line.startswith("#"):
@@ -221,6 +224,29 @@ def names_in(nest, out):
     return out
 
 
+def simplified(parts):
+    """The parts without `{A = ..}`, with prefix operators written between, and without parentheses that change nothing."""
+    parts = [p for p in parts if not (isinstance(p, list) and p and p[0] == "{" and "=" in p)]
+    if len(parts) >= 3 and isinstance(parts[0], str) and re.match(r"^◌[^◌]+◌$", parts[0]):
+        parts = [parts[1], parts[0].strip("◌"), parts[2]] + parts[3:]
+    out = []
+    for k, part in enumerate(parts):
+        if isinstance(part, list) and part and part[0] == "(" and ":" not in part and len(parts) > 1:
+            inner = simplified(part[1:])
+            before = parts[k - 1] if k else None
+            after = parts[k + 1] if k + 1 < len(parts) else None
+            beside = [n for n in (before, after) if n is not None]
+            loose = any(n in LOOSE or n == "λ" or n == "," for n in inner if isinstance(n, str))
+            tested = any(n in TESTS for n in inner if isinstance(n, str))
+            if beside and not loose and not tested and all(isinstance(n, str) and (n in TESTS or n in LOOSE) for n in beside):
+                out += inner
+                continue
+            out.append(["("] + inner)
+            continue
+        out.append(part)
+    return out
+
+
 class Canon:
     def __init__(self, uses, modules, local):
         self.uses, self.modules, self.local = uses, modules, local
@@ -269,6 +295,7 @@ class Canon:
             return "(" + inner + ")"
         text = []
         bound = dict(bound)
+        parts = simplified(parts)
         k = 0
         while k < len(parts):
             part = parts[k]
@@ -318,8 +345,6 @@ class Canon:
         own = binders_of(groups(tokens_of(binders))) if binders else []
         every = own + premises
         used = names_in([p[1] for p in every], names_in(result, set()))
-        if clauses and not self.relates(result, every):
-            pass
         keep = []
         # of the module's binders those that the statement uses, and what these use
         for variable, kind_of in reversed(outside):
@@ -362,24 +387,63 @@ class Canon:
         words = names_in(result, set())
         for _, kind in every:
             names_in(kind, words)
-        return any(w in RELATIONS for w in words)
+        return any(w in RELATIONS or (w[:1].isupper() and w in self.uses and w not in PLAIN_TYPES) for w in words)
 
 
 def statements(folder, prefix):
     for where, _, files in sorted(os.walk(folder)):
         for file in sorted(files):
-            if not file.endswith(".antt") or file in ("Answers.antt", "Invariants.antt", "Proof.antt"):
-                continue
+            if file.endswith(".antt") and file not in ("Answers.antt", "Invariants.antt", "Proof.antt"):
+                yield from statements_of(os.path.join(where, file), prefix)
+
+
+def statements_of(path, prefix):
+    text = open(path, encoding="utf-8").read()
+    uses, modules = read_uses(text)
+    found = list(items_of(text))
+    local = {item[2] for item in found} | set(re.findall(r"^ *(?:pub )?(?:data|record) +(\S+)", text, re.M))
+    for line, outer, name, binders, kind, clauses, marks in found:
+        canon = Canon(uses, modules, set() if prefix else local - {name})
+        statement = canon.statement(outer, binders, kind, clauses, marks, name)
+        yield path, line, name, statement, canon.generic
+
+
+def library_statements():
+    """The statements of the kit's std, with those that it takes over from other libraries: statement -> (import, name)."""
+    folder = os.path.join(KIT, "rattle")
+    found = {}
+
+    def add(statement, module, name):
+        # nearer homes first; ByRecursion is a stopgap that the kit will drop, and Paths can't be imported
+        if re.match(r"Rattle\.std\.(specs|proofs\.(lemmas|Common|Math))", module):
+            place = (len(module), module, name)
+            found[statement] = min(found.get(statement, place), place)
+
+    wanted = defaultdict(list)
+    for part in ("proofs", "specs"):
+        for path, line, name, statement, _ in statements(os.path.join(folder, "std", part), "std"):
+            module = "Rattle.std." + os.path.relpath(path, os.path.join(folder, "std"))[:-5].replace("/", ".")
+            add(statement, module, name)
+        for where, _, files in os.walk(os.path.join(folder, "std", part)):
+            for file in files:
+                if file.endswith(".antt"):
+                    path = os.path.join(where, file)
+                    module = "Rattle.std." + os.path.relpath(path, os.path.join(folder, "std"))[:-5].replace("/", ".")
+                    for source, items in re.findall(r"^pub use +([^\s{;]+?)\.\{([^}]*)\}", open(path, encoding="utf-8").read(), re.M):
+                        for item in items.split(","):
+                            words = item.split()
+                            if words:
+                                wanted["/".join(source.split(".")[-2:]) + ".antt"].append((words[0], module, words[-1]))
+    for where, _, files in os.walk(folder):
+        for file in files:
             path = os.path.join(where, file)
-            text = open(path, encoding="utf-8").read()
-            uses, modules = read_uses(text)
-            found = list(items_of(text))
-            local = {item[2] for item in found}
-            local |= set(re.findall(r"^ *(?:pub )?(?:data|record) +(\S+)", text, re.M))
-            for line, outer, name, binders, kind, clauses, marks in found:
-                canon = Canon(uses, modules, set() if prefix else local - {name})
-                statement = canon.statement(outer, binders, kind, clauses, marks, name)
-                yield path, line, name, statement, canon.generic
+            key = "/".join(path.split("/")[-2:])
+            if key in wanted:
+                names = {old: (module, new) for old, module, new in wanted[key]}
+                for _, _, name, statement, _ in statements_of(path, True):
+                    if name in names:
+                        add(statement, *names[name])
+    return found
 
 
 def main(arguments):
@@ -397,17 +461,12 @@ def main(arguments):
             for path, line, name in places:
                 print(f"{path}:{line} {name} : {statement}")
         return 0
-    library = {}
-    if "--library" in arguments:
-        for part in ("proofs", "specs"):
-            for path, line, name, statement, _ in statements(os.path.join(KIT, "rattle", "std", part), "std"):
-                library.setdefault(statement, (os.path.relpath(path, KIT), line, name))
+    library = library_statements() if "--library" in arguments else {}
     known = 0
     for statement, places in sorted(seen.items(), key=lambda e: e[1][0]):
         if statement in library:
             known += len(places)
-            path, line, name = library[statement]
-            print(f"in the kit: {path}:{line} {name} : {statement}")
+            print("in the kit: use %s.{%s} : %s" % (*library[statement][1:], statement))
             for place in places:
                 print("    %s:%d %s" % place)
     groups_found = {s: p for s, p in seen.items() if len(p) > 1}

@@ -1,8 +1,7 @@
 -- What sorts put for type variables, and terms put for a block's variables, make of each variant of terms and formulas.
 use Rattle.std.specs.Prelude.{ℕ, ℤ, ◌+◌, Bool, List, map, length, ◌≡◌}
 use mathlib.Core.Path.{ap}
-use Rattle.ae_core.specs.Sorts.{put_sort}
-use Rattle.ae_core.specs.Putting.{instance_term, instance_term_step, instance, instance_quant, instance_step, instance_quant_step, variable_at, put_terms, put_step, put_formula_in, put_quant_in, put_formula_step, put_quant_step}
+use Rattle.ae_core.specs.Putting.{put_sort, instance_term, instance_term_step, instance, instance_quant, instance_step, instance_quant_step, variable_at, put_terms, put_step, put_formula_in, put_quant_in, put_formula_step, put_quant_step}
 use Rattle.ae_core.specs.declared.terms.Sort.{Sort}
 use Rattle.ae_core.specs.declared.terms.Head.{Head}
 use Rattle.ae_core.specs.declared.terms.Term.{Term, Bound, Num, Fresh, Apply}

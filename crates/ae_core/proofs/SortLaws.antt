@@ -1,14 +1,15 @@
 -- What is put, the sort, and whether it is well sorted: at each form of sort, term and formula.
-use Rattle.std.specs.Prelude.{ℕ, zero, suc, ◌+◌, ◌<◌, take, get_or, ℤ, Bool, true, cond, ◌&&◌, List, [], ◌∷◌, ◌++◌, ◌≡◌, map, length, Option, Some, None}
+use Rattle.std.specs.Prelude.{ℕ, zero, suc, ◌+◌, ◌<◌, take, get_or, ℤ, Bool, true, cond, ◌&&◌, List, [], ◌∷◌, ◌++◌, ◌≡◌, map, length, Option, Some, None, slice_get}
 use Rattle.std.specs.List.{list_all}
 use Rattle.std.proofs.lemmas.List.{length-map, take_more}
 use native.Mathlib.Omega.{arith}
 use mathlib.Core.Path.{refl, sym, ap, ◌∙◌}
-use Rattle.ae_core.specs.Sorts.{put_sort, put_sort_step, or_else, sort_ok, sort_ok_step, type_fits, sort_in, sort_step, variable_sort, numeral_ok, when, only, all_known, head_sort, ◌>>=◌, same_known, same_numeric, predicate_ok, trigger_ok, formula_step, quant_step, formula_in, quant_in}
+use Rattle.ae_core.specs.Putting.{put_sort, put_sort_step}
+use Rattle.ae_base.specs.Options.{or_else, when, only, all_known, ◌>>=◌}
+use Rattle.ae_core.specs.Sorts.{sort_ok, sort_ok_step, type_fits, sort_in, sort_step, variable_sort, numeral_ok, head_sort, same_known, same_numeric, predicate_ok, trigger_ok, formula_step, quant_step, formula_in, quant_in}
 use Rattle.ae_core.specs.declared.terms.Sort.{Sort, Var, Rigid, Int, Real, Bool as BoolSort, Unit as UnitSort, Named, fold-roll-Sort}
 use Rattle.ae_core.specs.declared.terms.Sort.TheOpen as sort_layer
 use Rattle.ae_core.specs.declared.terms.Sort.TheVariants.{rolls-Var, rolls-Rigid, rolls-Int as rolls-IntSort, rolls-Real as rolls-RealSort, rolls-Bool, rolls-Unit, rolls-Named}
-use Rattle.std.specs.Prelude.{slice_get}
 use Rattle.ae_core.specs.declared.terms.Head.{Head}
 use Rattle.ae_core.specs.declared.terms.Term.{Term, Bound, Num, Fresh, Apply, fold-roll-Term}
 use Rattle.ae_core.specs.declared.terms.Term.TheOpen as layer
@@ -16,9 +17,8 @@ use Rattle.ae_core.specs.declared.terms.Term.TheVariants.{rolls-Apply, rolls-Bou
 use Rattle.ae_core.specs.declared.formulas.Formula.{Formula, True, False, Eq, Lt, Le, Pred, Not, And, Or, Xor, Iff, All, Ex, fold-roll-Formula}
 use Rattle.ae_core.specs.declared.formulas.Formula.TheOpen as formula_layer
 use Rattle.ae_core.specs.declared.formulas.Formula.TheVariants.{rolls-True, rolls-False, rolls-Eq, rolls-Lt, rolls-Le, rolls-Pred, rolls-Not, rolls-And, rolls-Or, rolls-Xor, rolls-Iff, rolls-All, rolls-Ex}
-use Rattle.ae_core.specs.declared.formulas.Quant.{Quant, fold-roll-Quant}
+use Rattle.ae_core.specs.declared.formulas.Quant.{Quant, fold-roll-Quant, out-Quant, roll-out-Quant}
 use Rattle.ae_core.specs.declared.problems.Signature.{Signature}
-use Rattle.ae_core.specs.declared.formulas.Quant.{out-Quant, roll-out-Quant}
 
 all_map : {A : Type 0} (f : A → Bool) (xs : List A) → list_all (λ b. b) (map f xs) ≡ list_all f xs
 all_map f [] = refl
@@ -160,34 +160,3 @@ pub ruleset sort_ok_rules = (ok_var, ok_rigid, ok_int, ok_real, ok_bool, ok_unit
 pub ruleset sort_in_rules = (sort_in_bound, sort_in_num, sort_in_fresh, sort_in_apply)
 
 pub ruleset formula_in_rules = (formula_in_true, formula_in_false, formula_in_eq, formula_in_lt, formula_in_le, formula_in_pred, formula_in_not, formula_in_all, formula_in_ex, formula_in_and, formula_in_or, formula_in_xor, formula_in_iff)
-
--- ---- a list of answers, of which each is known or not
-known_push : {B : Type 0} (x y : B) (o : Option (List B)) → ((o >>= λ ys. Some (ys ++ y ∷ [])) >>= λ xs. Some (x ∷ xs)) ≡ ((o >>= λ xs. Some (x ∷ xs)) >>= λ ys. Some (ys ++ y ∷ []))
-known_push x y None = refl
-known_push x y (Some zs) = refl
-
-known_append : {B : Type 0} (os : List (Option B)) (y : B) → all_known (os ++ Some y ∷ []) ≡ (all_known os >>= λ ys. Some (ys ++ y ∷ []))
-known_append [] y = refl
-known_append (None ∷ os) y = refl
-known_append (Some x ∷ os) y = ap (λ o. o >>= λ xs. Some (x ∷ xs)) (known_append os y) ∙ known_push x y (all_known os)
-
-map_push : {A B : Type 0} (f : A → B) (xs : List A) (x : A) → map f (xs ++ x ∷ []) ≡ map f xs ++ f x ∷ []
-map_push f [] x = refl
-map_push f (z ∷ xs) x = ap (λ ys. f z ∷ ys) (map_push f xs x)
-
--- one more answer that is known
-pub known_step : {A B : Type 0} (f : A → Option B) (xs : List A) (i : ℕ) (d : A) (ys : List B) (y : B) → i < length xs → all_known (map f (take i xs)) ≡ Some ys → f (get_or xs i d) ≡ Some y → all_known (map f (take (i + 1) xs)) ≡ Some (ys ++ y ∷ [])
-known_step f xs i d ys y b p q =
-    ap (λ zs. all_known (map f zs)) (take_more xs i d b) ∙ ap all_known (map_push f (take i xs) (get_or xs i d)) ∙ ap (λ o. all_known (map f (take i xs) ++ o ∷ [])) q
-    ∙ known_append (map f (take i xs)) y ∙ ap (λ o. o >>= λ ys. Some (ys ++ y ∷ [])) p
-
-none_after : {B : Type 0} (o : Option B) → ◌≡◌ {A = Option (List B)} (o >>= λ x. None >>= λ xs. Some (x ∷ xs)) None
-none_after None = refl
-none_after (Some x) = refl
-
--- one answer that isn't known
-pub known_stop : {A B : Type 0} (f : A → Option B) (xs : List A) (i : ℕ) (d : A) → i < length xs → f (get_or xs i d) ≡ None → all_known (map f xs) ≡ None
-known_stop f [] i d b q = absurd (omega (arith, b))
-known_stop f (x ∷ xs) zero d b q = ap (λ o. o >>= λ y. all_known (map f xs) >>= λ ys. Some (y ∷ ys)) q
-known_stop f (x ∷ xs) (suc i) d b q =
-    ap (λ t. f x >>= λ y. t >>= λ ys. Some (y ∷ ys)) (known_stop f xs i d (omega (arith, b)) q) ∙ none_after (f x)

@@ -1,15 +1,8 @@
 pub mod Decided
 pub mod Induction
-pub mod Sorts
-pub mod Linear
 pub mod Putting
-pub mod Lines
-pub mod Clauses
-pub mod Instances
-pub mod Derivations
-pub mod Valuations
-pub mod Matches
+pub mod Sorts
+pub mod Constants
 pub mod Signatures
 pub mod Orders
 pub mod TreeOrder
-pub mod Combinations

@@ -1,12 +1,26 @@
 -- Sorts put for type variables, and closed terms put for the variables of a block.
 use Rattle.std.specs.Prelude.{ℕ, ◌+◌, ◌-◌, cond, nat_lt, List, map, length, reverse, slice_get}
-use Rattle.ae_core.specs.Sorts.{or_else, put_sort}
-use Rattle.ae_core.specs.declared.terms.Sort.{Sort}
+use Rattle.ae_base.specs.Options.{or_else}
+use Rattle.ae_core.specs.declared.terms.Sort.{Sort, Sort-F, Var, Rigid, Int, Real, Bool as BoolSort, Unit as UnitSort, Named, fold-Sort}
+use Rattle.ae_core.specs.declared.terms.Sort.TheOpen as sort_layer
 use Rattle.ae_core.specs.declared.terms.Term.{Term, Term-F, Bound, Num, Fresh, Apply, fold-Term}
 use Rattle.ae_core.specs.declared.terms.Term.TheOpen as layer
 use Rattle.ae_core.specs.declared.formulas.Formula.{Formula, Formula-F, True, False, Eq, Lt, Le, Pred, Not, And, Or, Xor, Iff, All, Ex, fold-Formula}
 use Rattle.ae_core.specs.declared.formulas.Formula.TheOpen as layer_of
 use Rattle.ae_core.specs.declared.formulas.Quant.{Quant, Quant-F, fold-Quant}
+
+-- ---- sorts for the type variables of a sort
+abbrev pub put_sort_step : List Sort → Sort-F Sort → Sort
+put_sort_step ss (sort_layer.Var i) = or_else (slice_get ss i) (Var i)
+put_sort_step ss (sort_layer.Rigid i) = Rigid i
+put_sort_step ss sort_layer.Int = Int
+put_sort_step ss sort_layer.Real = Real
+put_sort_step ss sort_layer.Bool = BoolSort
+put_sort_step ss sort_layer.Unit = UnitSort
+put_sort_step ss (sort_layer.Named h args) = Named h args
+
+unfoldable pub put_sort : List Sort → Sort → Sort
+put_sort ss = fold-Sort Sort (put_sort_step ss)
 
 -- ---- sorts for the type variables of a formula
 abbrev pub instance_term_step : List Sort → Term-F Term → Term

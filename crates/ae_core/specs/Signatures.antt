@@ -3,6 +3,7 @@ use Rattle.std.specs.Prelude.{ℕ, ◌<◌, Bool, true, false, not, ◌&&◌, �
 use Rattle.std.specs.List.{AllByRecursion, AllPairs, list_any, list_all, flat_map}
 use Rattle.std.specs.Str.{bytes_eq}
 use Rattle.ae_core.specs.Sorts.{sort_ok, formula_in}
+use Rattle.ae_core.specs.Constants.{formula_constants}
 use Rattle.ae_core.specs.declared.terms.Sort.{Sort, Sort-F, Named, fold-Sort}
 use Rattle.ae_core.specs.declared.terms.Sort.TheOpen as sort_layer
 use Rattle.ae_core.specs.declared.terms.Term.{Term, Term-F, fold-Term, out-Term}
@@ -59,20 +60,23 @@ names_below n = fold-Sort Bool (names_below_step n)
 abbrev pub IsChoice : Signature → ℕ → ℕ → ℕ → Type 0
 IsChoice sig symbol of place = (e : SymbolEntry) × (slice_get sig.symbols symbol ≡ Some e) × (e.nature ≡ Choice of place)
 
--- an enumeration has no parameters, and lists its constructors, of which there is one, place by place
-abbrev pub IsEnumeration : Signature → ℕ → ℕ → List ℕ → Type 0
-IsEnumeration sig n arity cs = (arity ≡ 0) × (cs ≢ []) × ((symbol place : ℕ) → (slice_get cs place ≡ Some symbol) ↔ IsChoice sig symbol n place)
+-- the enumeration of number n lists its constructors: the symbol at each place is the constructor of that place, and no other symbol is
+pub record IsEnumeration (sig : Signature) (n arity : ℕ) (cs : List ℕ) : Type 0 where
+  pub no_parameters : arity ≡ 0
+  pub some : cs ≢ []
+  pub each : (symbol place : ℕ) → (slice_get cs place ≡ Some symbol) ↔ IsChoice sig symbol n place
 
 -- the sort of a record's field has the type's parameters alone, and names only types of smaller number
 abbrev pub is_field_sort : Signature → ℕ → ℕ → Sort → Bool
 is_field_sort sig n arity s = is_sort_over sig arity s && names_below n s
 
+-- a record type has at least one field
 abbrev pub IsLawfulType : Signature → ℕ → TypeEntry → Type 0
 IsLawfulType sig n e =
     elim e.kind [
       | Abstract ↦ Unit {0}
       | Choices cs ↦ IsEnumeration sig n e.arity cs
-      | Fields fs ↦ list_all (λ f. is_field_sort sig n e.arity f.sort) fs ≡ true
+      | Fields fs ↦ (fs ≢ []) × (list_all (λ f. is_field_sort sig n e.arity f.sort) fs ≡ true)
     ]
 
 -- the type of this number is an enumeration
@@ -137,9 +141,10 @@ unfoldable pub triggers_in : Formula → List (ℕ × List Term)
 triggers_in = fold-Formula (List (ℕ × List Term)) (List (ℕ × List Term)) triggers_step (λ q. map (λ ts. (length q.sorts, ts)) q.triggers ++ q.body)
 
 -- ---- problems
--- the formula is closed and well sorted with the type variables of its item, and each of its triggers may stand
+-- the formula is closed and well sorted with the type variables of its item, each of its triggers may stand, and no fresh constant occurs in it
 abbrev pub IsLawfulFormula : Signature → (Sort → Bool) → Formula → Type 0
-IsLawfulFormula sig may f = (formula_in sig may [] f ≡ true) × AllByRecursion (λ t. IsTrigger t.0 t.1) (triggers_in f)
+IsLawfulFormula sig may f =
+    (formula_in sig may [] f ≡ true) × AllByRecursion (λ t. IsTrigger t.0 t.1) (triggers_in f) × (formula_constants f ≡ [])
 
 abbrev pub IsLawfulItem : Signature → Item → Type 0
 IsLawfulItem sig (Axiom n vars f) = IsLawfulFormula sig (is_sort_over sig vars) f

@@ -1,7 +1,10 @@
 -- Well-sorted terms and formulas.
 use Rattle.std.specs.Prelude.{ℕ, ℤ, pos, Bool, true, false, cond, not, ◌&&◌, ◌||◌, nat_eq, nat_lt, ◌^◌, unsigned_abs, int_lt, List, [], ◌∷◌, ◌++◌, map, length, slice_get, reverse, Option, Some, None}
 use Rattle.std.specs.List.{list_all}
-use Rattle.ae_core.specs.Decided.{decided, Sort_discrete, Sorts_discrete}
+use Rattle.ae_base.specs.Options.{or_else, ◌>>=◌, only, when, all_known, known}
+use Rattle.ae_base.specs.Decided.{decided}
+use Rattle.ae_core.specs.Putting.{put_sort}
+use Rattle.ae_core.specs.Decided.{Sort_discrete, Sorts_discrete}
 use Rattle.ae_core.specs.declared.terms.Sort.{Sort, Sort-F, Var, Rigid, Int, Real, Bool as BoolSort, Unit as UnitSort, Named, fold-Sort}
 use Rattle.ae_core.specs.declared.terms.Sort.TheOpen as sort_layer
 use Rattle.ae_core.specs.declared.terms.Term.{Term, Term-F, fold-Term, out-Term}
@@ -24,39 +27,6 @@ same_sort a b = decided (Sort_discrete a b)
 
 abbrev pub same_sorts : List Sort → List Sort → Bool
 same_sorts xs ys = decided (Sorts_discrete xs ys)
-
-abbrev pub or_else : {A : Type 0} → Option A → A → A
-or_else (Some x) d = x
-or_else None d = d
-
-infixl 10 ◌>>=◌
-abbrev pub ◌>>=◌ : {A B : Type 0} → Option A → (A → Option B) → Option B
-(Some x) >>= f = f x
-None >>= f = None
-
-abbrev pub only : {A : Type 0} → Bool → Option A → Option A
-only true o = o
-only false o = None
-
-abbrev pub when : {A : Type 0} → Bool → A → Option A
-when b x = only b (Some x)
-
-abbrev pub all_known : {A : Type 0} → List (Option A) → Option (List A)
-all_known [] = Some []
-all_known (o ∷ os) = o >>= λ x. all_known os >>= λ xs. Some (x ∷ xs)
-
--- sorts put for the type variables
-abbrev pub put_sort_step : List Sort → Sort-F Sort → Sort
-put_sort_step ss (sort_layer.Var i) = or_else (slice_get ss i) (Var i)
-put_sort_step ss (sort_layer.Rigid i) = Rigid i
-put_sort_step ss sort_layer.Int = Int
-put_sort_step ss sort_layer.Real = Real
-put_sort_step ss sort_layer.Bool = BoolSort
-put_sort_step ss sort_layer.Unit = UnitSort
-put_sort_step ss (sort_layer.Named h args) = Named h args
-
-unfoldable pub put_sort : List Sort → Sort → Sort
-put_sort ss = fold-Sort Sort (put_sort_step ss)
 
 -- a named sort has its type's number of arguments; `vars` and `rigids` say which variables may stand
 abbrev pub type_fits : Signature → ℕ → ℕ → Bool
@@ -137,10 +107,6 @@ sort_of sig = sort_in sig (is_closed_sort sig) []
 
 abbrev pub sorts_of : Signature → List Term → Option (List Sort)
 sorts_of sig ts = all_known (map (sort_of sig) ts)
-
-abbrev pub known : {A : Type 0} → Option A → Bool
-known (Some x) = true
-known None = false
 
 abbrev pub term_ok : Signature → Term → Bool
 term_ok sig t = known (sort_of sig t)

@@ -2,9 +2,9 @@
 #![tactic(auto)]
 
 pub mod copies;
+pub mod equality;
 pub mod formulas;
 pub mod laws;
-pub mod linear_laws;
 pub mod lists;
 pub mod orders;
 pub mod problems;

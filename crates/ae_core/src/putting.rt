@@ -1,13 +1,48 @@
-//! Sorts put for the type variables of a formula, and terms put for the variables of a block.
+//! Sorts put for the type variables of a sort, a term or a formula, and terms put for the variables of a block.
 ghost use Rattle.std.specs.Prelude.{◌≡◌, IfOk, map, ◌+◌};
 ghost use Rattle.ae_core.specs.Putting as spec;
 
 use crate::copies::{copy_sort, copy_sorts, copy_term};
 use crate::formulas::{Formula, Quant};
-use crate::lists::{Boxed, List};
-use crate::sorts::{put_sort, put_sorts};
+use crate::lists::{Boxed, List, at};
 use crate::terms::{Sort, Term};
 use std::alloc::{AllocError, Global};
+
+/// A sort with sorts put for its type variables.
+#[cycle(put)]
+#[tactic(auto, using(crate::proofs::SortLaws::put_sort_rules))]
+pub fn put_sort(alloc: Global, sort: &Sort, sorts: &[Sort]) -> Result<Sort, AllocError>
+    ensures { IfOk result (λ s. s ≡ spec.put_sort sorts.now sort.now) }
+{
+    match sort {
+        Sort::Var(i) => match at(sorts, *i) {
+            None => Ok(Sort::Var(*i)),
+            Some(found) => copy_sort(alloc, found),
+        },
+        Sort::Rigid(i) => Ok(Sort::Rigid(*i)),
+        Sort::Int => Ok(Sort::Int),
+        Sort::Real => Ok(Sort::Real),
+        Sort::Bool => Ok(Sort::Bool),
+        Sort::Unit => Ok(Sort::Unit),
+        Sort::Named { head, args } => {
+            let args = put_sorts(alloc, args.as_slice(), sorts)?;
+            Ok(Sort::Named { head: *head, args })
+        }
+    }
+}
+
+/// The same for a list of sorts.
+#[cycle(put)]
+#[tactic(auto, using(crate::proofs::SortLaws::put_sort_rules))]
+pub fn put_sorts(alloc: Global, into: &[Sort], sorts: &[Sort]) -> Result<List<Sort>, AllocError>
+    ensures { IfOk result (λ s. s ≡ map (spec.put_sort sorts.now) into.now) }
+{
+    let mut copies = List::new(alloc);
+    for sort in into {
+        copies.push(put_sort(alloc, sort, sorts)?)?;
+    }
+    Ok(copies)
+}
 
 /// The term with sorts put for its type variables.
 #[cycle(instance_term)]

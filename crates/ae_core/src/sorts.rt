@@ -2,11 +2,14 @@
 ghost use Rattle.std.specs.Prelude.{◌≡◌, ◌∷◌, ◌++◌, [], IfOk, Option, Some, None, map, cond, ◌&&◌, ◌||◌};
 ghost use Rattle.std.specs.List.{list_all};
 ghost use Rattle.ae_core.specs.declared.terms.Sort.{Int, Real, Named};
+ghost use Rattle.ae_core.specs.Putting as putting;
 ghost use Rattle.ae_core.specs.Sorts as spec;
+ghost use Rattle.ae_base.specs.Options as options;
 
 use crate::copies::{copy_sort, copy_sorts};
 use crate::formulas::{Formula, Quant};
 use crate::lists::{List, at};
+use crate::putting::{put_sort, put_sorts};
 use crate::problems::{FieldEntry, Kind, Signature, SymbolEntry, TypeEntry};
 use crate::terms::{Head, Op, Sort, Term};
 use std::alloc::{AllocError, Global};
@@ -15,14 +18,14 @@ use std::alloc::{AllocError, Global};
 pub fn is_sort(left: &Sort, right: &Sort) -> bool
     ensures { result ≡ spec.same_sort left.now right.now }
 {
-    crate::terms::same_sort(left, right)
+    crate::equality::same_sort(left, right)
 }
 
 /// Whether two lists of sorts are the same, as the definitions say it.
 pub fn are_sorts(left: &[Sort], right: &[Sort]) -> bool
     ensures { result ≡ spec.same_sorts left.now right.now }
 {
-    crate::terms::same_sorts(left, right)
+    crate::equality::same_sorts(left, right)
 }
 
 /// Whether a type has this number of parameters.
@@ -66,42 +69,6 @@ pub fn are_closed_sorts(signature: &Signature, sorts: &[Sort]) -> bool
         }
     }
     true
-}
-
-/// A sort with sorts put for its type variables.
-#[cycle(put)]
-#[tactic(auto, using(crate::proofs::SortLaws::put_sort_rules))]
-pub fn put_sort(alloc: Global, sort: &Sort, sorts: &[Sort]) -> Result<Sort, AllocError>
-    ensures { IfOk result (λ s. s ≡ spec.put_sort sorts.now sort.now) }
-{
-    match sort {
-        Sort::Var(i) => match at(sorts, *i) {
-            None => Ok(Sort::Var(*i)),
-            Some(found) => copy_sort(alloc, found),
-        },
-        Sort::Rigid(i) => Ok(Sort::Rigid(*i)),
-        Sort::Int => Ok(Sort::Int),
-        Sort::Real => Ok(Sort::Real),
-        Sort::Bool => Ok(Sort::Bool),
-        Sort::Unit => Ok(Sort::Unit),
-        Sort::Named { head, args } => {
-            let args = put_sorts(alloc, args.as_slice(), sorts)?;
-            Ok(Sort::Named { head: *head, args })
-        }
-    }
-}
-
-/// The same for a list of sorts.
-#[cycle(put)]
-#[tactic(auto, using(crate::proofs::SortLaws::put_sort_rules))]
-pub fn put_sorts(alloc: Global, into: &[Sort], sorts: &[Sort]) -> Result<List<Sort>, AllocError>
-    ensures { IfOk result (λ s. s ≡ map (spec.put_sort sorts.now) into.now) }
-{
-    let mut copies = List::new(alloc);
-    for sort in into {
-        copies.push(put_sort(alloc, sort, sorts)?)?;
-    }
-    Ok(copies)
 }
 
 /// Whether a number is within the limits.
@@ -182,7 +149,7 @@ pub fn fields_sorts(
     fields: &[FieldEntry],
     sorts: &[Sort],
 ) -> Result<List<Sort>, AllocError>
-    ensures { IfOk result (λ s. s ≡ map (λ f. spec.put_sort sorts.now f.sort) fields.now) }
+    ensures { IfOk result (λ s. s ≡ map (λ f. putting.put_sort sorts.now f.sort) fields.now) }
 {
     let mut copies = List::new(alloc);
     for field in fields {
@@ -420,14 +387,14 @@ pub fn sort_in(
 
 /// The sorts of terms, where each of them is well sorted.
 #[cycle(sort_in)]
-#[tactic(auto, using(crate::proofs::SortLaws::known_step, crate::proofs::SortLaws::known_stop))]
+#[tactic(auto, using(ae_base::proofs::Options::known_step, ae_base::proofs::Options::known_stop))]
 pub fn sorts_in(
     alloc: Global,
     signature: &Signature,
     terms: &[Term],
     env: &[Sort],
 ) -> Result<Option<List<Sort>>, AllocError>
-    ensures { IfOk result (λ s. s ≡ spec.all_known (map (spec.sort_in signature.now (spec.is_closed_sort signature.now) env.now) terms.now)) }
+    ensures { IfOk result (λ s. s ≡ options.all_known (map (spec.sort_in signature.now (spec.is_closed_sort signature.now) env.now) terms.now)) }
 {
     let mut found = List::new(alloc);
     for term in terms {

@@ -4,10 +4,11 @@ use Rattle.std.specs.Prelude.{not}
 use Rattle.std.specs.List.{Contains, list_all}
 use Rattle.std.proofs.lemmas.Bool.{cases_eq, cases_lt, cases_Bool, and_from, or_left, or_right}
 use Rattle.std.proofs.lemmas.Option.{slice_get-get_or}
-use Rattle.ae_core.specs.Decided.{decided, Lit_discrete}
-use Rattle.ae_core.specs.Sorts.{◌>>=◌, when}
-use Rattle.ae_core.specs.Clauses.{Clause, opposite, stands, has_true, is_or_stands, next_false, refutes}
-use Rattle.ae_core.specs.Derivations.{is_refuted}
+use Rattle.ae_base.specs.Decided.{decided}
+use Rattle.ae_core.specs.Decided.{Lit_discrete}
+use Rattle.ae_core.specs.Options.{◌>>=◌, when}
+use Rattle.ae_rules.specs.Clauses.{Clause, opposite, stands, has_true, is_or_stands, next_false, refutes}
+use Rattle.ae_rules.specs.Derivations.{is_refuted}
 use Rattle.ae_core.specs.declared.formulas.Lit.{Lit}
 use Rattle.ae_explain.specs.declared.trail.Assigned.{Assigned}
 use Rattle.ae_explain.specs.declared.marks.Mark.{Mark}

@@ -7,7 +7,8 @@ use Rattle.std.specs.Option.{option_map, IfSome}
 use Rattle.std.specs.declared.cmp.Ordering.{Ordering}
 use Rattle.std.specs.declared.cmp.Ordering.TheVariants.{Less, Equal, Greater}
 use Rattle.std.specs.Ordering.{is_eq}
-use Rattle.ae_core.specs.Decided.{decided, Formula_discrete}
+use Rattle.ae_base.specs.Decided.{decided}
+use Rattle.ae_core.specs.Decided.{Formula_discrete}
 use Rattle.ae_core.specs.Orders.{formula_order}
 use Rattle.ae_core.proofs.OrderLaws.{formula_exact}
 use Rattle.ae_core.specs.declared.formulas.Formula.{Formula}

@@ -6,7 +6,7 @@ use Rattle.std.proofs.lemmas.Option.{same_Some}
 use Rattle.std.proofs.lemmas.List.{get_or-set_same, get_or-set_other}
 use Rattle.std.specs.Prelude.{slice_set}
 use Rattle.ae_core.specs.Decided.{Lit_discrete}
-use Rattle.ae_core.specs.Clauses.{Clause}
+use Rattle.ae_rules.specs.Clauses.{Clause}
 use Rattle.ae_core.specs.declared.formulas.Lit.{Lit}
 use Rattle.ae_explain.specs.declared.trail.Assigned.{Assigned}
 use Rattle.ae_explain.specs.declared.marks.Mark.{Mark}

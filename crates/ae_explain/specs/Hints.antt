@@ -1,8 +1,8 @@
 -- Clauses that follow from others by unit propagation.
 use Rattle.std.specs.Prelude.{ℕ, List, Option, true, ◌≡◌, map, slice_get}
-use Rattle.ae_core.specs.Sorts.{all_known}
-use Rattle.ae_core.specs.Clauses.{Clause}
-use Rattle.ae_core.specs.Derivations.{is_refuted}
+use Rattle.ae_core.specs.Options.{all_known}
+use Rattle.ae_rules.specs.Clauses.{Clause}
+use Rattle.ae_rules.specs.Derivations.{is_refuted}
 
 -- the clauses of the hints, in their order
 abbrev pub hinted : List Clause → List ℕ → Option (List Clause)

@@ -1,6 +1,6 @@
 -- The levels of literals.
 use Rattle.std.specs.Prelude.{ℕ, List, [], ◌∷◌, max, Option, Some, None, filter, nat_lt}
-use Rattle.ae_core.specs.Clauses.{Clause}
+use Rattle.ae_rules.specs.Clauses.{Clause}
 use Rattle.ae_core.specs.declared.formulas.Lit.{Lit}
 use Rattle.ae_explain.specs.declared.trail.Assigned.{Assigned}
 use Rattle.ae_explain.specs.Trail.{at, place_in}

@@ -1,7 +1,7 @@
 -- Marked places of a trail.
 use Rattle.std.specs.Prelude.{◌≡◌, ◌≢◌, ℕ, zero, suc, ◌+◌, ◌<◌, ◌≤◌, ◌==◌, ◌&&◌, Bool, true, false, List, [], ◌∷◌, length, slice_index_or, Option, Some, None, if◌then◌else◌}
 use Rattle.std.specs.List.{Contains}
-use Rattle.ae_core.specs.Clauses.{Clause, opposite}
+use Rattle.ae_rules.specs.Clauses.{Clause, opposite}
 use Rattle.ae_core.specs.declared.formulas.Lit.{Lit}
 use Rattle.ae_explain.specs.declared.trail.Assigned.{Assigned}
 use Rattle.ae_explain.specs.declared.marks.Mark.{Mark}

@@ -1,7 +1,7 @@
 //! What is learnt from a clause that is false in a trail: the first unique implication point and what it stands with.
 ghost use Rattle.std.specs.Prelude.{◌≡◌, ◌≢◌, ◌++◌, ◌∷◌, [], ◌<◌, ◌==◌, false, ℕ, length, map, count_by, if◌then◌else◌, IfOk, OnOk};
 ghost use Rattle.std.specs.List.{Contains};
-ghost use Rattle.ae_core.specs.Clauses.{opposite};
+ghost use Rattle.ae_rules.specs.Clauses.{opposite};
 ghost use Rattle.ae_core.specs.declared.formulas.Lit.{Lit};
 ghost use Rattle.ae_explain.specs.Trail.{IsLawful, AreFalse, IsFalse, clause};
 ghost use Rattle.ae_explain.specs.Levels.{level_of, greatest_of, literals_under};

@@ -6,10 +6,12 @@ use native.Mathlib.Nat.{zero-dvd, le_antisymm, le_of_mul-le-mul_right, le_of_eq,
 use lib.IntN.{ℤ, pos, negsuc, neg_ℤ, ◌*ℤ◌, *ℤ_comm}
 use Rattle.std.specs.Int.{IsGcd}
 use Rattle.std.specs.Int.RustNames.{unsigned_abs, int_div}
-use Rattle.ae_math.specs.Integers.{neg_mul_z, mul_assoc_z}
+use Rattle.ae_math.specs.Inner.Integers.{neg_mul_z, mul_assoc_z}
 use Rattle.ae_math.specs.Divisors.{IsLowest}
-use Rattle.ae_math.specs.Fractions.{frac, cancel}
+use Rattle.ae_math.specs.Fractions.{frac}
+use Rattle.ae_math.specs.Inner.Respected.{cancel}
 use Rattle.ae_math.proofs.FractionLaws.{same_frac, frac_same}
+use Rattle.std.proofs.lemmas.Int.{unsigned_abs-mul}
 use Rattle.std.proofs.lemmas.Nat.{mod-mul-add}
 use Rattle.std.proofs.lemmas.Nat.Gcd.{IsGcd-from_mod, IsGcd-from_zero, same_from_IsGcd, IsGcd-swap, mod-eq-zero_of_dvd}
 
@@ -57,16 +59,6 @@ gcd_below (suc n) a (suc b) h =
 pub gcd_exists : (a b : ℕ) → (g : ℕ) × IsGcd a b g
 gcd_exists a b = gcd_below b a b (omega arith)
 
-pub abs_neg : (n : ℕ) → unsigned_abs (neg_ℤ (pos n)) ≡ n
-abs_neg zero = refl
-abs_neg (suc n) = refl
-
-pub abs_times : (a b : ℤ) → unsigned_abs (a *ℤ b) ≡ unsigned_abs a * unsigned_abs b
-abs_times (pos a) (pos b) = refl
-abs_times (pos a) (negsuc b) = abs_neg (a * suc b)
-abs_times (negsuc a) (pos b) = abs_neg (suc a * b)
-abs_times (negsuc a) (negsuc b) = refl
-
 pub mul_cancel : (a b c : ℕ) → 0 < c → a * c ≡ b * c → a ≡ b
 mul_cancel a b c z e = le_antisymm (le_of_mul-le-mul_right (le_of_eq e) z) (le_of_mul-le-mul_right (le_of_eq (sym e)) z)
 
@@ -109,7 +101,7 @@ lowest_exists a n =
     let some : 0 < q = quotient_positive q g n under in
     let m = q - 1 in
     let back : suc m ≡ q = omega arith in
-    let low : IsGcd (unsigned_abs b) q 1 = coprime_parts (unsigned_abs a) (suc n) g (unsigned_abs b) q z r.1 (sym (ap unsigned_abs top) ∙ abs_times b (pos g)) (sym under) in
+    let low : IsGcd (unsigned_abs b) q 1 = coprime_parts (unsigned_abs a) (suc n) g (unsigned_abs b) q z r.1 (sym (ap unsigned_abs top) ∙ unsigned_abs-mul b (pos g)) (sym under) in
     let cross : a *ℤ pos (suc m) ≡ b *ℤ pos (suc n) =
     (λ i. sym top i *ℤ pos (back i)) ∙ mul_assoc_z b (pos g) (pos q) ∙ ap (λ t. b *ℤ t) (*ℤ_comm (pos g) (pos q)) ∙ ap (λ k. b *ℤ pos k) under in
     (b, m, subst (λ k. IsGcd (unsigned_abs b) k 1) (sym back) low, frac_same a b n m cross)
@@ -122,7 +114,7 @@ lowest_exists a n =
 pub lowest_unique : (a b : ℤ) (m n : ℕ) → IsLowest a m → IsLowest b n → frac a m ≡ frac b n → (a ≡ b) × (m ≡ n)
 lowest_unique a b m n i j e =
     let cross : a *ℤ pos (suc n) ≡ b *ℤ pos (suc m) = same_frac a b m n e in
-    let sizes : unsigned_abs a * suc n ≡ unsigned_abs b * suc m = sym (abs_times a (pos (suc n))) ∙ ap unsigned_abs cross ∙ abs_times b (pos (suc m)) in
+    let sizes : unsigned_abs a * suc n ≡ unsigned_abs b * suc m = sym (unsigned_abs-mul a (pos (suc n))) ∙ ap unsigned_abs cross ∙ unsigned_abs-mul b (pos (suc m)) in
     let left : suc m ∣ suc n = euclid (suc m) (unsigned_abs a) (suc n) (IsGcd-swap (unsigned_abs a) (suc m) 1 i) (subst (λ k. suc m ∣ k) (sym sizes) (dvd-mul_left (suc m) (unsigned_abs b))) in
     let right : suc n ∣ suc m = euclid (suc n) (unsigned_abs b) (suc m) (IsGcd-swap (unsigned_abs b) (suc n) 1 j) (subst (λ k. suc n ∣ k) sizes (dvd-mul_left (suc n) (unsigned_abs a))) in
     let bottoms : suc m ≡ suc n = dvd_antisymm left right in

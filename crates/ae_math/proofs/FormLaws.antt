@@ -1,14 +1,30 @@
 -- The laws of linear forms.
-use Rattle.std.specs.Prelude.{ℕ, zero, suc, List, [], ◌∷◌, ◌++◌, ◌≡◌, map, length, ◌≤◌}
+use Rattle.std.specs.Prelude.{true, false, ℕ, zero, suc, List, [], ◌∷◌, ◌++◌, ◌≡◌, map, length, ◌≤◌}
 use mathlib.Core.Path.{refl, sym, ap, ◌∙◌, subst}
 use native.Mathlib.Omega.{arith}
-use Rattle.ae_math.specs.Choices.{pick, pick_yes, pick_no}
-use Rattle.ae_math.specs.Fractions.{ℚ, zero_ℚ, one_ℚ, neg_ℚ, ◌+ℚ◌, ◌*ℚ◌}
-use Rattle.ae_math.specs.Forms.{Form, number, single, plus, scale, minus, factor_in, factor, SameForm, without, substitute, sum_of, value}
+use Rattle.ae_base.specs.Decided.{pick}
+use Rattle.ae_base.proofs.Decided.{pick_yes, pick_no}
+use Rattle.std.proofs.Common.{true≢false}
+use Rattle.ae_math.specs.Fractions.{ℚ, ℚ_discrete, zero_ℚ, one_ℚ, neg_ℚ, ◌+ℚ◌, ◌*ℚ◌}
+use Rattle.ae_math.specs.Forms.{Form, number, single, plus, scale, minus, is_zero, factor_in, factor, SameForm, without, substitute, sum_of, value}
 use Rattle.ae_math.proofs.FractionLaws.{field, add_neg_q, add_assoc_q, add_left_comm_q, zero_add_q, add_zero_q, mul_add_q, add_mul_q, add_comm_q, mul_assoc_q, one_mul_q, mul_zero_q, zero_mul_q, neg_mul_q, same_from_zero_q, cancel_q}
 
-minus_one : (x : ℚ) → neg_ℚ one_ℚ *ℚ x ≡ neg_ℚ x
+-- minus one times a number
+pub minus_one : (x : ℚ) → neg_ℚ one_ℚ *ℚ x ≡ neg_ℚ x
 minus_one x = neg_mul_q one_ℚ x ∙ ap neg_ℚ (one_mul_q x)
+
+-- ---- the test of a factor
+pub is_zero_yes : (x : ℚ) → x ≡ zero_ℚ → is_zero x ≡ true
+is_zero_yes x e = pick_yes (ℚ_discrete x zero_ℚ) true false e
+
+pub is_zero_no : (x : ℚ) → ¬ (x ≡ zero_ℚ) → is_zero x ≡ false
+is_zero_no x n = pick_no (ℚ_discrete x zero_ℚ) true false n
+
+pub zero_is : (x : ℚ) → is_zero x ≡ true → x ≡ zero_ℚ
+zero_is x e = elim (ℚ_discrete x zero_ℚ) [ yes p ↦ p | no n ↦ absurd (true≢false (sym e ∙ is_zero_no x n)) ]
+
+pub zero_is_not : (x : ℚ) → is_zero x ≡ false → ¬ (x ≡ zero_ℚ)
+zero_is_not x e p = true≢false (sym (is_zero_yes x p) ∙ e)
 
 apart_yes : (a b c d : ℚ) → a *ℚ b +ℚ (c *ℚ b +ℚ d) ≡ (a +ℚ c) *ℚ b +ℚ d
 apart_yes a b c d = simp field

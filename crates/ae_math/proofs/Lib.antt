@@ -1,4 +1,5 @@
 pub mod FractionLaws
 pub mod FractionOrder
+pub mod Wholes
 pub mod Divisors
 pub mod FormLaws

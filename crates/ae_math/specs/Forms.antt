@@ -2,7 +2,7 @@
 -- A key may occur several times; forms with the same factor for each key and the same constant are the same.
 use Rattle.std.specs.Prelude.{Bool, true, false, List, [], ◌∷◌, ◌++◌, ◌≡◌, map}
 use Rattle.std.specs.List.{list_all}
-use Rattle.ae_math.specs.Choices.{pick}
+use Rattle.ae_base.specs.Decided.{pick}
 use Rattle.ae_math.specs.Fractions.{ℚ, zero_ℚ, one_ℚ, neg_ℚ, ◌+ℚ◌, ◌*ℚ◌, ℚ_discrete}
 
 pub record Form (K : Type 0) : Type 0 where

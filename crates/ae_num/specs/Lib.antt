@@ -1,4 +1,5 @@
 pub mod Limits
 pub mod Forms
+pub mod Gives
 pub mod Pairs
 pub mod Reduction

@@ -1,5 +1,5 @@
 -- A form with all its numbers divided by one.
-use Rattle.std.specs.Prelude.{ℕ, ℤ, pos, ◌<◌, ◌*ℤ◌, ◌≡◌, List, ◌∷◌, ◌++◌, map}
+use Rattle.std.specs.Prelude.{ℕ, pos, ◌<◌, ◌*ℤ◌, ◌≡◌, List, ◌∷◌, ◌++◌}
 use Rattle.ae_num.specs.declared.forms.Lin.{Lin}
 use Rattle.ae_num.specs.declared.sums.Combination.{Combination}
 use Rattle.ae_num.specs.Forms.{Step, Product, factor_of}

@@ -1,7 +1,7 @@
 use Rattle.std.proofs.Common.{◌≡◌, ◌<◌, subst}
 use Rattle.std.proofs.lemmas.Result.{IfOk-weaker}
 use Rattle.std.specs.Prelude.{count_by, ◌==◌}
-use Rattle.ae_core.specs.Clauses.{Clause}
+use Rattle.ae_rules.specs.Clauses.{Clause}
 use Rattle.ae_explain.specs.Levels.{greatest_of, level_of}
 use Rattle.ae_explain.proofs.conflict.conflict_clause.Goals as goal
 

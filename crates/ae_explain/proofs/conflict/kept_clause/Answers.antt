@@ -1,5 +1,5 @@
 use Rattle.std.proofs.Common.{rules, ◌≡◌, ◌-◌, ◌++◌, ◌∷◌, [], List, arith, sym, subst, map, true, false, length}
-use Rattle.ae_core.specs.Clauses.{opposite}
+use Rattle.ae_rules.specs.Clauses.{opposite}
 use Rattle.ae_core.specs.declared.formulas.Lit.{Lit}
 use Rattle.ae_explain.specs.Trail.{at}
 use Rattle.ae_explain.specs.Marks.{lits_below, kept}

@@ -1,7 +1,7 @@
 use Rattle.std.proofs.Common.{◌≡◌, ◌∙◌, ℕ, List, arith, sym, length, subst, map, ap}
 use Rattle.std.specs.List.{Contains}
 use Rattle.std.specs.Prelude.{count_by, ◌==◌}
-use Rattle.ae_core.specs.Clauses.{Clause, opposite}
+use Rattle.ae_rules.specs.Clauses.{Clause, opposite}
 use Rattle.ae_core.specs.declared.formulas.Lit.{Lit}
 use Rattle.ae_explain.specs.Trail.{clause}
 use Rattle.ae_explain.specs.Levels.{greatest_of, level_of}

@@ -1,5 +1,5 @@
 use lib.IntN.{+ℤ_assoc, +ℤ_idl, +ℤ_invr, *ℤ_comm}
-use Rattle.ae_math.specs.Integers.{add_comm_z, mul_assoc_z, mul_add_z, one_mul_z}
+use Rattle.ae_math.specs.Inner.Integers.{add_comm_z, mul_assoc_z, mul_add_z, one_mul_z}
 use Rattle.ae_math.proofs.laws.integers_are_a_ring.Goals as goal
 
 pub returns-clause-sums_associate : goal.returns-clause-sums_associate

@@ -1,5 +1,0 @@
-use Rattle.ae_core.proofs.Propagation.{refuted}
-use Rattle.ae_core.proofs.laws.propagation_is_sound.Goals as goal
-
-pub returns : goal.returns
-returns c v = refuted v

@@ -1,0 +1,10 @@
+pub mod ClauseLaws
+pub mod Bridge
+pub mod Written
+pub mod Respects
+pub mod Congruence
+pub mod Propagation
+pub mod Blocks
+pub mod LinearLaws
+pub mod Stated
+pub mod Defining

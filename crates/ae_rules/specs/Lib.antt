@@ -1,0 +1,9 @@
+pub mod Linear
+pub mod Lines
+pub mod Clauses
+pub mod Defining
+pub mod Instances
+pub mod Derivations
+pub mod Valuations
+pub mod Combinations
+pub mod Matches
