@@ -1,12 +1,13 @@
 -- A refuted chain is a valid goal of its text's problem, and a chain that values tell apart is one that has a saturated state.
-use Rattle.std.specs.Prelude.{ℕ, zero, suc, ◌+◌, ◌<◌, ◌≤◌, ◌⊎◌, true, false, List, [], ◌∷◌, ◌++◌, ◌≡◌, map, length, get_or, take}
-use Rattle.std.specs.Prelude.{slice_get, ◌≢◌, Option, Some, None, IfSome, Result, Ok, Err, IfOk}
+use Rattle.std.specs.Prelude.{ℕ, zero, suc, ◌+◌, ◌<◌, ◌≤◌, ◌⊎◌, true, false, List, [], ◌∷◌, ◌++◌, ◌≡◌, map, length, get_or, take, slice_get, ◌≢◌, Option, Some, None, IfSome, Result, Ok, Err, IfOk}
 use Rattle.std.specs.List.{AllByRecursion}
 use Rattle.std.proofs.Common.{refl, sym, ap, ◌∙◌, subst, arith, inl, inr, ⊎_elim, append_assoc, append-nil, length-append}
 use Rattle.ae_core.specs.Decided.{Sorts_discrete}
-use Rattle.ae_core.specs.Sorts.{◌>>=◌, or_else, only, known, sort_of, term_ok, is_closed_sort, put_sort, symbol_sort}
-use Rattle.ae_core.specs.Clauses.{no_of}
-use Rattle.ae_core.specs.Derivations.{Derives, goal_body}
+use Rattle.ae_base.specs.Options.{◌>>=◌, or_else, only, known}
+use Rattle.ae_core.specs.Sorts.{sort_of, term_ok, is_closed_sort, symbol_sort}
+use Rattle.ae_core.specs.Putting.{put_sort}
+use Rattle.ae_rules.specs.Clauses.{no_of}
+use Rattle.ae_rules.specs.Derivations.{Derives, goal_body}
 use Rattle.ae_core.proofs.SortLaws.{sort_in_apply, put_named}
 use Rattle.ae_core.specs.declared.terms.Term.{Term}
 use Rattle.ae_core.specs.declared.terms.Head.TheVariants.{Symbol}
@@ -23,18 +24,15 @@ use Rattle.ae_driver.specs.Problems.{constant, chain, symbol_entry, goal_item, s
 use Rattle.ae_driver.specs.Inner.ChainProofs.{chain_proof}
 use Rattle.ae_driver.specs.Inner.Search.{Refutes, IsOpen, block_of}
 use Rattle.ae_driver.specs.Texts.{proof_text}
-use Rattle.ae_driver.specs.Inner.Bytes.{proof_bytes}
+use Rattle.ae_driver.specs.Inner.Bytes.{proof_bytes, valid_bytes}
 use Rattle.ae_driver.specs.Inner.Merging.{numbers_of}
 use Rattle.ae_driver.specs.StateTexts.{state_text}
 use Rattle.ae_driver.specs.Inner.StateChains.{constant_system, state_literals, state_of}
 use Rattle.ae_journal.specs.States.{IsSaturated}
 use Rattle.ae_journal.specs.Evaluate.{is_true_at, unassigned}
 use Rattle.ae_driver.specs.Inner.StateBytes.{state_bytes, unknown_bytes}
-use Rattle.ae_driver.specs.Output.{goal_name, IsValidPart, IsUnknownPart, IsPart, AreParts, IsDone, IsFileOf, Reads, IsRefused, by_lexis}
-use Rattle.ae_driver.specs.Output.{by_syntax, by_form, IsRefusedText, IsOutOfMemory, IsCutOff, IsOffered, IsRead, IsTooLong}
-use Rattle.ae_driver.specs.Output.{writes_parts, writes_refusal}
+use Rattle.ae_driver.specs.Output.{goal_name, IsValidPart, IsUnknownPart, IsPart, AreParts, IsDone, IsFileOf, Reads, IsRefused, by_lexis, by_syntax, by_form, IsRefusedText, IsOutOfMemory, IsCutOff, IsOffered, IsRead, IsTooLong, writes_parts, writes_refusal}
 use Rattle.ae_driver.specs.Inner.Endings.{IsPartOf, by_refutation, by_values, PartEnds, HasParts, GoalsEnd, RefusalEnds, TextEnds}
-use Rattle.ae_driver.specs.Inner.Bytes.{valid_bytes}
 use Rattle.ae_report.specs.declared.refusal.Refusal.{Refusal}
 use Rattle.ae_lex.proofs.Unique.{one_list, never_both as never_both_in_lexis}
 use Rattle.ae_syntax.proofs.FileLaws.{one_tree, never_both}

@@ -1,14 +1,15 @@
 -- The constants of a first text, with values among them that are their own values, are a completed system.
-use Rattle.std.specs.Prelude.{◌≡◌, ◌≢◌, ℕ, zero, suc, ℤ, ◌+◌, ◌<◌, Bool, true, false, cond, ◌&&◌, ◌||◌, List, [], ◌∷◌, map, length}
-use Rattle.std.specs.Prelude.{get_or, slice_get, Option, Some, None}
+use Rattle.std.specs.Prelude.{◌≡◌, ◌≢◌, ℕ, zero, suc, ℤ, ◌+◌, ◌<◌, Bool, true, false, cond, ◌&&◌, ◌||◌, List, [], ◌∷◌, map, length, get_or, slice_get, Option, Some, None}
 use Rattle.std.specs.List.{AllByRecursion, list_all}
 use Rattle.std.proofs.Common.{refl, sym, ap, ◌∙◌, subst, arith, true≢false, inl}
 use Rattle.std.proofs.Math.ListN.{length-map}
-use Rattle.ae_core.specs.Decided.{decided, Sort_discrete, Sorts_discrete}
-use Rattle.ae_core.specs.Sorts.{◌>>=◌, or_else, only, all_known, is_numeric, is_closed_sort, sort_of, sort_in, put_sort, symbol_sort}
-use Rattle.ae_core.specs.Sorts.{predicate_ok, predicate_fits, formula_ok}
-use Rattle.ae_core.specs.Instances.{choices_of}
-use Rattle.ae_core.specs.Derivations.{IsConstructor}
+use Rattle.ae_base.specs.Decided.{decided}
+use Rattle.ae_core.specs.Decided.{Sort_discrete, Sorts_discrete}
+use Rattle.ae_base.specs.Options.{◌>>=◌, or_else, only, all_known}
+use Rattle.ae_core.specs.Sorts.{is_numeric, is_closed_sort, sort_of, sort_in, symbol_sort, predicate_ok, predicate_fits, formula_ok}
+use Rattle.ae_core.specs.Putting.{put_sort}
+use Rattle.ae_rules.specs.Instances.{choices_of}
+use Rattle.ae_rules.specs.Derivations.{IsConstructor}
 use Rattle.ae_core.proofs.SortLaws.{sort_in_apply, put_named, formula_in_pred}
 use Rattle.ae_core.specs.declared.terms.Sort.{Sort, Int, Real, out-Sort}
 use Rattle.ae_core.specs.declared.terms.Sort.TheOpen as sort_layer
@@ -28,15 +29,14 @@ use Rattle.ae_num.specs.declared.forms.Value.{Value, Leaf, fold-roll-Value}
 use Rattle.ae_num.specs.declared.forms.Value.TheOpen as value_layer
 use Rattle.ae_num.specs.declared.forms.Value.TheVariants.{rolls-Leaf}
 use Rattle.ae_journal.specs.Values.{Val, once, leaf, meaning, meaning_step}
-use Rattle.ae_journal.specs.Systems.{IsCompleted, own, IsName, IsNamed, value_at, ValueOf, Has, IsLeaf, IsOver, IsPredicateName}
-use Rattle.ae_journal.specs.Systems.{record_fields, fields_of, linear, beside, forms_in, forms_step, IsNormalValue}
+use Rattle.ae_journal.specs.Systems.{IsCompleted, own, IsName, IsNamed, value_at, ValueOf, Has, IsLeaf, IsOver, IsPredicateName, record_fields, fields_of, linear, beside, forms_in, forms_step, IsNormalValue}
 use Rattle.ae_journal.specs.declared.systems.System.{System}
 use Rattle.ae_journal.specs.declared.systems.RuleEntry.{RuleEntry}
 use Rattle.ae_driver.specs.declared.first_text.FirstText.{FirstText}
 use Rattle.ae_driver.specs.Problems.{constant, the_type, symbol_entry, signature}
 use Rattle.ae_driver.specs.Inner.StateChains.{constants_from, constant_system}
 use Rattle.ae_driver.proofs.MergedValues.{IsValues}
-use Rattle.ae_driver.proofs.Propagates.{decided_true, decided_not}
+use Rattle.ae_base.proofs.Decided.{decided_of, decided_not}
 use Rattle.ae_base.proofs.ListFacts.{get_map}
 use Rattle.ae_base.proofs.Options.{never_some}
 use Rattle.std.proofs.lemmas.Option.{same_Some}
@@ -121,7 +121,7 @@ not_numeric = ap (λ b. b || decided (Sort_discrete the_type Real)) (decided_not
 
 symbol_fits : (name : List ℕ) → symbol_sort [] [] (symbol_entry name) ≡ Some the_type
 symbol_fits name =
-    ap (λ b. only b (Some the_type) >>= λ s. Some (put_sort [] s)) (decided_true (Sorts_discrete [] []) refl)
+    ap (λ b. only b (Some the_type) >>= λ s. Some (put_sort [] s)) (decided_of (Sorts_discrete [] []) refl)
     ∙ ap Some (put_named [] 0 [])
 
 pub name_at : (cs : List (List ℕ)) (c : ℕ) → c < length cs → (name : List ℕ) × (slice_get cs c ≡ Some name)

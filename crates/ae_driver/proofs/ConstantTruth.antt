@@ -1,11 +1,12 @@
 -- In the system of the constants a constant evaluates to the value that it has there, and a chain whose values tell the sides of its end apart is false.
-use Rattle.std.specs.Prelude.{◌≡◌, ◌≢◌, ℕ, zero, suc, ◌+◌, ◌<◌, Bool, true, false, ◌&&◌, nat_eq, List, [], ◌∷◌, map, length, get_or}
-use Rattle.std.specs.Prelude.{cond, Option, Some, None}
+use Rattle.std.specs.Prelude.{◌≡◌, ◌≢◌, ℕ, zero, suc, ◌+◌, ◌<◌, Bool, true, false, ◌&&◌, nat_eq, List, [], ◌∷◌, map, length, get_or, cond, Option, Some, None}
 use Rattle.std.specs.List.{AllByRecursion}
 use Rattle.std.proofs.Common.{refl, sym, ap, ◌∙◌, subst, arith, true≢false, ⊎_elim}
 use Rattle.std.proofs.lemmas.Bool.Decides.{eqb_tells}
-use Rattle.ae_core.specs.Decided.{decided, Head_discrete, Sorts_discrete}
-use Rattle.ae_core.specs.Sorts.{or_else, same_sorts}
+use Rattle.ae_base.specs.Decided.{decided}
+use Rattle.ae_core.specs.Decided.{Head_discrete, Sorts_discrete}
+use Rattle.ae_base.specs.Options.{or_else}
+use Rattle.ae_core.specs.Sorts.{same_sorts}
 use Rattle.ae_core.proofs.Recursion.{para_apply}
 use Rattle.ae_core.specs.declared.terms.Sort.{Sort, Int}
 use Rattle.ae_core.specs.declared.terms.Head.{Head}
@@ -27,14 +28,14 @@ use Rattle.ae_driver.specs.Inner.Places.{IsEquationOver}
 use Rattle.ae_driver.specs.Problems.{constant, chain, signature}
 use Rattle.ae_driver.specs.Inner.StateChains.{constants_from, constant_system}
 use Rattle.ae_driver.proofs.MergedValues.{IsValues, Same}
-use Rattle.ae_driver.proofs.Propagates.{decided_true, decided_not}
+use Rattle.ae_base.proofs.Decided.{decided_of, decided_not}
 use Rattle.ae_driver.proofs.ConstantSystems.{same_number, meaning_leaf}
 use Rattle.ae_driver.proofs.Saturated.{chain_false}
 
 leaves_alike : (a b : ℕ) → decided (Val_discrete (leaf a) (leaf b)) ≡ nat_eq a b
 leaves_alike a b =
     ⊎_elim
-    (λ s. decided_true (Val_discrete (leaf a) (leaf b)) (ap leaf s.1) ∙ sym s.0)
+    (λ s. decided_of (Val_discrete (leaf a) (leaf b)) (ap leaf s.1) ∙ sym s.0)
     (λ d. decided_not (Val_discrete (leaf a) (leaf b)) (λ e. d.1 (same_leaf e)) ∙ sym d.0)
     (eqb_tells a b)
   where
@@ -49,8 +50,8 @@ module _ (sig : Signature) (y : System) where
   is_it : (n : ℕ) → is_application sig y numbering (reduced_by y) (Symbol n) [] [] (out-Term (constant n)) ≡ true
   is_it n =
       ap (is_application sig y numbering (reduced_by y) (Symbol n) [] []) (outs-Apply (Symbol n) [] [])
-      ∙ ap (λ b. b && same_sorts [] [] && true) (decided_true (Head_discrete (Symbol n) (Symbol n)) refl)
-      ∙ ap (λ b. b && true) (decided_true (Sorts_discrete [] []) refl)
+      ∙ ap (λ b. b && same_sorts [] [] && true) (decided_of (Head_discrete (Symbol n) (Symbol n)) refl)
+      ∙ ap (λ b. b && true) (decided_of (Sorts_discrete [] []) refl)
 
   is_another : (m n : ℕ) → m ≢ n → is_application sig y numbering (reduced_by y) (Symbol m) [] [] (out-Term (constant n)) ≡ false
   is_another m n differ =

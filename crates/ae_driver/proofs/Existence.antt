@@ -1,10 +1,9 @@
 -- Each goal of a first text has a part, whatever a search finds: so the parts of the first goals are always the front of a legal output.
-use Rattle.std.specs.Prelude.{◌≡◌, ◌≢◌, ℕ, zero, suc, ◌+◌, ◌<◌, ◌≤◌, cond, min, max, List, [], ◌∷◌, ◌++◌, map, length, get_or, slice_get}
-use Rattle.std.specs.Prelude.{Some, None}
+use Rattle.std.specs.Prelude.{◌≡◌, ◌≢◌, ℕ, zero, suc, ◌+◌, ◌<◌, ◌≤◌, cond, min, max, List, [], ◌∷◌, ◌++◌, map, length, get_or, slice_get, Some, None}
 use Rattle.std.specs.List.{AllByRecursion}
 use Rattle.std.proofs.Common.{refl, sym, ap, ◌∙◌, subst, arith, ⊎_elim, inl, inr, append_assoc}
 use Rattle.std.proofs.lemmas.Bool.Decides.{eqb_tells}
-use Rattle.ae_core.specs.Lines.{equal, states, Stated, Allowed}
+use Rattle.ae_rules.specs.Lines.{equal, states, Stated, Allowed}
 use Rattle.ae_core.specs.declared.formulas.Lit.{Lit}
 use Rattle.ae_core.specs.declared.proofs.EqLine.{EqLine}
 use Rattle.ae_core.specs.declared.proofs.EqLine.TheVariants.{EqHyp, EqRefl, EqSym, EqTrans}
@@ -27,9 +26,10 @@ use Rattle.ae_core.specs.declared.problems.Problem.{Problem}
 use Rattle.ae_io.specs.Moves.{Written}
 use Rattle.ae_driver.specs.declared.program.Status.{Status}
 use Rattle.ae_driver.specs.declared.program.Status.TheVariants as status
-use Rattle.ae_driver.proofs.Growing.{push, stated_more, stated_last, each_assumed}
+use Rattle.ae_driver.proofs.Growing.{push, stated_last, each_assumed}
 use Rattle.ae_driver.proofs.MergedValues.{IsValues, by_order, first_are, values_are, get_first, merged_are, merged_at}
 use Rattle.ae_driver.proofs.Answered.{goal_is_part}
+use Rattle.ae_rules.proofs.Written.{stated_before}
 
 -- ---- equations that lines show
 -- more lines lead to one that equates two constants
@@ -79,7 +79,7 @@ module _ (n : ℕ) (es : List Equation) (g : Equation) where
       from_before n (assumed es g) lines s.more c d
       (from_before n (assumed es g) (lines ++ s.more) t.more c d
       (one_line n (assumed es g) ((lines ++ s.more) ++ t.more) (EqTrans (constant c) (constant d) s.at t.at) c d t.all lc ld refl tt
-      (constant m, stated_more (lines ++ s.more) t.more s.at (equal (constant c) (constant m)) s.is, t.is)))
+      (constant m, stated_before (lines ++ s.more) t.more s.at (equal (constant c) (constant m)) s.is, t.is)))
 
   Explained : List ℕ → Type 0
   Explained vs = (k : ℕ) → k < n → Equals (get_or vs k 0) k

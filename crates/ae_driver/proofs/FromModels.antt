@@ -1,12 +1,12 @@
 -- No derivation has a goal that is false under some values of the constants: these values are an interpretation.
-use Rattle.std.specs.Prelude.{ℕ, zero, suc, Bool, true, false, List, [], ◌∷◌, ◌≡◌, map, nat_eq, nat_lt, slice_get, length, Option, Some}
-use Rattle.std.specs.Prelude.{None}
+use Rattle.std.specs.Prelude.{ℕ, zero, suc, Bool, true, false, List, [], ◌∷◌, ◌≡◌, map, nat_eq, nat_lt, slice_get, length, Option, Some, None}
 use Rattle.std.specs.List.{AllByRecursion, list_all}
 use Rattle.std.proofs.Common.{refl, sym, ap, ◌∙◌, subst, true≢false, ⊎_elim}
 use Rattle.std.proofs.lemmas.Option.{same_Some}
 use Rattle.std.proofs.lemmas.Bool.Decides.{eqb_tells}
-use Rattle.ae_core.specs.Sorts.{◌>>=◌, is_closed_sort}
-use Rattle.ae_core.specs.Derivations.{goal_body}
+use Rattle.ae_base.specs.Options.{◌>>=◌}
+use Rattle.ae_core.specs.Sorts.{is_closed_sort}
+use Rattle.ae_rules.specs.Derivations.{goal_body}
 use Rattle.ae_core.specs.declared.terms.Sort.{Sort, Named}
 use Rattle.ae_core.specs.declared.terms.Head.TheVariants.{Symbol}
 use Rattle.ae_core.specs.declared.formulas.Formula.{Formula, Not}
@@ -30,7 +30,7 @@ use Rattle.ae_base.proofs.Options.{never_some}
 pub body_is : (f : FirstText) (k : ℕ) (g : Chain) → slice_get f.goals k ≡ Some g → goal_body (problem f) k ≡ Some (chain g.hyps g.last)
 body_is f k g e = ap (λ o. o >>= λ i. elim i [ Axiom n v b ↦ None | GoalItem n v b ↦ Some b ]) (get_map goal_item f.goals k g e)
 
-pub no_axiom : {P : Type 0} (gs : List Chain) (n : ℕ) (name : List ℕ) (v : ℕ) (b : Formula) → slice_get (map goal_item gs) n ≡ Some (Axiom name v b) → P
+no_axiom : {P : Type 0} (gs : List Chain) (n : ℕ) (name : List ℕ) (v : ℕ) (b : Formula) → slice_get (map goal_item gs) n ≡ Some (Axiom name v b) → P
 no_axiom [] n name v b e = never_some _ e
 no_axiom (g ∷ gs) zero name v b e = let h : ◌≡◌ {A = Item} (goal_item g) (Axiom name v b) = same_Some (goal_item g) (Axiom name v b) e in cc h
 no_axiom (g ∷ gs) (suc n) name v b e = no_axiom gs n name v b e

@@ -1,6 +1,5 @@
 -- Lines that are added to a derivation, and values that change.
-use Rattle.std.proofs.Common.{◌≡◌, ℕ, zero, suc, ◌<◌, List, [], ◌∷◌, ◌++◌, length, Option, Some, None, refl, sym, ap, ◌∙◌, subst, arith}
-use Rattle.std.proofs.Common.{append_assoc, append-nil, length-append, get_or, set, map, ⊎_elim}
+use Rattle.std.proofs.Common.{◌≡◌, ℕ, zero, suc, ◌<◌, List, [], ◌∷◌, ◌++◌, length, Option, Some, None, refl, sym, ap, ◌∙◌, subst, arith, append_assoc, append-nil, length-append, get_or, set, map, ⊎_elim}
 use Rattle.std.specs.Prelude.{slice_get, Result, Ok, Err, IfOk}
 use Rattle.std.specs.declared.alloc.AllocError.{AllocError}
 use Rattle.ae_core.specs.declared.terms.Term.{Term}
@@ -11,12 +10,12 @@ use Rattle.std.proofs.lemmas.Bool.{cases_lt}
 use Rattle.std.proofs.lemmas.Bool.Decides.{eqb_tells}
 use Rattle.std.proofs.lemmas.List.{get_or-set_other, length-set}
 use Rattle.std.proofs.lemmas.Grind.{get_or-set_at}
-use Rattle.ae_core.specs.Clauses.{is_true, is_false}
-use Rattle.ae_core.specs.Lines.{Fact, equal, states, Stated, Allowed}
-use Rattle.ae_core.proofs.Written.{all_append}
+use Rattle.ae_rules.specs.Clauses.{is_true, is_false}
+use Rattle.ae_rules.specs.Lines.{Fact, equal, states, Stated, Allowed}
+use Rattle.ae_rules.proofs.Written.{all_append}
 use Rattle.ae_core.specs.declared.formulas.Lit.{Lit}
 use Rattle.ae_core.specs.declared.proofs.EqLine.{EqLine}
-use Rattle.ae_core.specs.Sorts.{◌>>=◌}
+use Rattle.ae_base.specs.Options.{◌>>=◌}
 use Rattle.ae_driver.specs.Problems.{constant, equation}
 use Rattle.ae_driver.specs.Inner.ChainProofs.{assumed}
 use Rattle.ae_driver.specs.declared.first_text.Equation.{Equation}
@@ -25,6 +24,7 @@ use Rattle.ae_driver.specs.Inner.Search.{Known, At, Holds, HoldsBy, Grows, IsVal
 use Rattle.ae_base.proofs.AllOf.{all_push}
 use Rattle.ae_base.proofs.ListFacts.{get_append, get_seam}
 use Rattle.ae_base.proofs.Options.{never_some}
+use Rattle.ae_rules.proofs.Written.{stated_before}
 
 -- ---- one more line
 pub push : (n : ℕ) (hyps : List Lit) (lines : List EqLine) (l : EqLine) → IsDerivation n hyps lines → OfConstants n l → Allowed no_signature hyps lines l → IsDerivation n hyps (lines ++ l ∷ [])
@@ -32,11 +32,6 @@ push n hyps lines l d c a = record {
   of_constants = all_push (OfConstants n) lines l d.of_constants c;
   allowed = all_append no_signature any hyps [] lines (l ∷ []) d.allowed ((refl, a), tt);
 }
-
-pub stated_more : (lines more : List EqLine) (k : ℕ) (f : Fact) → Stated lines k f → Stated (lines ++ more) k f
-stated_more [] more k f h = absurd (never_some _ h)
-stated_more (l ∷ ls) more zero f h = h
-stated_more (l ∷ ls) more (suc k) f h = stated_more ls more k f h
 
 pub stated_last : (lines : List EqLine) (l : EqLine) (k : ℕ) (f : Fact) → k ≡ length lines → states l ≡ f → Stated (lines ++ l ∷ []) k f
 stated_last lines l k f e s = ap (λ o. o >>= λ m. Some (states m)) (ap (slice_get (lines ++ l ∷ [])) e ∙ get_seam lines [] l) ∙ ap Some s
@@ -57,7 +52,7 @@ pub at_grows : (a b : Known) (k left right : ℕ) → Grows a b → At a k left 
 at_grows a b k left right g h = record {
   left_within = subst (λ n. left < n) (sym g.count) h.left_within;
   right_within = subst (λ n. right < n) (sym g.count) h.right_within;
-  stated = subst (λ ls. Stated ls k (equal (constant left) (constant right))) (sym g.lines) (stated_more a.lines g.more k _ h.stated);
+  stated = subst (λ ls. Stated ls k (equal (constant left) (constant right))) (sym g.lines) (stated_before a.lines g.more k _ h.stated);
 }
 
 by_grows : (a b : Known) (step : Option ℕ) (left right : ℕ) → Grows a b → HoldsBy a step left right → HoldsBy b step left right

@@ -23,8 +23,7 @@ use Rattle.ae_driver.specs.declared.first_text.Chain.{Chain}
 use Rattle.ae_driver.specs.declared.first_text.FirstText.{FirstText}
 use Rattle.ae_driver.specs.FirstTexts.{IsNameAt, IsConstantAt, IsEquation, IsChain, IsGoalDecl, IsFirstTextOf}
 use Rattle.ae_driver.specs.Output.{Reads}
-use Rattle.ae_driver.proofs.Reading.{some_same, binary_left, binary_right, not_both, same_body, stands_one, apart_at, others_are}
-use Rattle.ae_driver.proofs.Reading.{type_one, constants_one}
+use Rattle.ae_driver.proofs.Reading.{some_same, binary_left, binary_right, not_both, same_body, stands_one, apart_at, others_are, type_one, constants_one}
 use Rattle.ae_base.proofs.ListFacts.{cons_same}
 
 -- ---- the places of names

@@ -3,9 +3,10 @@
 use Rattle.std.specs.Prelude.{Bool, true, false, not, cond, ◌&&◌, ◌||◌, List, [], ◌∷◌, ◌++◌, ◌≡◌, map, Option, Some, None, ◌⊎◌}
 use Rattle.std.specs.List.{list_all}
 use Rattle.std.proofs.Common.{refl, sym, ap, ◌∙◌, subst, true≢false, inl, inr, ⊎_elim}
-use Rattle.ae_core.specs.Decided.{decided, Lit_discrete}
-use Rattle.ae_core.specs.Sorts.{when}
-use Rattle.ae_core.specs.Clauses.{Clause, opposite, is_true, is_false, stands, has_true, is_or_stands, next_false, refutes}
+use Rattle.ae_base.specs.Decided.{decided}
+use Rattle.ae_core.specs.Decided.{Lit_discrete}
+use Rattle.ae_base.specs.Options.{when}
+use Rattle.ae_rules.specs.Clauses.{Clause, opposite, is_true, is_false, stands, has_true, is_or_stands, next_false, refutes}
 use Rattle.ae_core.specs.declared.formulas.Formula.{Formula, Formula-F, out-Formula, Or}
 use Rattle.ae_core.specs.declared.formulas.Formula.TheOpen as layer
 use Rattle.ae_core.specs.declared.formulas.Formula.TheVariants.{outs-Eq, outs-Or}
@@ -14,6 +15,7 @@ use Rattle.ae_core.specs.declared.formulas.Lit.{Lit}
 use Rattle.ae_driver.specs.declared.first_text.Equation.{Equation}
 use Rattle.ae_driver.specs.Problems.{equation, chain}
 use Rattle.std.proofs.lemmas.Bool.{and_from, or_left, or_right, or_cases}
+use Rattle.ae_base.proofs.Decided.{decided_yes, decided_of}
 
 -- ---- which literals become false on the way
 abbrev may_layer : Bool → Formula-F Formula Quant → Bool
@@ -74,18 +76,6 @@ unfolding may
 may_opposite l e = may_one l.positive (out-Formula l.formula) e
 
 -- ---- what stands among the false literals
-decided_yes : {P : Type 0} (d : Dec P) → decided d ≡ true → P
-decided_yes (yes p) e = p
-decided_yes (no n) e = absurd (true≢false (sym e))
-
-pub decided_not : {P : Type 0} (d : Dec P) → ¬ P → decided d ≡ false
-decided_not (yes p) n = absurd (n p)
-decided_not (no n) m = refl
-
-pub decided_true : {P : Type 0} (d : Dec P) → P → decided d ≡ true
-decided_true (yes p) q = refl
-decided_true (no n) q = absurd (n q)
-
 and_left : (a b : Bool) → a && b ≡ true → a ≡ true
 and_left true b e = refl
 and_left false b e = e
@@ -123,7 +113,7 @@ stands_more (m ∷ fs) gs l s =
     (or_cases (decided (Lit_discrete m l)) (stands fs l) s)
 
 stands_last : (fs : List Lit) (l : Lit) → stands (fs ++ l ∷ []) l ≡ true
-stands_last [] l = or_left (decided (Lit_discrete l l)) false (decided_true (Lit_discrete l l) refl)
+stands_last [] l = or_left (decided (Lit_discrete l l)) false (decided_of (Lit_discrete l l) refl)
 stands_last (m ∷ fs) l = or_right (decided (Lit_discrete m l)) (stands (fs ++ l ∷ []) l) (stands_last fs l)
 
 all_may_more : (fs : List Lit) (l : Lit) → AllMay fs → may l ≡ true → AllMay (fs ++ l ∷ [])

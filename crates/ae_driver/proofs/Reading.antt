@@ -1,6 +1,5 @@
 -- The reader of first texts.
-use Rattle.std.proofs.Common.{◌≡◌, ◌≢◌, ℕ, ◌+◌, ◌<◌, ◌≤◌, List, [], ◌∷◌, ◌++◌, length, take, drop, get_or, Some, None, zero, suc, sym}
-use Rattle.std.proofs.Common.{ap, ◌∙◌, subst, arith, refl, rules, append_assoc}
+use Rattle.std.proofs.Common.{◌≡◌, ◌≢◌, ℕ, ◌+◌, ◌<◌, ◌≤◌, List, [], ◌∷◌, ◌++◌, length, take, drop, get_or, Some, None, zero, suc, sym, ap, ◌∙◌, subst, arith, refl, rules, append_assoc}
 use Rattle.std.specs.Prelude.{◌↔◌, Bool, false, IsTrue, slice_get, Option, MatchOption, option_map, slice_index_or}
 use Rattle.std.proofs.lemmas.List.{append-nil, take_more, take_all}
 use Rattle.std.proofs.lemmas.List.Quantifiers.{all_pairs_push}
@@ -25,8 +24,7 @@ use Rattle.ae_syntax.specs.declared.exprs.Form.TheOpen.{Form-F}
 use Rattle.ae_driver.specs.declared.first_text.TheConstants.{MOST_HYPOTHESES}
 use Rattle.ae_driver.specs.declared.first_text.Equation.{Equation}
 use Rattle.ae_driver.specs.declared.first_text.Chain.{Chain}
-use Rattle.ae_driver.specs.FirstTexts.{IsNameAt, IsConstantAt, IsEquation, IsChain, IsGoalDecl, IsTypeName, IsTypeDecl, IsResult}
-use Rattle.ae_driver.specs.FirstTexts.{IsLogicDecl, IsFirstTextOf}
+use Rattle.ae_driver.specs.FirstTexts.{IsNameAt, IsConstantAt, IsEquation, IsChain, IsGoalDecl, IsTypeName, IsTypeDecl, IsResult, IsLogicDecl, IsFirstTextOf}
 use Rattle.ae_driver.specs.Inner.Places.{IsEquationOver, IsGoalOver, IsWellPlaced}
 use Rattle.ae_base.proofs.ListFacts.{cons_head, cons_tail, get_front, get_read}
 use Rattle.ae_base.proofs.Relations.{pairwise_at, pairwise_back, pairwise_get}

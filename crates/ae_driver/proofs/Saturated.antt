@@ -1,16 +1,15 @@
 -- The state of a chain whose values tell the sides of its end apart is saturated, and its goal is false in it.
-use Rattle.std.specs.Prelude.{◌≡◌, ◌≢◌, ◌⊎◌, ℕ, zero, suc, ◌+◌, ◌<◌, Bool, true, false, cond, not, ◌||◌, nat_eq, nat_lt, List, [], ◌∷◌}
-use Rattle.std.specs.Prelude.{◌++◌, map, length, get_or, slice_get, Option, Some, None}
+use Rattle.std.specs.Prelude.{◌≡◌, ◌≢◌, ◌⊎◌, ℕ, zero, suc, ◌+◌, ◌<◌, Bool, true, false, cond, not, ◌||◌, nat_eq, nat_lt, List, [], ◌∷◌, ◌++◌, map, length, get_or, slice_get, Option, Some, None}
 use Rattle.std.specs.List.{AllByRecursion, Contains}
 use Rattle.std.proofs.Common.{refl, sym, ap, ◌∙◌, subst, arith, true≢false, ⊎_elim, inl, inr}
 use Rattle.std.proofs.lemmas.Bool.Decides.{eqb_tells}
 use Rattle.std.proofs.lemmas.Option.{slice_get_within, get_or_from_slice_get}
-use Rattle.ae_core.specs.Sorts.{or_else, only, ◌>>=◌}
-use Rattle.ae_core.specs.Clauses.{Clause, yes_of, no_of, is_true, is_false, opposite, row}
-use Rattle.ae_core.specs.Instances.{hypothesis, axiom_with, choices_of}
-use Rattle.ae_core.specs.Derivations.{goal_body, IsConstructor}
-use Rattle.ae_core.specs.Valuations.{same_truth}
-use Rattle.ae_core.proofs.ClauseLaws.{row_eq, row_or}
+use Rattle.ae_base.specs.Options.{or_else, only, ◌>>=◌}
+use Rattle.ae_rules.specs.Clauses.{Clause, yes_of, no_of, is_true, is_false, opposite, row}
+use Rattle.ae_rules.specs.Instances.{hypothesis, axiom_with, choices_of}
+use Rattle.ae_rules.specs.Derivations.{goal_body, IsConstructor}
+use Rattle.ae_rules.specs.Valuations.{same_truth}
+use Rattle.ae_rules.proofs.ClauseLaws.{row_eq, row_or}
 use Rattle.ae_core.proofs.Recursion.{fold_eq, fold_not, fold_or}
 use Rattle.ae_core.specs.declared.terms.Sort.{Sort, Int, out-Sort}
 use Rattle.ae_core.specs.declared.terms.Head.{Head}
@@ -28,9 +27,7 @@ use Rattle.ae_num.specs.declared.forms.Lin.{Lin}
 use Rattle.ae_journal.specs.Values.{Val, leaf}
 use Rattle.ae_journal.specs.Systems.{IsNamed, ValueOf, IsName, Has}
 use Rattle.ae_journal.specs.Truth.{truth, truth_step}
-use Rattle.ae_journal.specs.States.{IsSaturated, IsSaturatedBy, Stands, SomeStands, IsFirst, of_hypothesis, of_goal, Comes, first}
-use Rattle.ae_journal.specs.States.{by_row, by_block, Matches, HasGeneration, Owner, of_literal, of_axiom, Pattern, pattern_of, quant_of}
-use Rattle.ae_journal.specs.States.{is_universal_by, literal_pattern, axiom_pattern, inequality, inequality_of, outside, outside_step}
+use Rattle.ae_journal.specs.States.{IsSaturated, IsSaturatedBy, Stands, SomeStands, IsFirst, of_hypothesis, of_goal, Comes, first, by_row, by_block, Matches, HasGeneration, Owner, of_literal, of_axiom, Pattern, pattern_of, quant_of, is_universal_by, literal_pattern, axiom_pattern, inequality, inequality_of, outside, outside_step}
 use Rattle.ae_journal.specs.declared.systems.Saturated.{Saturated}
 use Rattle.ae_driver.specs.declared.first_text.Equation.{Equation}
 use Rattle.ae_driver.specs.declared.first_text.Chain.{Chain}
@@ -38,11 +35,9 @@ use Rattle.ae_driver.specs.declared.first_text.FirstText.{FirstText}
 use Rattle.ae_driver.specs.Inner.Places.{IsEquationOver}
 use Rattle.ae_driver.specs.Problems.{constant, equation, chain, the_type, goal_item, signature, problem}
 use Rattle.ae_driver.specs.Inner.StateChains.{state_literals, constant_system, state_of}
-use Rattle.ae_driver.proofs.FromModels.{no_axiom}
 use Rattle.ae_driver.proofs.MergedValues.{IsValues, Same}
 use Rattle.ae_driver.proofs.ChainProof.{no_chain, no_not}
-use Rattle.ae_driver.proofs.ConstantSystems.{number, number_is, head_is, no_choices, no_constructor, name_of, valued, worth, its_sort}
-use Rattle.ae_driver.proofs.ConstantSystems.{its_head, not_int, completed}
+use Rattle.ae_driver.proofs.ConstantSystems.{number, number_is, head_is, no_choices, no_constructor, name_of, valued, worth, its_sort, its_head, not_int, completed}
 use Rattle.ae_base.proofs.AllOf.{all_append}
 use Rattle.ae_base.proofs.Options.{never_some}
 

@@ -1,10 +1,9 @@
 -- The proof of a chain has a text, and it is the bytes that the writers make.
-use Rattle.std.specs.Prelude.{ℕ, zero, suc, ◌+◌, ◌<◌, Bool, true, false, List, [], ◌∷◌, ◌++◌, ◌≡◌, map, length, slice_get, Option, Some}
-use Rattle.std.specs.Prelude.{codes, decimal}
+use Rattle.std.specs.Prelude.{ℕ, zero, suc, ◌+◌, ◌<◌, Bool, true, false, List, [], ◌∷◌, ◌++◌, ◌≡◌, map, length, slice_get, Option, Some, codes, decimal}
 use Rattle.std.specs.List.{AllByRecursion, flat_map}
 use Rattle.std.proofs.Common.{refl, sym, ap, ◌∙◌, arith, append_assoc, append-nil}
-use Rattle.ae_core.specs.Sorts.{◌>>=◌}
-use Rattle.ae_core.specs.Lines.{equal, states, Allowed, AllAllowed}
+use Rattle.ae_base.specs.Options.{◌>>=◌}
+use Rattle.ae_rules.specs.Lines.{equal, states, Allowed, AllAllowed}
 use Rattle.ae_core.specs.declared.terms.Term.{Term}
 use Rattle.ae_core.specs.declared.terms.Head.TheVariants.{Symbol}
 use Rattle.ae_core.specs.declared.terms.Term.TheVariants.{outs-Apply}
@@ -13,8 +12,7 @@ use Rattle.ae_core.specs.declared.formulas.Formula.TheOpen as layer
 use Rattle.ae_core.specs.declared.formulas.Formula.TheVariants.{rolls-Eq, rolls-Not, rolls-Or, outs-Eq}
 use Rattle.ae_core.specs.declared.formulas.Lit.{Lit}
 use Rattle.ae_core.specs.declared.proofs.EqLine.{EqLine}
-use Rattle.ae_core.specs.declared.proofs.EqLine.TheVariants.{EqHyp, EqRefl, EqSym, EqTrans, EqCong, EqAc, EqLin, EqField, EqFields}
-use Rattle.ae_core.specs.declared.proofs.EqLine.TheVariants.{LeHyp, LtHyp, LeSum, LtSum, LeRound}
+use Rattle.ae_core.specs.declared.proofs.EqLine.TheVariants.{EqHyp, EqRefl, EqSym, EqTrans, EqCong, EqAc, EqLin, EqField, EqFields, LeHyp, LtHyp, LeSum, LtSum, LeRound}
 use Rattle.ae_core.specs.declared.proofs.ClauseLine.{ClauseLine}
 use Rattle.ae_core.specs.declared.proofs.ClauseLine.TheVariants.{Def, Block as BlockLine, Rup}
 use Rattle.ae_driver.specs.declared.first_text.Equation.{Equation}
@@ -23,11 +21,8 @@ use Rattle.ae_driver.specs.Problems.{constant, equation, chain}
 use Rattle.ae_driver.specs.Inner.ChainProofs.{assumed, defs, hints, chain_proof}
 use Rattle.ae_driver.specs.Inner.Places.{IsEquationOver}
 use Rattle.ae_driver.specs.Inner.Search.{OfConstants, Refutes, block_of, no_signature, any}
-use Rattle.ae_driver.specs.Texts.{Names, term_text, term_layer_text, formula_text, formula_text_step, of_two, of_one, literal_text}
-use Rattle.ae_driver.specs.Texts.{unless_negation, is_negation, sign_text, sides_text, derived_text, in_order, literal_line, block_text}
-use Rattle.ae_driver.specs.Texts.{line_text, proof_text}
-use Rattle.ae_driver.specs.Inner.Bytes.{name_bytes, equation_bytes, opening_bytes, closing_bytes, chain_bytes, def_bytes, defs_bytes}
-use Rattle.ae_driver.specs.Inner.Bytes.{equation_line, assumed_bytes, term_bytes, derived_bytes, ending_bytes, rup_bytes, proof_bytes}
+use Rattle.ae_driver.specs.Texts.{Names, term_text, term_layer_text, formula_text, formula_text_step, of_two, of_one, literal_text, unless_negation, is_negation, sign_text, sides_text, derived_text, in_order, literal_line, block_text, line_text, proof_text}
+use Rattle.ae_driver.specs.Inner.Bytes.{name_bytes, equation_bytes, opening_bytes, closing_bytes, chain_bytes, def_bytes, defs_bytes, equation_line, assumed_bytes, term_bytes, derived_bytes, ending_bytes, rup_bytes, proof_bytes}
 use Rattle.ae_driver.proofs.TextLaws.{bytes_apply}
 
 -- ---- formulas

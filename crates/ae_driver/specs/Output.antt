@@ -1,7 +1,7 @@
 -- The answer to a text: what is written, and why it is right.
 use Rattle.std.specs.Prelude.{◌≡◌, ◌⊎◌, ℕ, zero, suc, false, ◌<◌, ◌≤◌, List, [], ◌++◌, map, length, Option, Some, None, slice_get, codes}
-use Rattle.ae_core.specs.Sorts.{◌>>=◌}
-use Rattle.ae_core.specs.Derivations.{Derives, goal_body}
+use Rattle.ae_base.specs.Options.{◌>>=◌}
+use Rattle.ae_rules.specs.Derivations.{Derives, goal_body}
 use Rattle.ae_core.specs.declared.formulas.Formula.{Formula}
 use Rattle.ae_core.specs.declared.problems.Item.TheVariants.{Axiom, Goal}
 use Rattle.ae_core.specs.declared.problems.Signature.{Signature}

@@ -1,7 +1,7 @@
 -- What a derivation of a first text's goal is worth.
 use Rattle.std.specs.Prelude.{ℕ, ◌≡◌, slice_get, Some}
 use Rattle.std.specs.List.{AllByRecursion}
-use Rattle.ae_core.specs.Derivations.{Derives}
+use Rattle.ae_rules.specs.Derivations.{Derives}
 use Rattle.ae_core.specs.declared.proofs.Proof.{Proof}
 use Rattle.ae_driver.specs.declared.first_text.Chain.{Chain}
 use Rattle.ae_driver.specs.declared.first_text.FirstText.{FirstText}

@@ -1,7 +1,7 @@
 -- The text of a state, version 1, in lines as those of a proof: the literals in order, then the names and their values, both numbered from 0.
 -- A state has a text where each of its literals and its names' terms has one, each value is a name, and there are no rules and no point.
 use Rattle.std.specs.Prelude.{ℕ, ◌+◌, ◌&&◌, nat_eq, List, [], ◌∷◌, ◌++◌, map, length, Option, Some, None, codes, decimal}
-use Rattle.ae_core.specs.Sorts.{◌>>=◌, only}
+use Rattle.ae_base.specs.Options.{◌>>=◌, only}
 use Rattle.ae_core.specs.declared.terms.Term.{Term}
 use Rattle.ae_num.specs.declared.forms.Value.{Value, Value-F, out-Value}
 use Rattle.ae_num.specs.declared.forms.Value.TheOpen as value_layer

@@ -1,7 +1,7 @@
 -- The text of a proof, version 1: lines end with byte 10, words are parted by one blank, numbers are decimal.
 -- Constants have a text so far, formulas of equations, `not` and `or`, and the lines that are allowed so far. No other value has one.
 use Rattle.std.specs.Prelude.{ℕ, Bool, true, false, List, [], ◌∷◌, ◌++◌, map, Option, Some, None, slice_get, codes, decimal}
-use Rattle.ae_core.specs.Sorts.{◌>>=◌}
+use Rattle.ae_base.specs.Options.{◌>>=◌}
 use Rattle.ae_core.specs.declared.terms.Head.TheVariants as head
 use Rattle.ae_core.specs.declared.terms.Term.{Term, Term-F, out-Term}
 use Rattle.ae_core.specs.declared.terms.Term.TheOpen as term_layer

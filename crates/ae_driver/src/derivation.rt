@@ -1,8 +1,8 @@
 //! Derived lines between constants.
 
 ghost use Rattle.std.specs.Prelude.{◌≡◌, ℕ, [], ◌<◌, IfOk, Some, slice_get};
-ghost use Rattle.ae_core.specs.Clauses.{is_true};
-ghost use Rattle.ae_core.specs.Lines.{equal, states, Allowed};
+ghost use Rattle.ae_rules.specs.Clauses.{is_true};
+ghost use Rattle.ae_rules.specs.Lines.{equal, states, Allowed};
 ghost use Rattle.ae_core.specs.declared.terms.Term.{Term};
 ghost use Rattle.ae_driver.specs.Problems.{constant, equation};
 ghost use Rattle.ae_driver.specs.Inner.Places.{IsEquationOver};
@@ -10,7 +10,7 @@ ghost use Rattle.ae_driver.specs.Inner.Search.{At, Grows, Holds, IsDerivation, O
 
 use crate::first_text::Equation;
 use ae_core::formulas::Lit;
-use ae_core::lists::List;
+use ae_base::lists::List;
 use ae_core::proofs::{Deriv, EqLine};
 use ae_core::terms::{Head, Term};
 use std::alloc::{AllocError, Global};

@@ -1,7 +1,7 @@
 //! First texts: one type, its constants, and goals that are chains of equations between them.
 
-use ae_core::lists::List;
-use ae_core::words::Word;
+use ae_base::lists::List;
+use ae_base::words::Word;
 
 /// The most hypotheses that a goal may have.
 pub const MOST_HYPOTHESES: usize = 1000;

@@ -3,8 +3,7 @@
 ghost use Rattle.ae_base.specs.Relations.{Pairwise};
 ghost use Rattle.std.specs.Prelude.{◌≡◌, ◌≢◌, ◌↔◌, ℕ, List, [], ◌∷◌, ◌++◌, slice_get, option_map, Some, IfOk, IsTrue, MatchOption};
 ghost use Rattle.std.specs.List.{AllPairs};
-ghost use Rattle.ae_driver.specs.FirstTexts.{IsNameAt, IsConstantAt, IsEquation, IsChain, IsGoalDecl, IsTypeDecl, IsTypeName, IsResult};
-ghost use Rattle.ae_driver.specs.FirstTexts.{IsLogicDecl, IsFirstTextOf};
+ghost use Rattle.ae_driver.specs.FirstTexts.{IsNameAt, IsConstantAt, IsEquation, IsChain, IsGoalDecl, IsTypeDecl, IsTypeName, IsResult, IsLogicDecl, IsFirstTextOf};
 ghost use Rattle.ae_syntax.specs.declared.exprs.Expr.{Expr};
 ghost use Rattle.ae_syntax.specs.declared.exprs.Form.{Binary};
 ghost use Rattle.ae_syntax.specs.declared.decls.Decl.{Decl};
@@ -13,8 +12,8 @@ ghost use Rattle.ae_driver.specs.declared.first_text.Chain.{Chain};
 ghost use Rattle.ae_driver.specs.declared.first_text.FirstText.{FirstText};
 
 use crate::first_text::{Chain, Equation, FirstText, MOST_HYPOTHESES};
-use ae_core::lists::List;
-use ae_core::words::Word;
+use ae_base::lists::List;
+use ae_base::words::Word;
 use ae_syntax::decls::{Decl, DeclForm, File, SymbolResult};
 use ae_syntax::exprs::{BinaryOp, Expr, Form as ExprForm};
 use ae_syntax::spans::Span;

@@ -2,7 +2,7 @@
 
 ghost use Rattle.std.specs.Prelude.{◌≡◌, ℕ, ◌<◌, length, map, min, max, IfOk, OnOk, Some, slice_get};
 ghost use Rattle.std.specs.List.{AllByRecursion};
-ghost use Rattle.ae_core.specs.Clauses.{is_true};
+ghost use Rattle.ae_rules.specs.Clauses.{is_true};
 ghost use Rattle.ae_driver.specs.Problems.{equation};
 ghost use Rattle.ae_driver.specs.Inner.ChainProofs.{assumed};
 ghost use Rattle.ae_driver.specs.declared.first_text.Equation.{Equation};
@@ -13,7 +13,7 @@ ghost use Rattle.ae_driver.specs.Inner.Merging.{from, merged, numbers_of, replac
 use crate::derivation::{Derivation, constant_term};
 use crate::first_text::Equation;
 use ae_core::formulas::{Formula, Lit};
-use ae_core::lists::List;
+use ae_base::lists::List;
 use ae_core::proofs::Deriv;
 use std::alloc::{AllocError, Global};
 

@@ -9,7 +9,8 @@ use crate::first_text::{Chain, Equation};
 use crate::search::Refutation;
 use ae_core::proofs::EqLine;
 use ae_core::terms::{Head, Term};
-use ae_core::words::Word;
+use ae_base::words::Word;
+use ae_rules::rows::{OR_FROM_LEFT, OR_FROM_RIGHT};
 use itoa::Buffer;
 use std::alloc::AllocError;
 
@@ -118,8 +119,8 @@ fn put_defs(
     ensures { OnOk result (out.new.items ≡ out.old.items ++ bytes.defs_bytes names.now hyps.now last) }
 {
     for i in 0..hyps.len() {
-        put_def(out, names, 4, &hyps[i..], last)?;
-        put_def(out, names, 5, &hyps[i..], last)?;
+        put_def(out, names, OR_FROM_LEFT, &hyps[i..], last)?;
+        put_def(out, names, OR_FROM_RIGHT, &hyps[i..], last)?;
     }
     Ok(())
 }

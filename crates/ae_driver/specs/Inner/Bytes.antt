@@ -9,6 +9,7 @@ use Rattle.ae_core.specs.declared.terms.Head.{Head}
 use Rattle.ae_core.specs.declared.terms.Head.TheVariants as head
 use Rattle.ae_driver.specs.Texts.{Names, numbers_text}
 use Rattle.ae_driver.specs.Inner.ChainProofs.{hints}
+use Rattle.ae_rules.specs.declared.rows.TheConstants.{OR_FROM_LEFT, OR_FROM_RIGHT}
 use Rattle.ae_driver.specs.declared.first_text.Equation.{Equation}
 use Rattle.ae_driver.specs.declared.first_text.Chain.{Chain}
 use Rattle.ae_driver.specs.declared.search.Refutation.{Refutation}
@@ -34,7 +35,7 @@ def_bytes names row es g = codes "def " ++ decimal row ++ codes " " ++ chain_byt
 
 abbrev pub defs_bytes : Names → List Equation → Equation → List ℕ
 defs_bytes names [] g = []
-defs_bytes names (e ∷ es) g = def_bytes names 4 (e ∷ es) g ++ def_bytes names 5 (e ∷ es) g ++ defs_bytes names es g
+defs_bytes names (e ∷ es) g = def_bytes names OR_FROM_LEFT (e ∷ es) g ++ def_bytes names OR_FROM_RIGHT (e ∷ es) g ++ defs_bytes names es g
 
 -- a line of a start and an equation
 abbrev pub equation_line : List ℕ → Names → Equation → List ℕ

@@ -1,7 +1,7 @@
 -- What the search keeps: derived lines between constants, and the constants' values.
 use Rattle.std.specs.Prelude.{◌≡◌, ◌≢◌, ◌<◌, ℕ, Bool, true, List, [], ◌++◌, length, slice_index_or, Option, Some, None}
 use Rattle.std.specs.List.{AllByRecursion}
-use Rattle.ae_core.specs.Lines.{Fact, equal, states, Stated, AllAllowed}
+use Rattle.ae_rules.specs.Lines.{Fact, equal, states, Stated, AllAllowed}
 use Rattle.ae_core.specs.declared.formulas.Lit.{Lit}
 use Rattle.ae_core.specs.declared.problems.Signature.{Signature}
 use Rattle.ae_core.specs.declared.proofs.EqLine.{EqLine}

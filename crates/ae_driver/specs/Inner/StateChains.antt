@@ -1,6 +1,6 @@
 -- The state of a chain of equations whose values tell the sides of its end apart.
 use Rattle.std.specs.Prelude.{ℕ, zero, suc, ◌+◌, List, [], ◌∷◌, map}
-use Rattle.ae_core.specs.Clauses.{is_true, is_false}
+use Rattle.ae_rules.specs.Clauses.{is_true, is_false}
 use Rattle.ae_core.specs.declared.terms.Term.{Term}
 use Rattle.ae_core.specs.declared.formulas.Lit.{Lit}
 use Rattle.ae_num.specs.declared.forms.Value.{Leaf}
