@@ -28,7 +28,7 @@ SPELLINGS = {
 }
 LOOSE = {"→", "×", "⊎", "↔"}
 TESTS = {"≡", "≢", "<", "≤", "<ℤ", "≤ℤ", "∣", "∈"}
-PLAIN_TYPES = {"Bool", "List", "Option", "Result", "Type", "Unit", "Ordering", "Some", "None", "Ok", "Err", "Less", "Equal", "Greater"}
+PLAIN_TYPES = {"ℕ", "ℤ", "ℚ", "Bool", "List", "Option", "Result", "Type", "Unit", "Ordering", "Some", "None", "Ok", "Err", "Less", "Equal", "Greater"}
 RELATIONS = {"≡", "≢", "<", "≤", "⊥", "¬", "↔", "∈", "Path", "IsTrue", "Decides", "IsPermutation", "AllByRecursion", "All", "⊎", "<ℤ", "≤ℤ", "Dec"}
 SYMBOLS = "()[]{}|,"
 TOKEN = re.compile(r"\|\||[()\[\]{}|,]|[^\s()\[\]{}|,]+")
@@ -405,7 +405,7 @@ def statements_of(path, prefix):
     for line, outer, name, binders, kind, clauses, marks in found:
         canon = Canon(uses, modules, set() if prefix else local - {name})
         statement = canon.statement(outer, binders, kind, clauses, marks, name)
-        yield path, line, name, statement, canon.generic
+        yield path, line, name, statement, canon.generic, "pub" in marks
 
 
 def library_statements():
@@ -421,7 +421,9 @@ def library_statements():
 
     wanted = defaultdict(list)
     for part in ("proofs", "specs"):
-        for path, line, name, statement, _ in statements(os.path.join(folder, "std", part), "std"):
+        for path, line, name, statement, _, public in statements(os.path.join(folder, "std", part), "std"):
+            if not public:
+                continue
             module = "Rattle.std." + os.path.relpath(path, os.path.join(folder, "std"))[:-5].replace("/", ".")
             add(statement, module, name)
         for where, _, files in os.walk(os.path.join(folder, "std", part)):
@@ -440,7 +442,7 @@ def library_statements():
             key = "/".join(path.split("/")[-2:])
             if key in wanted:
                 names = {old: (module, new) for old, module, new in wanted[key]}
-                for _, _, name, statement, _ in statements_of(path, True):
+                for _, _, name, statement, _, _ in statements_of(path, True):
                     if name in names:
                         add(statement, *names[name])
     return found
@@ -452,7 +454,7 @@ def main(arguments):
     per_crate = defaultdict(int)
     for crate in sorted(os.listdir(crates)):
         for part in ("specs", "proofs"):
-            for path, line, name, statement, generic in statements(os.path.join(crates, crate, part), crate == SHARED):
+            for path, line, name, statement, generic, _ in statements(os.path.join(crates, crate, part), crate == SHARED):
                 if generic or crate == SHARED:
                     per_crate[crate] += 1
                     seen[statement].append((os.path.relpath(path, ROOT), line, name))

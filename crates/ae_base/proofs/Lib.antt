@@ -7,3 +7,5 @@ pub mod ListFacts
 pub mod AllOf
 pub mod Relations
 pub mod Results
+pub mod Integers
+pub mod Orders

@@ -1,11 +1,11 @@
 -- Lists and their places. The library has lemmas.List (map-append, map_push, map-id, append_assoc, append-nil, reverse-append,
 -- length-append, length-reverse, take_more, take_all, take-append-le, drop_all, get_or_default, set-get_or, get_or_append_left, ..),
 -- lemmas.List.Folds (list_all-append, list_all-map, list_any-append, ..), lemmas.Option (slice_get-map, ..) and Math.Seq.
-use Rattle.std.specs.Prelude.{ℕ, zero, suc, ◌+◌, ◌<◌, ◌≡◌, Bool, true, ◌⊎◌, List, [], ◌∷◌, ◌++◌, map, length, reverse, slice_get, Some}
+use Rattle.std.specs.Prelude.{ℕ, zero, suc, ◌+◌, ◌-◌, ◌<◌, ◌≡◌, Bool, true, ◌⊎◌, List, [], ◌∷◌, ◌++◌, map, length, reverse, slice_get, Some}
 use Rattle.std.specs.List.{list_all, list_any}
-use Rattle.std.proofs.Common.{refl, sym, ap, ◌∙◌, inl, inr, arith, get_or, take, drop}
+use Rattle.std.proofs.Common.{refl, sym, ap, ◌∙◌, inl, inr, arith, get_or, take, drop, drop-cons, take_all, length-drop}
 use Rattle.std.proofs.lemmas.Bool.{and_parts, and_from}
-use Rattle.std.proofs.lemmas.Option.{none-some, same_Some, slice_get-map, get_or_from_slice_get, slice_get_within}
+use Rattle.std.proofs.lemmas.Option.{none-some, same_Some, slice_get-map, slice_get-get_or, get_or_from_slice_get, slice_get_within}
 use Rattle.std.specs.Option.{option_map}
 use Rattle.std.proofs.lemmas.List.{map-append, reverse-append}
 use Rattle.ae_base.proofs.Tests.{by_either, false_true}
@@ -31,6 +31,10 @@ map_reverse f (x ∷ xs) =
     ap (map f) (reverse-append (x ∷ []) xs) ∙ map-append f (reverse xs) (x ∷ []) ∙ ap (λ ys. ys ++ f x ∷ []) (map_reverse f xs) ∙ sym (reverse-append (f x ∷ []) (map f xs))
 
 -- ---- places
+pub value_at : {X : Type 0} (xs : List X) (i : ℕ) → i < length xs → (x : X) × (slice_get xs i ≡ Some x)
+value_at [] i l = absurd (omega (arith, l))
+value_at (x ∷ xs) i l = (get_or (x ∷ xs) i x, slice_get-get_or (x ∷ xs) i x l)
+
 pub get_map : {X Y : Type 0} (f : X → Y) (xs : List X) (k : ℕ) (x : X) → slice_get xs k ≡ Some x → slice_get (map f xs) k ≡ Some (f x)
 get_map f xs k x e = slice_get-map f xs k ∙ ap (option_map f) e
 
@@ -70,6 +74,14 @@ get_front (y ∷ xs) (suc i) (suc k) x e = let r = get_front xs i k x e in (r.0,
 -- the value at a place, at any default, and that the place is one of the list
 pub get_read : {X : Type 0} (xs : List X) (k : ℕ) (x d : X) → slice_get xs k ≡ Some x → (get_or xs k d ≡ x) × (k < length xs)
 get_read xs k x d e = (get_or_from_slice_get xs k x d e, slice_get_within xs k x e)
+
+-- ---- from a place on
+pub drop_here : {X : Type 0} (xs : List X) (i : ℕ) (d : X) → i < length xs → drop i xs ≡ get_or xs i d ∷ drop (i + 1) xs
+drop_here xs i d l = drop-cons xs i d l ∙ ap (λ (n : ℕ). get_or xs i d ∷ drop n xs) (let e : suc i ≡ i + 1 = omega arith in e)
+
+-- a slice from a place to the end
+pub take_rest : {X : Type 0} (xs : List X) (i : ℕ) → take (length xs - i) (drop i xs) ≡ drop i xs
+take_rest xs i = take_all (length xs - i) (drop i xs) (omega (arith, length-drop i xs))
 
 -- ---- tests of all and of some
 -- what passes both tests, where one holds of all and one of some

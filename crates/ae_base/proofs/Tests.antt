@@ -1,9 +1,9 @@
 -- Truth values and tests on numbers. The library has the rest: lemmas.Bool (and_parts, and_from, and_left, and_right, or_parts, or_from,
 -- or_left, or_right, or_cases, not-true, not-false, not_from_true, not_from_false, false_from_ne_true, cases_Bool, eqb-true, eq-eqb,
 -- ltb-true, lt-ltb, leb-true, le-leb, lt-leb, ne_eqb, cases_lt, cases_eq) and lemmas.Bool.Decides.
-use Rattle.std.specs.Prelude.{ℕ, zero, suc, ◌≡◌, nat_lt, nat_eq, Bool, true, false, not, cond, ◌&&◌, ◌||◌}
+use Rattle.std.specs.Prelude.{ℕ, zero, suc, ◌<◌, ◌≡◌, nat_lt, nat_eq, Bool, true, false, not, cond, ◌&&◌, ◌||◌}
 use Rattle.std.proofs.Common.{refl, sym, ◌∙◌, true≢false, arith}
-use Rattle.std.proofs.lemmas.Bool.{eq-eqb, lt-ltb, le-ltb}
+use Rattle.std.proofs.lemmas.Bool.{eq-eqb, ne_eqb, lt-ltb, le-ltb}
 
 -- ---- nothing is true and false
 pub false_true : {P : Type 0} → false ≡ true → P
@@ -67,6 +67,12 @@ stable_truth false n = absurd (n (λ e. true≢false (sym e)))
 -- ---- tests on numbers
 pub nat_eq_itself : (n : ℕ) → nat_eq n n ≡ true
 nat_eq_itself n = eq-eqb n n refl
+
+pub nat_eq_below : (m n : ℕ) → m < n → nat_eq m n ≡ false
+nat_eq_below m n h = ne_eqb m n (λ e. absurd (omega (arith, h, e)))
+
+pub nat_eq_above : (m n : ℕ) → n < m → nat_eq m n ≡ false
+nat_eq_above m n h = ne_eqb m n (λ e. absurd (omega (arith, h, e)))
 
 pub zero_below : (n : ℕ) → nat_lt zero (suc n) ≡ true
 zero_below n = lt-ltb zero (suc n) (omega arith)

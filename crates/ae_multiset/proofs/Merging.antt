@@ -1,11 +1,11 @@
 -- Merging two rising lists: what each turn keeps, and what the end has made.
 -- `f` says how often a name comes out that stands so often in the one list and so often in the other.
-use Rattle.std.proofs.Common.{◌≡◌, ◌≢◌, ℕ, suc, ◌+◌, ◌<◌, ◌≤◌, List, [], ◌∷◌, ◌++◌, length, get_or, take, drop, ◌-◌, ◌⊎◌, inl, inr, refl, sym, ◌∙◌, ap, subst, arith, append_assoc, append-nil, length-drop, drop-cons, Ordering, Less, Equal, Greater, nat_cmp}
+use Rattle.std.proofs.Common.{◌≡◌, ◌≢◌, ℕ, suc, ◌+◌, ◌<◌, ◌≤◌, List, [], ◌∷◌, ◌++◌, length, get_or, drop, ◌⊎◌, inl, inr, refl, sym, ◌∙◌, ap, subst, arith, append_assoc, append-nil, Less, Equal, Greater, nat_cmp}
 use Rattle.std.specs.List.Sorted.{IsNonDecreasing}
-use Rattle.std.specs.Ordering.{MatchOrdering}
-use Rattle.std.specs.Cmp.{ranks}
-use Rattle.std.proofs.lemmas.List.{drop_all, take_all}
+use Rattle.std.proofs.lemmas.List.{drop_all}
 use Rattle.std.proofs.lemmas.Bool.{cases_eq}
+use Rattle.ae_base.proofs.ListFacts.{drop_here}
+use Rattle.ae_base.proofs.Orders.{cmp_below, cmp_equal, cmp_above}
 use Rattle.ae_multiset.specs.Multisets.{count}
 use Rattle.ae_multiset.proofs.Counts.{count_same, count_other, count-append}
 use Rattle.ae_multiset.proofs.Rising.{AtLeast, Rises, rises, non_decreasing, count_below}
@@ -40,9 +40,6 @@ rises_put (x ∷ xs) a b ls rs h k l = (put xs h.0 k.0, rises_put xs a b ls rs h
     put [] h k = (h.0, k)
     put (z ∷ zs) h k = (h.0, put zs h.1 k.1)
 
-pub from_here : (xs : List ℕ) (i : ℕ) → i < length xs → drop i xs ≡ get_or xs i 0 ∷ drop (i + 1) xs
-from_here xs i h = let e : suc i ≡ i + 1 = omega arith in drop-cons xs i 0 h ∙ ap (λ (n : ℕ). get_or xs i 0 ∷ drop n xs) e
-
 rises_back : (xs ys : List ℕ) → Rises (xs ++ ys) → Rises ys
 rises_back [] ys h = h
 rises_back (x ∷ xs) ys h = rises_back xs ys h.1
@@ -50,22 +47,8 @@ rises_back (x ∷ xs) ys h = rises_back xs ys h.1
 -- a name below the one at a place stands nowhere from there on
 pub none_from : (z : ℕ) (xs : List ℕ) (i : ℕ) → Rises (drop i xs) → i < length xs → z < get_or xs i 0 → count z (drop i xs) ≡ 0
 none_from z xs i h l m =
-    let r : Rises (get_or xs i 0 ∷ drop (i + 1) xs) = subst Rises (from_here xs i l) h in
-    ap (count z) (from_here xs i l) ∙ (count_other z (get_or xs i 0) (drop (i + 1) xs) (λ e. absurd (omega (arith, e, m))) ∙ count_below (get_or xs i 0) z (drop (i + 1) xs) r.0 m)
-
--- ---- what the code's tests and calls say
-pub below : (x y : ℕ) → Less ≡ nat_cmp x y → x < y
-below x y e = subst (λ (o : Ordering). MatchOrdering o (x < y) (x ≡ y) (y < x)) (sym e) (ranks x y)
-
-pub equal : (x y : ℕ) → Equal ≡ nat_cmp x y → x ≡ y
-equal x y e = subst (λ (o : Ordering). MatchOrdering o (x < y) (x ≡ y) (y < x)) (sym e) (ranks x y)
-
-pub above : (x y : ℕ) → Greater ≡ nat_cmp x y → y < x
-above x y e = subst (λ (o : Ordering). MatchOrdering o (x < y) (x ≡ y) (y < x)) (sym e) (ranks x y)
-
--- a slice from a place on
-pub from_place : (xs : List ℕ) (i : ℕ) → take (length xs - i) (drop i xs) ≡ drop i xs
-from_place xs i = take_all (length xs - i) (drop i xs) (omega (arith, length-drop i xs))
+    let r : Rises (get_or xs i 0 ∷ drop (i + 1) xs) = subst Rises (drop_here xs i 0 l) h in
+    ap (count z) (drop_here xs i 0 l) ∙ (count_other z (get_or xs i 0) (drop (i + 1) xs) (λ e. absurd (omega (arith, e, m))) ∙ count_below (get_or xs i 0) z (drop (i + 1) xs) r.0 m)
 
 -- ---- what a merge keeps
 -- the names that are out, and those that are to come, are all that come out
@@ -127,16 +110,16 @@ module _ (f : ℕ → ℕ → ℕ) (left right out : List ℕ) where
   -- ---- the turns
   module _ (i j : ℕ) (m : Merging f left right out i j) (i_in : i < length left) (j_in : j < length right) where
     at_left : Merges f left right out (get_or left i 0 ∷ drop (i + 1) left) (drop j right)
-    at_left = subst (λ (w : List ℕ). Merges f left right out w (drop j right)) (from_here left i i_in) m.counts
+    at_left = subst (λ (w : List ℕ). Merges f left right out w (drop j right)) (drop_here left i 0 i_in) m.counts
 
     at_right : Merges f left right out (drop i left) (get_or right j 0 ∷ drop (j + 1) right)
-    at_right = subst (λ (w : List ℕ). Merges f left right out (drop i left) w) (from_here right j j_in) m.counts
+    at_right = subst (λ (w : List ℕ). Merges f left right out (drop i left) w) (drop_here right j 0 j_in) m.counts
 
     rises_at_left : Rises (out ++ get_or left i 0 ∷ drop (i + 1) left)
-    rises_at_left = subst (λ (w : List ℕ). Rises (out ++ w)) (from_here left i i_in) m.left_rises
+    rises_at_left = subst (λ (w : List ℕ). Rises (out ++ w)) (drop_here left i 0 i_in) m.left_rises
 
     rises_at_right : Rises (out ++ get_or right j 0 ∷ drop (j + 1) right)
-    rises_at_right = subst (λ (w : List ℕ). Rises (out ++ w)) (from_here right j j_in) m.right_rises
+    rises_at_right = subst (λ (w : List ℕ). Rises (out ++ w)) (drop_here right j 0 j_in) m.right_rises
 
     -- the name of the left list comes out, which is not the larger one
     pub take_left : get_or left i 0 ≤ get_or right j 0
@@ -147,7 +130,7 @@ module _ (f : ℕ → ℕ → ℕ) (left right out : List ℕ) where
       right_in = m.right_in;
       counts = push_left (get_or left i 0) (drop (i + 1) left) (drop j right) at_left e;
       left_rises = subst Rises (sym (append_assoc out (get_or left i 0 ∷ []) (drop (i + 1) left))) rises_at_left;
-      right_rises = subst (λ (w : List ℕ). Rises ((out ++ get_or left i 0 ∷ []) ++ w)) (sym (from_here right j j_in))
+      right_rises = subst (λ (w : List ℕ). Rises ((out ++ get_or left i 0 ∷ []) ++ w)) (sym (drop_here right j 0 j_in))
           (subst Rises (sym (append_assoc out (get_or left i 0 ∷ []) (get_or right j 0 ∷ drop (j + 1) right)))
           (rises_put out (get_or left i 0) (get_or right j 0) (drop (i + 1) left) (drop (j + 1) right) rises_at_left rises_at_right l));
     }
@@ -169,7 +152,7 @@ module _ (f : ℕ → ℕ → ℕ) (left right out : List ℕ) where
       left_in = m.left_in;
       right_in = omega arith;
       counts = push_right (get_or right j 0) (drop i left) (drop (j + 1) right) at_right e;
-      left_rises = subst (λ (w : List ℕ). Rises ((out ++ get_or right j 0 ∷ []) ++ w)) (sym (from_here left i i_in))
+      left_rises = subst (λ (w : List ℕ). Rises ((out ++ get_or right j 0 ∷ []) ++ w)) (sym (drop_here left i 0 i_in))
           (subst Rises (sym (append_assoc out (get_or right j 0 ∷ []) (get_or left i 0 ∷ drop (i + 1) left)))
           (rises_put out (get_or right j 0) (get_or left i 0) (drop (j + 1) right) (drop (i + 1) left) rises_at_right rises_at_left l));
       right_rises = subst Rises (sym (append_assoc out (get_or right j 0 ∷ []) (drop (j + 1) right))) rises_at_right;
@@ -187,7 +170,7 @@ module _ (f : ℕ → ℕ → ℕ) (left right out : List ℕ) where
 
     module _ (same : get_or left i 0 ≡ get_or right j 0) where
       at_both : Merges f left right out (get_or left i 0 ∷ drop (i + 1) left) (get_or left i 0 ∷ drop (j + 1) right)
-      at_both = subst (λ (w : List ℕ). Merges f left right out w (get_or left i 0 ∷ drop (j + 1) right)) (from_here left i i_in)
+      at_both = subst (λ (w : List ℕ). Merges f left right out w (get_or left i 0 ∷ drop (j + 1) right)) (drop_here left i 0 i_in)
           (subst (λ (w : ℕ). Merges f left right out (drop i left) (w ∷ drop (j + 1) right)) (sym same) at_right)
 
       -- the name of both comes out once
@@ -221,46 +204,40 @@ module _ (f : ℕ → ℕ → ℕ) (left right out : List ℕ) where
     pub less_taken : Less ≡ nat_cmp (get_or left i 0) (get_or right j 0) → ((k : ℕ) → f (1 + k) 0 ≡ 1 + f k 0)
         → (now : List ℕ) → now ≡ out ++ get_or left i 0 ∷ [] → Merging f left right now (i + 1) j
     less_taken t law now e =
-        let l : get_or left i 0 < get_or right j 0 = below _ _ t in
+        let l : get_or left i 0 < get_or right j 0 = cmp_below _ _ t in
         subst (λ (w : List ℕ). Merging f left right w (i + 1) j) (sym e) (take_left (omega arith) (rw (no_right l) (law (count (get_or left i 0) (drop (i + 1) left)))))
 
     pub less_dropped : Less ≡ nat_cmp (get_or left i 0) (get_or right j 0) → ((k : ℕ) → f (1 + k) 0 ≡ f k 0) → Merging f left right out (i + 1) j
-    less_dropped t law = drop_left (rw (no_right (below _ _ t)) (law (count (get_or left i 0) (drop (i + 1) left))))
+    less_dropped t law = drop_left (rw (no_right (cmp_below _ _ t)) (law (count (get_or left i 0) (drop (i + 1) left))))
 
     pub greater_taken : Greater ≡ nat_cmp (get_or left i 0) (get_or right j 0) → ((k : ℕ) → f 0 (1 + k) ≡ 1 + f 0 k)
         → (now : List ℕ) → now ≡ out ++ get_or right j 0 ∷ [] → Merging f left right now i (j + 1)
     greater_taken t law now e =
-        let l : get_or right j 0 < get_or left i 0 = above _ _ t in
+        let l : get_or right j 0 < get_or left i 0 = cmp_above _ _ t in
         subst (λ (w : List ℕ). Merging f left right w i (j + 1)) (sym e) (take_right (omega arith) (rw (no_left l) (law (count (get_or right j 0) (drop (j + 1) right)))))
 
     pub greater_dropped : Greater ≡ nat_cmp (get_or left i 0) (get_or right j 0) → ((k : ℕ) → f 0 (1 + k) ≡ f 0 k) → Merging f left right out i (j + 1)
-    greater_dropped t law = drop_right (rw (no_left (above _ _ t)) (law (count (get_or right j 0) (drop (j + 1) right))))
+    greater_dropped t law = drop_right (rw (no_left (cmp_above _ _ t)) (law (count (get_or right j 0) (drop (j + 1) right))))
 
     pub equal_taken : Equal ≡ nat_cmp (get_or left i 0) (get_or right j 0) → ((k n : ℕ) → f (1 + k) (1 + n) ≡ 1 + f k n)
         → (now : List ℕ) → now ≡ out ++ get_or left i 0 ∷ [] → Merging f left right now (i + 1) (j + 1)
     equal_taken t law now e =
         subst (λ (w : List ℕ). Merging f left right w (i + 1) (j + 1)) (sym e)
-        (take_both (equal _ _ t) (law (count (get_or left i 0) (drop (i + 1) left)) (count (get_or left i 0) (drop (j + 1) right))))
+        (take_both (cmp_equal _ _ t) (law (count (get_or left i 0) (drop (i + 1) left)) (count (get_or left i 0) (drop (j + 1) right))))
 
     pub equal_dropped : Equal ≡ nat_cmp (get_or left i 0) (get_or right j 0) → ((k n : ℕ) → f (1 + k) (1 + n) ≡ f k n) → Merging f left right out (i + 1) (j + 1)
-    equal_dropped t law = drop_both (equal _ _ t) (law (count (get_or left i 0) (drop (i + 1) left)) (count (get_or left i 0) (drop (j + 1) right)))
+    equal_dropped t law = drop_both (cmp_equal _ _ t) (law (count (get_or left i 0) (drop (i + 1) left)) (count (get_or left i 0) (drop (j + 1) right)))
 
   -- ---- the end
   module _ (i j : ℕ) (m : Merging f left right out i j) where
-    pub left_over : length left ≤ i → drop i left ≡ []
-    left_over h = drop_all i left h
-
-    pub right_over : length right ≤ j → drop j right ≡ []
-    right_over h = drop_all j right h
-
     -- what is left of the left list comes out, and nothing else of the right one
     pub ends_by_left : (length left ≤ i) ⊎ (length right ≤ j) → ((k : ℕ) → f k 0 ≡ k) → ((k : ℕ) → f 0 k ≡ 0) → (x : ℕ) → count x (out ++ drop i left) ≡ f (count x left) (count x right)
     ends_by_left o g h x = count-append x out (drop i left) ∙ (ap (λ (w : ℕ). count x out + w) (sym rest) ∙ m.counts.each x)
       where
         rest : f (count x (drop i left)) (count x (drop j right)) ≡ count x (drop i left)
         rest = elim o as (λ _. f (count x (drop i left)) (count x (drop j right)) ≡ count x (drop i left)) [
-          | inl l ↦ rw (left_over l) (h (count x (drop j right)))
-          | inr r ↦ rw (right_over r) (g (count x (drop i left)))
+          | inl l ↦ rw (drop_all i left l) (h (count x (drop j right)))
+          | inr r ↦ rw (drop_all j right r) (g (count x (drop i left)))
         ]
 
     -- nothing else comes out
@@ -269,8 +246,8 @@ module _ (f : ℕ → ℕ → ℕ) (left right out : List ℕ) where
       where
         rest : f (count x (drop i left)) (count x (drop j right)) ≡ 0
         rest = elim o as (λ _. f (count x (drop i left)) (count x (drop j right)) ≡ 0) [
-          | inl l ↦ rw (left_over l) (h (count x (drop j right)))
-          | inr r ↦ rw (right_over r) (g (count x (drop i left)))
+          | inl l ↦ rw (drop_all i left l) (h (count x (drop j right)))
+          | inr r ↦ rw (drop_all j right r) (g (count x (drop i left)))
         ]
 
     -- what is left of both lists comes out
@@ -280,12 +257,12 @@ module _ (f : ℕ → ℕ → ℕ) (left right out : List ℕ) where
       where
         rest : f (count x (drop i left)) (count x (drop j right)) ≡ count x (drop i left) + count x (drop j right)
         rest = elim o as (λ _. f (count x (drop i left)) (count x (drop j right)) ≡ count x (drop i left) + count x (drop j right)) [
-          | inl l ↦ omega (arith, ap (count x) (left_over l), h (count x (drop j right)), ap (λ (w : List ℕ). f (count x w) (count x (drop j right))) (left_over l))
-          | inr r ↦ omega (arith, ap (count x) (right_over r), g (count x (drop i left)), ap (λ (w : List ℕ). f (count x (drop i left)) (count x w)) (right_over r))
+          | inl l ↦ omega (arith, ap (count x) (drop_all i left l), h (count x (drop j right)), ap (λ (w : List ℕ). f (count x w) (count x (drop j right))) (drop_all i left l))
+          | inr r ↦ omega (arith, ap (count x) (drop_all j right r), g (count x (drop i left)), ap (λ (w : List ℕ). f (count x (drop i left)) (count x w)) (drop_all j right r))
         ]
 
     pub ends_rising : (length left ≤ i) ⊎ (length right ≤ j) → IsNonDecreasing ((out ++ drop i left) ++ drop j right)
     ends_rising o = elim o as (λ _. IsNonDecreasing ((out ++ drop i left) ++ drop j right)) [
-      | inl l ↦ rw (left_over l, append-nil out) (non_decreasing (out ++ drop j right) m.right_rises)
-      | inr r ↦ rw (right_over r, append-nil (out ++ drop i left)) (non_decreasing (out ++ drop i left) m.left_rises)
+      | inl l ↦ rw (drop_all i left l, append-nil out) (non_decreasing (out ++ drop j right) m.right_rises)
+      | inr r ↦ rw (drop_all j right r, append-nil (out ++ drop i left)) (non_decreasing (out ++ drop i left) m.left_rises)
     ]

@@ -1,21 +1,15 @@
 -- One key of a list of parts, and the list without it.
 use Rattle.std.specs.Prelude.{ℕ, pos, ◌≡◌, ◌≢◌, ◌<◌, ◌+◌, Bool, true, false, cond, ◌||◌, nat_eq, List, [], ◌∷◌, ◌++◌, drop, length}
-use Rattle.std.proofs.Common.{arith, refl, sym, ap, ◌∙◌, subst, append_assoc, get_or, drop-cons, add-one}
-use Rattle.std.proofs.lemmas.Bool.Decides.{nat_tests}
+use Rattle.std.proofs.Common.{refl, sym, ap, ◌∙◌, subst, append_assoc, get_or, drop-cons, add-one}
+use Rattle.std.proofs.lemmas.Bool.{eq-eqb, ne_eqb, eqb-true}
 use Rattle.ae_num.specs.declared.forms.Part.{Part}
 use Rattle.ae_num.specs.Forms.{factor_of, AllAbove, IsRising, has_key, others}
 
-pub eq_yes : (m n : ℕ) → m ≡ n → nat_eq m n ≡ true
-eq_yes m n h = grind (arith, nat_tests)
-
-pub eq_no : (m n : ℕ) → ¬ (m ≡ n) → nat_eq m n ≡ false
-eq_no m n h = grind (arith, nat_tests)
-
 pub others_same : (p : Part) (ps : List Part) (key : ℕ) → p.key ≡ key → others (p ∷ ps) key ≡ others ps key
-others_same p ps key e = ap (λ b. cond b (others ps key) (p ∷ others ps key)) (eq_yes p.key key e)
+others_same p ps key e = ap (λ b. cond b (others ps key) (p ∷ others ps key)) (eq-eqb p.key key e)
 
 pub others_other : (p : Part) (ps : List Part) (key : ℕ) → p.key ≢ key → others (p ∷ ps) key ≡ p ∷ others ps key
-others_other p ps key n = ap (λ b. cond b (others ps key) (p ∷ others ps key)) (eq_no p.key key n)
+others_other p ps key n = ap (λ b. cond b (others ps key) (p ∷ others ps key)) (ne_eqb p.key key n)
 
 pub ruleset others_push = (others_same, others_other)
 
@@ -35,19 +29,19 @@ others_step ps qs i d key ys ys' W same h e w =
 
 pub found_key : (ps : List Part) (i : ℕ) (d : Part) (key : ℕ) → i < length ps → (get_or ps i d).key ≡ key → has_key ps key ≡ has_key (drop i ps) key → has_key ps key ≡ true
 found_key ps i d key h e k =
-    k ∙ ap (λ t. has_key t key) (part_at ps i d h) ∙ ap (λ b. b || has_key (drop (i + 1) ps) key) (eq_yes (get_or ps i d).key key e)
+    k ∙ ap (λ t. has_key t key) (part_at ps i d h) ∙ ap (λ b. b || has_key (drop (i + 1) ps) key) (eq-eqb (get_or ps i d).key key e)
 
 pub found_factor : (ps : List Part) (i : ℕ) (d : Part) (key : ℕ) → i < length ps → (get_or ps i d).key ≡ key → factor_of ps key ≡ factor_of (drop i ps) key → (get_or ps i d).factor ≡ factor_of ps key
 found_factor ps i d key h e k =
-    sym (k ∙ ap (λ t. factor_of t key) (part_at ps i d h) ∙ ap (λ b. cond b (get_or ps i d).factor (factor_of (drop (i + 1) ps) key)) (eq_yes (get_or ps i d).key key e))
+    sym (k ∙ ap (λ t. factor_of t key) (part_at ps i d h) ∙ ap (λ b. cond b (get_or ps i d).factor (factor_of (drop (i + 1) ps) key)) (eq-eqb (get_or ps i d).key key e))
 
 pub next_key : (ps : List Part) (i : ℕ) (d : Part) (key : ℕ) → i < length ps → (get_or ps i d).key ≢ key → has_key ps key ≡ has_key (drop i ps) key → has_key ps key ≡ has_key (drop (i + 1) ps) key
 next_key ps i d key h n k =
-    k ∙ ap (λ t. has_key t key) (part_at ps i d h) ∙ ap (λ b. b || has_key (drop (i + 1) ps) key) (eq_no (get_or ps i d).key key n)
+    k ∙ ap (λ t. has_key t key) (part_at ps i d h) ∙ ap (λ b. b || has_key (drop (i + 1) ps) key) (ne_eqb (get_or ps i d).key key n)
 
 pub next_factor : (ps : List Part) (i : ℕ) (d : Part) (key : ℕ) → i < length ps → (get_or ps i d).key ≢ key → factor_of ps key ≡ factor_of (drop i ps) key → factor_of ps key ≡ factor_of (drop (i + 1) ps) key
 next_factor ps i d key h n k =
-    k ∙ ap (λ t. factor_of t key) (part_at ps i d h) ∙ ap (λ b. cond b (get_or ps i d).factor (factor_of (drop (i + 1) ps) key)) (eq_no (get_or ps i d).key key n)
+    k ∙ ap (λ t. factor_of t key) (part_at ps i d h) ∙ ap (λ b. cond b (get_or ps i d).factor (factor_of (drop (i + 1) ps) key)) (ne_eqb (get_or ps i d).key key n)
 
 -- ---- the list without a key
 above_others : (j : ℕ) (ps : List Part) (key : ℕ) → AllAbove j ps → AllAbove j (others ps key)
@@ -59,7 +53,7 @@ rising_others [] key r = tt
 rising_others (p ∷ ps) key r = elim (nat_eq p.key key) as (λ b. IsRising (cond b (others ps key) (p ∷ others ps key))) [ true ↦ rising_others ps key r.1 | false ↦ (above_others p.key ps key r.0, rising_others ps key r.1) ]
 
 factor_over : (p : Part) (ps : List Part) (k : ℕ) → ¬ (p.key ≡ k) → factor_of (p ∷ ps) k ≡ factor_of ps k
-factor_over p ps k n = ap (λ b. cond b p.factor (factor_of ps k)) (eq_no p.key k n)
+factor_over p ps k n = ap (λ b. cond b p.factor (factor_of ps k)) (ne_eqb p.key k n)
 
 pub factor_others_there : (ps : List Part) (key : ℕ) → factor_of (others ps key) key ≡ pos 0
 factor_others_there [] key = refl
@@ -69,15 +63,12 @@ factor_others_there (p ∷ ps) key = by_key (factor_others_there ps key) (nat_eq
     by_key ih true e = ih
     by_key ih false e = ap (λ b. cond b p.factor (factor_of (others ps key) key)) e ∙ ih
 
-eq_means : (m n : ℕ) → nat_eq m n ≡ true → m ≡ n
-eq_means m n h = grind (arith, nat_tests)
-
 pub factor_others : (ps : List Part) (key k : ℕ) → ¬ (key ≡ k) → factor_of (others ps key) k ≡ factor_of ps k
 factor_others [] key k n = refl
 factor_others (p ∷ ps) key k n = by_key (factor_others ps key k n) (nat_eq p.key key) refl
   where
     by_key : factor_of (others ps key) k ≡ factor_of ps k → (b : Bool) → nat_eq p.key key ≡ b → factor_of (cond b (others ps key) (p ∷ others ps key)) k ≡ factor_of (p ∷ ps) k
-    by_key ih true e = ih ∙ sym (factor_over p ps k (λ f. n (sym (eq_means p.key key e) ∙ f)))
+    by_key ih true e = ih ∙ sym (factor_over p ps k (λ f. n (sym (eqb-true p.key key e) ∙ f)))
     by_key ih false e = ap (λ t. cond (nat_eq p.key k) p.factor t) ih
 
 pub others_none : (ps : List Part) (key : ℕ) → has_key ps key ≡ false → others ps key ≡ ps

@@ -1,5 +1,5 @@
 pub mod StepLaws
-pub mod GivesLaws
+pub mod Checks
 pub mod PairLaws
 pub mod SumLaws
 pub mod ReductionLaws

@@ -1,19 +1,21 @@
 -- The greatest common divisor as a function, and the normal forms that it makes.
-use Rattle.std.specs.Prelude.{ℕ, ℤ, pos, negsuc, ◌≡◌, ◌≢◌, ◌<◌, ◌≤◌, ◌^◌, ◌%◌, ◌*ℤ◌, ◌+ℤ◌, ◌<ℤ◌, ◌≤ℤ◌, Bool, true, false, cond, ◌&&◌, nat_eq, List, [], ◌∷◌, map, unsigned_abs}
+use Rattle.std.specs.Prelude.{ℕ, ℤ, pos, ◌≡◌, ◌≢◌, ◌<◌, ◌≤◌, ◌^◌, ◌%◌, ◌*ℤ◌, ◌+ℤ◌, ◌<ℤ◌, ◌≤ℤ◌, Bool, true, false, cond, nat_eq, List, [], ◌∷◌, map, unsigned_abs}
 use Rattle.std.specs.Int.{IsGcd}
 use Rattle.std.specs.Int.RustNames.{int_div}
 use Rattle.std.proofs.Common.{arith, refl, sym, ap, ◌∙◌, subst, zero, suc}
-use Rattle.std.proofs.lemmas.Bool.Decides.{nat_tests}
 use Rattle.std.proofs.lemmas.Nat.Gcd.{dvd_of_mod-eq-zero, mod-eq-zero_of_dvd, le_of_dvd}
 use borrow.Author.Differences.{ints}
 use lib.IntN.{ℤ_discrete}
-use Rattle.ae_math.specs.Choices.{pick}
+use Rattle.ae_base.specs.Decided.{pick}
+use Rattle.std.proofs.lemmas.Bool.{eq-eqb, eqb-true, and_from, and_parts}
+use Rattle.ae_base.proofs.Tests.{not_both}
+use Rattle.ae_base.proofs.Integers.{size_back, size_positive, not_negative}
 use Rattle.ae_num.specs.declared.forms.Part.{Part}
 use Rattle.ae_num.specs.declared.forms.Lin.{Lin}
 use Rattle.ae_num.specs.declared.sums.Combination.TheVariants.{Sum, Multiple}
 use Rattle.ae_num.specs.Forms.{factor_of, DividesAll, IsCommonDivisor, sizes, divides_each, greatest_divisor, divided, divided_part, lowest, meaning, SameMeaning, IsNormal, parts_of, keys_of, sum_of, multiple_of}
-use Rattle.ae_num.specs.Pairs.{pair_at, combined}
-use Rattle.ae_num.specs.Reduction.{whole_of}
+use Rattle.ae_num.specs.Inner.Pairs.{pair_at, combined}
+use Rattle.ae_num.specs.Inner.Reduction.{whole_of}
 use Rattle.ae_num.proofs.NormalLaws.{positive_divisor, quotient_normal, quotient_reduced}
 use Rattle.ae_num.proofs.ReductionLaws.{start_gcd, common_one, read_back, quotient_read, fits_in}
 use Rattle.ae_num.proofs.MeaningLaws.{factor_meaning, ratio_zero, ratio_scaled}
@@ -24,31 +26,15 @@ use native.Mathlib.Nat.{one-dvd}
 use mir.Syntax.{w128}
 use mir.Val.{of_z, to_z}
 
-eq_yes : (m n : ℕ) → m ≡ n → nat_eq m n ≡ true
-eq_yes m n h = grind (arith, nat_tests)
-
-eq_means : (m n : ℕ) → nat_eq m n ≡ true → m ≡ n
-eq_means m n h = grind (arith, nat_tests)
-
-both_true : (a b : Bool) → a ≡ true → b ≡ true → a && b ≡ true
-both_true a b p q = ap (λ x. x && b) p ∙ q
-
-parts_true : (a b : Bool) → a && b ≡ true → (a ≡ true) × (b ≡ true)
-parts_true true b h = (refl, h)
-parts_true false b h = cc
-
 each_divided : (d : ℕ) (ns : List ℕ) → DividesAll d ns → divides_each d ns ≡ true
 each_divided d [] h = refl
-each_divided d (n ∷ ns) h = both_true (nat_eq (n % d) 0) (divides_each d ns) (eq_yes (n % d) 0 (mod-eq-zero_of_dvd d h.0)) (each_divided d ns h.1)
+each_divided d (n ∷ ns) h = and_from (nat_eq (n % d) 0) (divides_each d ns) (eq-eqb (n % d) 0 (mod-eq-zero_of_dvd d h.0)) (each_divided d ns h.1)
 
 all_divided : (d : ℕ) (ns : List ℕ) → divides_each d ns ≡ true → DividesAll d ns
 all_divided d [] h = tt
 all_divided d (n ∷ ns) h =
-    let b = parts_true (nat_eq (n % d) 0) (divides_each d ns) h in
-    (dvd_of_mod-eq-zero d (eq_means (n % d) 0 b.0), all_divided d ns b.1)
-
-cc_false : {A : Type 0} {b : Bool} → b ≡ true → b ≡ false → A
-cc_false p q = cc
+    let b = and_parts (nat_eq (n % d) 0) (divides_each d ns) h in
+    (dvd_of_mod-eq-zero d (eqb-true (n % d) 0 b.0), all_divided d ns b.1)
 
 below_other : (n g : ℕ) → g ≤ suc n → g ≢ suc n → g ≤ n
 below_other n g h other = omega arith
@@ -61,24 +47,16 @@ greatest_is (suc n) g ns c m p h = by_test (greatest_is n g ns c m p) (divides_e
   where
     by_test : (g ≤ n → greatest_divisor n ns ≡ g) → (b : Bool) → divides_each (suc n) ns ≡ b → cond b (suc n) (greatest_divisor n ns) ≡ g
     by_test ih true e = let l = m (suc n) (all_divided (suc n) ns e) in omega arith
-    by_test ih false e = ih (below_other n g h (λ s. cc_false (each_divided (suc n) ns (subst (λ d. DividesAll d ns) s c)) e))
+    by_test ih false e = ih (below_other n g h (λ s. not_both (divides_each (suc n) ns) (each_divided (suc n) ns (subst (λ d. DividesAll d ns) s c)) e))
 
 pub greatest_common : (n g : ℕ) (ns : List ℕ) → 0 < n → 0 < g → IsCommonDivisor (n ∷ ns) g → greatest_divisor n (n ∷ ns) ≡ g
 greatest_common n g ns p s c = greatest_is n g (n ∷ ns) c.0 (λ d h. le_of_dvd s (c.1 d h)) s (le_of_dvd p (c.0).0)
-
-size_of : (x : ℤ) → pos 0 ≤ℤ x → pos (unsigned_abs x) ≡ x
-size_of (pos n) h = refl
-size_of (negsuc n) h = absurd (omega (arith, ints))
-
-size_positive : (x : ℤ) → pos 0 <ℤ x → 0 < unsigned_abs x
-size_positive (pos n) h = omega (arith, ints)
-size_positive (negsuc n) h = absurd (omega (arith, ints))
 
 -- what is divided by the common divisor is lowest
 pub quotient_lowest : (w q : Lin) (x y : ℤ) → y ≡ x → pos 0 ≤ℤ x → pos 0 <ℤ w.den → IsCommonDivisor (sizes w.den w.parts w.constant) (unsigned_abs x) → q ≡ divided y w → q ≡ lowest w
 quotient_lowest w q x y e h p c f =
     let some = size_positive x (positive_divisor x w.den h p (c.0).0) in
-    f ∙ ap (λ z. divided z w) (e ∙ sym (size_of x h) ∙ ap pos (sym (greatest_common (unsigned_abs w.den) (unsigned_abs x) _ (size_positive w.den p) some c)))
+    f ∙ ap (λ z. divided z w) (e ∙ sym (size_back x h) ∙ ap pos (sym (greatest_common (unsigned_abs w.den) (unsigned_abs x) _ (size_positive w.den p) some c)))
 
 -- ---- the forms that the rules make are those of sums and multiples
 made_parts : (f : ℤ → ℤ → ℤ) (ps qs : List Part) (ys : List ℕ) → combined f (map (pair_at ps qs) ys) ≡ parts_of (λ y. f (factor_of ps y) (factor_of qs y)) ys
@@ -149,9 +127,6 @@ lowest_normal l n = lowest_same l n.positive n.lowest
 module _ (top bottom : ℤ) (positive : pos 0 <ℤ bottom) where
   common_of : (g : ℕ) × IsCommonDivisor (sizes bottom [] top) g
   common_of = let r = gcd_exists (unsigned_abs bottom) (unsigned_abs top) in (r.0, (((r.1).0, ((r.1).1, tt)), λ x y. (r.1).2 x y.0 (y.1).0))
-
-  not_negative : (g : ℕ) → pos 0 ≤ℤ pos g
-  not_negative g = omega (arith, ints)
 
   lowest_divided : lowest (number_form top bottom) ≡ divided (pos common_of.0) (number_form top bottom)
   lowest_divided = sym (quotient_lowest (number_form top bottom) (divided (pos common_of.0) (number_form top bottom)) (pos common_of.0) (pos common_of.0) refl (not_negative common_of.0) positive common_of.1 refl)

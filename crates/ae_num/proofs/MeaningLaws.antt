@@ -4,22 +4,24 @@ use Rattle.std.proofs.Common.{arith, refl, sym, ap, ◌∙◌, subst, zero, suc}
 use native.Mathlib.Decide.{ℕ_discrete}
 use lib.IntN.{*ℤ_comm}
 use borrow.Author.Differences.{ints}
-use Rattle.ae_math.specs.Choices.{pick}
-use Rattle.ae_math.specs.Integers.{ring, mul_assoc_z}
-use Rattle.ae_math.specs.Fractions.{ℚ, ◌+ℚ◌, ◌*ℚ◌, zero_ℚ, frac, ratio, joined, bottom-joined}
+use Rattle.ae_base.specs.Decided.{pick}
+use Rattle.ae_math.specs.Inner.Integers.{ring, mul_assoc_z}
+use Rattle.ae_math.specs.Fractions.{ℚ, ◌+ℚ◌, ◌*ℚ◌, zero_ℚ, frac, ratio, joined}
+use Rattle.ae_math.specs.Inner.Respected.{bottom-joined}
 use Rattle.ae_math.specs.Forms.{factor_in, factor, plus, scale, substitute}
 use Rattle.ae_math.proofs.FractionLaws.{frac_same, frac_plus, frac_times, add_zero_q, mul_zero_q, mul_comm_q}
 use Rattle.ae_math.proofs.FormLaws.{factor_in-append, factor_in-scale, substitute_there, substitute_elsewhere, substitute_absent, same_sym, by_key}
 use Rattle.ae_num.specs.declared.forms.Part.{Part}
 use Rattle.ae_num.specs.declared.forms.Lin.{Lin}
 use Rattle.ae_num.specs.Forms.{meaning, SameMeaning, factor_of, IsRising, IsNormal, others, has_key}
-use Rattle.ae_num.specs.Pairs.{outcome_of}
-use Rattle.ae_num.specs.Reduction.{Reduced, whole_of}
+use Rattle.ae_num.specs.Inner.Pairs.{outcome_of}
+use Rattle.ae_num.specs.Inner.Reduction.{Reduced, whole_of}
 use Rattle.ae_num.specs.declared.sums.Combination.{Combination}
 use Rattle.ae_num.specs.declared.sums.Combination.TheVariants.{Sum, Substitution, Multiple}
 use Rattle.ae_num.proofs.PairLaws.{absent}
 use Rattle.ae_num.proofs.SumLaws.{combined_factor, no_key}
-use Rattle.ae_num.proofs.KeyLaws.{eq_yes, eq_no, factor_others, factor_others_there}
+use Rattle.std.proofs.lemmas.Bool.{eq-eqb, ne_eqb}
+use Rattle.ae_num.proofs.KeyLaws.{factor_others, factor_others_there}
 
 -- ---- ratios
 pub ratio_zero : (d : ℤ) → ratio (pos 0) d ≡ zero_ℚ
@@ -92,8 +94,8 @@ factor_meant (p ∷ ps) d k r = by_test (ℕ_discrete p.key k) (factor_meant ps 
         → pick t (ratio p.factor d +ℚ factor_in ℕ_discrete (Meant ps d) k) (factor_in ℕ_discrete (Meant ps d) k) ≡ ratio (cond (nat_eq p.key k) p.factor (factor_of ps k)) d
     by_test (yes e) ih =
         ap (λ x. ratio p.factor d +ℚ x) (ih ∙ ap (λ z. ratio z d) (ap (factor_of ps) (sym e) ∙ absent p.key ps r.0) ∙ ratio_zero d) ∙ add_zero_q (ratio p.factor d)
-        ∙ ap (λ b. ratio (cond b p.factor (factor_of ps k)) d) (sym (eq_yes p.key k e))
-    by_test (no n) ih = ih ∙ ap (λ b. ratio (cond b p.factor (factor_of ps k)) d) (sym (eq_no p.key k n))
+        ∙ ap (λ b. ratio (cond b p.factor (factor_of ps k)) d) (sym (eq-eqb p.key k e))
+    by_test (no n) ih = ih ∙ ap (λ b. ratio (cond b p.factor (factor_of ps k)) d) (sym (ne_eqb p.key k n))
 
 pub factor_meaning : (l : Lin) (k : ℕ) → IsRising l.parts → factor ℕ_discrete (meaning l) k ≡ ratio (factor_of l.parts k) l.den
 factor_meaning l k r = factor_meant l.parts l.den k r

@@ -3,16 +3,17 @@ use Rattle.std.specs.Prelude.{ℕ, ℤ, pos, negsuc, ◌≡◌, ◌≢◌, ◌<�
 use Rattle.std.specs.List.{AllByRecursion}
 use Rattle.std.specs.Int.{◌∣◌}
 use Rattle.std.specs.Int.RustNames.{int_div}
-use Rattle.std.proofs.Common.{arith, refl, sym, ap, ◌∙◌, subst, zero, suc}
+use Rattle.std.proofs.Common.{arith, sym, ap, ◌∙◌, subst, zero, suc}
 use Rattle.std.proofs.lemmas.Nat.Gcd.{dvd_refl}
 use native.Mathlib.Nat.{dvd_of_mul-dvd-mul_right, mul-dvd-mul_right, one-mul, one-dvd, dvd-zero, le-mul_of_pos_right}
 use borrow.Author.Differences.{ints}
-use Rattle.ae_math.proofs.Divisors.{divided as times_back, abs_times, divisor_positive}
+use Rattle.ae_math.proofs.Divisors.{divided as times_back, divisor_positive}
+use Rattle.std.proofs.lemmas.Int.{unsigned_abs-mul}
+use Rattle.ae_base.proofs.Integers.{size_back, size_positive}
 use Rattle.ae_num.specs.declared.forms.Part.{Part}
 use Rattle.ae_num.specs.declared.forms.Lin.{Lin}
-use Rattle.ae_num.specs.Forms.{factor_of, AllAbove, IsRising, IsNormal, DividesAll, IsCommonDivisor, sizes}
-use Rattle.ae_num.specs.Forms.{divided_part, divided}
-use Rattle.ae_num.specs.Reduction.{Reduced}
+use Rattle.ae_num.specs.Forms.{factor_of, AllAbove, IsRising, IsNormal, DividesAll, IsCommonDivisor, sizes, divided_part, divided}
+use Rattle.ae_num.specs.Inner.Reduction.{Reduced}
 
 abbrev Factors : List Part → List ℕ
 Factors ps = map (λ p. unsigned_abs p.factor) ps
@@ -26,7 +27,7 @@ positive_divisor (pos n) (pos (suc m)) h p d = let z = divisor_positive n m d in
 
 module _ (g : ℕ) (some : 0 < g) where
   quotient_times : (z : ℤ) → g ∣ unsigned_abs z → unsigned_abs (int_div z (pos g)) * g ≡ unsigned_abs z
-  quotient_times z d = sym (abs_times (int_div z (pos g)) (pos g)) ∙ ap unsigned_abs (times_back z g some d)
+  quotient_times z d = sym (unsigned_abs-mul (int_div z (pos g)) (pos g)) ∙ ap unsigned_abs (times_back z g some d)
 
   quotient_factors : (ps : List Part) → DividesAll g (Factors ps) → (key : ℕ) → factor_of (map (divided_part (pos g)) ps) key *ℤ pos g ≡ factor_of ps key
   quotient_factors [] d key = omega (arith, ints)
@@ -107,24 +108,16 @@ module _ (g : ℕ) (some : 0 < g) where
     factors = quotient_factors w.parts ((c.0).1).1;
   }
 
-size_of : (x : ℤ) → pos 0 ≤ℤ x → pos (unsigned_abs x) ≡ x
-size_of (pos n) h = refl
-size_of (negsuc n) h = absurd (omega (arith, ints))
-
-size_positive : (x : ℤ) → pos 0 <ℤ x → 0 < unsigned_abs x
-size_positive (pos n) h = omega (arith, ints)
-size_positive (negsuc n) h = absurd (omega (arith, ints))
-
 pub quotient_reduced : (w q : Lin) (x y : ℤ) → y ≡ x → pos 0 ≤ℤ x → pos 0 <ℤ w.den → IsCommonDivisor (sizes w.den w.parts w.constant) (unsigned_abs x) → q ≡ divided y w → Reduced w q
 quotient_reduced w q x y e h p c f =
     let some = size_positive x (positive_divisor x w.den h p (c.0).0) in
-    subst (Reduced w) (sym (f ∙ ap (λ z. divided z w) (e ∙ sym (size_of x h)))) (reduced_divided (unsigned_abs x) some w c)
+    subst (Reduced w) (sym (f ∙ ap (λ z. divided z w) (e ∙ sym (size_back x h)))) (reduced_divided (unsigned_abs x) some w c)
 
 pub quotient_normal : (w q : Lin) (x y : ℤ) → y ≡ x → pos 0 ≤ℤ x → pos 0 <ℤ w.den → IsRising w.parts → AllByRecursion (λ p. p.factor ≢ pos 0) w.parts → AllByRecursion (λ n. n < 2 ^ 127) (sizes w.den w.parts w.constant)
     → IsCommonDivisor (sizes w.den w.parts w.constant) (unsigned_abs x) → q ≡ divided y w → IsNormal q
 quotient_normal w q x y e h p r n i c f =
     let some = size_positive x (positive_divisor x w.den h p (c.0).0) in
-    subst IsNormal (sym (f ∙ ap (λ z. divided z w) (e ∙ sym (size_of x h)))) (normal_divided (unsigned_abs x) some w p r n i c)
+    subst IsNormal (sym (f ∙ ap (λ z. divided z w) (e ∙ sym (size_back x h)))) (normal_divided (unsigned_abs x) some w p r n i c)
 
 -- ---- the forms 1 and one name
 pub one_normal : (l : Lin) → l ≡ record { den = pos 1; parts = []; constant = pos 1 } → IsNormal l

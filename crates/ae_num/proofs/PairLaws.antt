@@ -1,13 +1,14 @@
 -- The keys of two forms in order, and the first pair of factors.
-use Rattle.std.specs.Prelude.{ℕ, pos, ◌≡◌, ◌<◌, ◌≤◌, ◌+◌, true, false, cond, nat_eq, nat_lt, List, [], ◌∷◌, map, drop, length, slice_get, Some, None}
+use Rattle.std.specs.Prelude.{ℕ, pos, ◌≡◌, ◌<◌, ◌+◌, true, false, cond, nat_eq, nat_lt, List, [], ◌∷◌, map, drop, length, slice_get, Some, None}
 use Rattle.std.specs.List.{AllByRecursion}
 use Rattle.std.proofs.Common.{arith, refl, sym, ap, ◌∙◌, subst, zero, suc}
-use Rattle.std.proofs.lemmas.Bool.Decides.{nat_tests}
+use Rattle.std.proofs.lemmas.Bool.{eq-eqb, lt-ltb, le-ltb}
+use Rattle.ae_base.proofs.Tests.{nat_eq_below, nat_eq_above}
 use Rattle.ae_num.specs.declared.forms.Part.{Part}
 use Rattle.ae_num.specs.declared.pairs.Pair.{Pair}
 use Rattle.ae_num.specs.declared.pairs.Taken.{Taken}
 use Rattle.ae_num.specs.Forms.{factor_of, AllAbove, IsRising, with_key, with_keys, keys_of}
-use Rattle.ae_num.specs.Pairs.{pair_at, pairs_of}
+use Rattle.ae_num.specs.Inner.Pairs.{pair_at, pairs_of}
 
 abbrev pub Above : ℕ → List ℕ → Type 0
 Above k ys = AllByRecursion (λ y. k < y) ys
@@ -16,41 +17,26 @@ abbrev pub Increasing : List ℕ → Type 0
 Increasing [] = Unit {0}
 Increasing (y ∷ ys) = Above y ys × Increasing ys
 
-eq_test : (m n : ℕ) → m ≡ n → nat_eq m n ≡ true
-eq_test m n h = grind (arith, nat_tests)
-
-lt_test : (m n : ℕ) → m < n → nat_lt m n ≡ true
-lt_test m n h = grind (arith, nat_tests)
-
-pub ne_test : (m n : ℕ) → m < n → nat_eq m n ≡ false
-ne_test m n h = grind (arith, nat_tests)
-
-pub ne_test_back : (m n : ℕ) → n < m → nat_eq m n ≡ false
-ne_test_back m n h = grind (arith, nat_tests)
-
-not_lt_test : (m n : ℕ) → n ≤ m → nat_lt m n ≡ false
-not_lt_test m n h = grind (arith, nat_tests)
-
 -- ---- where a key goes
 pub with_key_below : (k : ℕ) (ys : List ℕ) → Above k ys → with_key k ys ≡ k ∷ ys
 with_key_below k [] a = refl
-with_key_below k (y ∷ ys) a = ap (λ b. cond b (k ∷ y ∷ ys) (cond (nat_eq k y) (y ∷ ys) (y ∷ with_key k ys))) (lt_test k y a.0)
+with_key_below k (y ∷ ys) a = ap (λ b. cond b (k ∷ y ∷ ys) (cond (nat_eq k y) (y ∷ ys) (y ∷ with_key k ys))) (lt-ltb k y a.0)
 
 with_key_here : (k : ℕ) (ys : List ℕ) → with_key k (k ∷ ys) ≡ k ∷ ys
 with_key_here k ys =
-    ap (λ b. cond b (k ∷ k ∷ ys) (cond (nat_eq k k) (k ∷ ys) (k ∷ with_key k ys))) (not_lt_test k k (omega arith))
-    ∙ ap (λ b. cond b (k ∷ ys) (k ∷ with_key k ys)) (eq_test k k refl)
+    ap (λ b. cond b (k ∷ k ∷ ys) (cond (nat_eq k k) (k ∷ ys) (k ∷ with_key k ys))) (le-ltb k k (omega arith))
+    ∙ ap (λ b. cond b (k ∷ ys) (k ∷ with_key k ys)) (eq-eqb k k refl)
 
 with_key_later : (x k : ℕ) (ys : List ℕ) → k < x → with_key x (k ∷ ys) ≡ k ∷ with_key x ys
 with_key_later x k ys h =
-    ap (λ b. cond b (x ∷ k ∷ ys) (cond (nat_eq x k) (k ∷ ys) (k ∷ with_key x ys))) (not_lt_test x k (omega arith))
-    ∙ ap (λ b. cond b (k ∷ ys) (k ∷ with_key x ys)) (ne_test_back x k h)
+    ap (λ b. cond b (x ∷ k ∷ ys) (cond (nat_eq x k) (k ∷ ys) (k ∷ with_key x ys))) (le-ltb x k (omega arith))
+    ∙ ap (λ b. cond b (k ∷ ys) (k ∷ with_key x ys)) (nat_eq_above x k h)
 
 with_keys_first : (k : ℕ) (ps : List Part) (ys : List ℕ) → AllAbove k ps → with_keys ps (k ∷ ys) ≡ k ∷ with_keys ps ys
 with_keys_first k [] ys a = refl
 with_keys_first k (p ∷ ps) ys a = ap (with_key p.key) (with_keys_first k ps ys a.1) ∙ with_key_later p.key k (with_keys ps ys) a.0
 
-above_with_key : (k x : ℕ) (ys : List ℕ) → k < x → Above k ys → Above k (with_key x ys)
+pub above_with_key : (k x : ℕ) (ys : List ℕ) → k < x → Above k ys → Above k (with_key x ys)
 above_with_key k x [] h a = (h, tt)
 above_with_key k x (y ∷ ys) h a =
     elim (nat_lt x y) as (λ b. Above k (cond b (x ∷ y ∷ ys) (cond (nat_eq x y) (y ∷ ys) (y ∷ with_key x ys)))) [
@@ -73,13 +59,13 @@ lower j k (p ∷ ps) h a = (let b = a.0 in omega arith, lower j k ps h a.1)
 -- ---- factors
 pub absent : (k : ℕ) (ps : List Part) → AllAbove k ps → factor_of ps k ≡ pos 0
 absent k [] a = refl
-absent k (p ∷ ps) a = ap (λ b. cond b p.factor (factor_of ps k)) (ne_test_back p.key k a.0) ∙ absent k ps a.1
+absent k (p ∷ ps) a = ap (λ b. cond b p.factor (factor_of ps k)) (nat_eq_above p.key k a.0) ∙ absent k ps a.1
 
 pub factor_head : (p : Part) (ps : List Part) → factor_of (p ∷ ps) p.key ≡ p.factor
-factor_head p ps = ap (λ b. cond b p.factor (factor_of ps p.key)) (eq_test p.key p.key refl)
+factor_head p ps = ap (λ b. cond b p.factor (factor_of ps p.key)) (eq-eqb p.key p.key refl)
 
 pub factor_tail : (p : Part) (ps : List Part) (y : ℕ) → p.key < y → factor_of (p ∷ ps) y ≡ factor_of ps y
-factor_tail p ps y h = ap (λ b. cond b p.factor (factor_of ps y)) (ne_test p.key y h)
+factor_tail p ps y h = ap (λ b. cond b p.factor (factor_of ps y)) (nat_eq_below p.key y h)
 
 -- above a key two pairs of lists have the same factors
 record Agree (k : ℕ) (ps qs ps' qs' : List Part) : Type 0 where

@@ -1,8 +1,9 @@
 -- The first of some stated products and sums that leaves the limits.
-use Rattle.std.specs.Prelude.{ℕ, ℤ, ◌*ℤ◌, ◌+ℤ◌, ◌≡◌, ◌<◌, ◌^◌, true, false, cond, nat_le, List, [], ◌∷◌, ◌++◌, Some, None, Ok, Err, IsErrAnd, IfErr, IfOk, unsigned_abs}
+use Rattle.std.specs.Prelude.{ℤ, ◌*ℤ◌, ◌+ℤ◌, ◌≡◌, ◌^◌, true, false, cond, List, [], ◌∷◌, ◌++◌, Some, None, Ok, Err, IsErrAnd, IfErr, unsigned_abs}
 use Rattle.std.proofs.Common.{arith, refl, sym, ap, ◌∙◌, subst}
 use Rattle.std.proofs.lemmas.Bool.Decides.{nat_tests}
-use Rattle.ae_num.specs.Limits.{IsWithin}
+use Rattle.std.proofs.lemmas.Bool.{lt-leb}
+use Rattle.ae_num.specs.Limits.{FitsLimits}
 use Rattle.std.specs.declared.result.Result.{Result}
 use Rattle.std.specs.declared.alloc.AllocError.{AllocError}
 use Rattle.ae_num.specs.declared.numbers.Wide.{Wide}
@@ -10,17 +11,11 @@ use Rattle.ae_num.specs.declared.numbers.NumFail.{NumFail}
 use Rattle.ae_num.specs.declared.numbers.NumFail.TheVariants.{Wide as WideFail, Memory}
 use Rattle.ae_num.specs.Forms.{Step, Product, Sum, outcome, is_wide, wide_of, first_wide, crossed, IfWide}
 
-within_test : (m n : ℕ) → n < m → nat_le m n ≡ false
-within_test m n h = grind (arith, nat_tests)
+pub fits : (s : Step) → FitsLimits (outcome s) → is_wide s ≡ false
+fits s h = lt-leb (2 ^ 127) (unsigned_abs (outcome s)) h
 
-beyond_test : (m n : ℕ) → ¬ (n < m) → nat_le m n ≡ true
-beyond_test m n h = grind (arith, nat_tests)
-
-pub fits : (s : Step) → IsWithin (outcome s) → is_wide s ≡ false
-fits s h = within_test (2 ^ 127) (unsigned_abs (outcome s)) h
-
-pub leaves : (s : Step) → ¬ (IsWithin (outcome s)) → is_wide s ≡ true
-leaves s h = beyond_test (2 ^ 127) (unsigned_abs (outcome s)) h
+pub leaves : (s : Step) → ¬ (FitsLimits (outcome s)) → is_wide s ≡ true
+leaves s h = grind (arith, nat_tests)
 
 pub past : (s : Step) (ss : List Step) → is_wide s ≡ false → first_wide (s ∷ ss) ≡ first_wide ss
 past s ss e = ap (λ b. cond b (Some (wide_of s)) (first_wide ss)) e
@@ -28,13 +23,13 @@ past s ss e = ap (λ b. cond b (Some (wide_of s)) (first_wide ss)) e
 pub here : (s : Step) (ss : List Step) → is_wide s ≡ true → first_wide (s ∷ ss) ≡ Some (wide_of s)
 here s ss e = ap (λ b. cond b (Some (wide_of s)) (first_wide ss)) e
 
-pub second_wide : (a b c d : ℤ) → IsWithin (a *ℤ b) → ¬ (IsWithin (c *ℤ d)) → first_wide (crossed a b c d) ≡ Some (wide_of (Product c d))
+pub second_wide : (a b c d : ℤ) → FitsLimits (a *ℤ b) → ¬ (FitsLimits (c *ℤ d)) → first_wide (crossed a b c d) ≡ Some (wide_of (Product c d))
 second_wide a b c d p q = past (Product a b) (Product c d ∷ Sum (a *ℤ b) (c *ℤ d) ∷ []) (fits (Product a b) p) ∙ here (Product c d) (Sum (a *ℤ b) (c *ℤ d) ∷ []) (leaves (Product c d) q)
 
-pub sum_wide : (a b c d : ℤ) → IsWithin (a *ℤ b) → IsWithin (c *ℤ d) → ¬ (IsWithin (a *ℤ b +ℤ c *ℤ d)) → first_wide (crossed a b c d) ≡ Some (wide_of (Sum (a *ℤ b) (c *ℤ d)))
+pub sum_wide : (a b c d : ℤ) → FitsLimits (a *ℤ b) → FitsLimits (c *ℤ d) → ¬ (FitsLimits (a *ℤ b +ℤ c *ℤ d)) → first_wide (crossed a b c d) ≡ Some (wide_of (Sum (a *ℤ b) (c *ℤ d)))
 sum_wide a b c d p q r = past (Product a b) (Product c d ∷ Sum (a *ℤ b) (c *ℤ d) ∷ []) (fits (Product a b) p) ∙ past (Product c d) (Sum (a *ℤ b) (c *ℤ d) ∷ []) (fits (Product c d) q) ∙ here (Sum (a *ℤ b) (c *ℤ d)) [] (leaves (Sum (a *ℤ b) (c *ℤ d)) r)
 
-pub all_fit : (a b c d : ℤ) → IsWithin (a *ℤ b) → IsWithin (c *ℤ d) → IsWithin (a *ℤ b +ℤ c *ℤ d) → first_wide (crossed a b c d) ≡ None
+pub all_fit : (a b c d : ℤ) → FitsLimits (a *ℤ b) → FitsLimits (c *ℤ d) → FitsLimits (a *ℤ b +ℤ c *ℤ d) → first_wide (crossed a b c d) ≡ None
 all_fit a b c d p q r = past (Product a b) (Product c d ∷ Sum (a *ℤ b) (c *ℤ d) ∷ []) (fits (Product a b) p) ∙ past (Product c d) (Sum (a *ℤ b) (c *ℤ d) ∷ []) (fits (Product c d) q) ∙ past (Sum (a *ℤ b) (c *ℤ d)) [] (fits (Sum (a *ℤ b) (c *ℤ d)) r)
 
 -- ---- after each other
@@ -71,14 +66,6 @@ same_err (Err x) e P Q h f p = subst (λ z. IfWide z Q) (sym h) (weaker e p)
     weaker : (e : NumFail) → IfWide e P → IfWide e Q
     weaker (WideFail w) p = f w p
     weaker (Memory m) p = tt
-
-pub if_ok : {A E : Type 0} (r : Result A E) (P Q : A → Type 0) → ((a : A) → P a → Q a) → IfOk r P → IfOk r Q
-if_ok (Ok a) P Q f p = f a p
-if_ok (Err e) P Q f p = tt
-
-pub if_both : {A E : Type 0} (r : Result A E) (P Q R : A → Type 0) → ((a : A) → P a → Q a → R a) → IfOk r P → IfOk r Q → IfOk r R
-if_both (Ok a) P Q R f p q = f a p q
-if_both (Err e) P Q R f p q = tt
 
 -- the same of another list of steps
 pub other_steps : (xs ys : List Step) → xs ≡ ys → (e : NumFail) → IfWide e (λ w. first_wide xs ≡ Some w) → IfWide e (λ w. first_wide ys ≡ Some w)

@@ -4,16 +4,19 @@ use Rattle.std.specs.List.{AllByRecursion}
 use Rattle.std.proofs.Common.{arith, refl, sym, ap, ◌∙◌, subst, append_assoc, ◌+◌, get_or, drop-cons, add-one}
 use Rattle.std.proofs.lemmas.Bool.Decides.{nat_tests}
 use lib.IntN.{ℤ_discrete}
-use Rattle.ae_math.specs.Choices.{pick, pick_yes, pick_no}
+use Rattle.ae_base.specs.Decided.{pick}
+use Rattle.ae_base.proofs.Decided.{pick_yes, pick_no}
+use Rattle.std.proofs.lemmas.Bool.{eqb-true, ltb-true}
+use Rattle.std.proofs.Math.Bool.{or_assoc}
 use Rattle.ae_num.specs.declared.forms.Part.{Part}
 use Rattle.ae_num.specs.declared.pairs.Pair.{Pair}
 use Rattle.ae_num.specs.declared.numbers.Wide.{Wide}
 use Rattle.ae_num.specs.declared.sums.Combination.{Combination}
 use Rattle.ae_num.proofs.StepLaws.{first_wide-none, first_wide-some}
-use Rattle.ae_num.specs.Limits.{IsWithin}
+use Rattle.ae_num.specs.Limits.{FitsLimits}
 use Rattle.ae_num.specs.Forms.{factor_of, AllAbove, IsRising, with_key, with_keys, keys_of, has_key, first_wide}
-use Rattle.ae_num.specs.Pairs.{pair_at, pairs_of, kept, combined, outcome_of, steps_of, all_steps}
-use Rattle.ae_num.proofs.PairLaws.{Above, Increasing, absent, factor_head}
+use Rattle.ae_num.specs.Inner.Pairs.{pair_at, pairs_of, kept, combined, outcome_of, steps_of, all_steps}
+use Rattle.ae_num.proofs.PairLaws.{Above, Increasing, above_with_key, absent, factor_head}
 
 -- ---- a part that is kept, or left out where its factor is 0
 pub kept_zero : (p : Part) (ps : List Part) → p.factor ≡ pos 0 → kept p ps ≡ ps
@@ -39,7 +42,7 @@ nonzero_kept p ps a = elim (ℤ_discrete p.factor (pos 0)) as (λ d. NonZero (pi
 abbrev pub AllWithin : List Part → Type 0
 AllWithin ps = AllByRecursion (λ n. n < 2 ^ 127) (map (λ p. unsigned_abs p.factor) ps)
 
-pub within_kept : (p : Part) (ps : List Part) → IsWithin p.factor → AllWithin ps → AllWithin (kept p ps)
+pub within_kept : (p : Part) (ps : List Part) → FitsLimits p.factor → AllWithin ps → AllWithin (kept p ps)
 within_kept p ps h a = elim (ℤ_discrete p.factor (pos 0)) as (λ d. AllWithin (pick d ps (p ∷ ps))) [ yes e ↦ a | no n ↦ (h, a) ]
 
 -- its factor, where no other part has its key
@@ -62,12 +65,6 @@ member : ℕ → List ℕ → Bool
 member y [] = false
 member y (x ∷ xs) = nat_eq x y || member y xs
 
-eq_test : (m n : ℕ) → nat_eq m n ≡ true → m ≡ n
-eq_test m n h = grind (arith, nat_tests)
-
-eq_refl : (m : ℕ) → nat_eq m m ≡ true
-eq_refl m = grind (arith, nat_tests)
-
 or_comm : (a b c : Bool) → a || (b || c) ≡ b || (a || c)
 or_comm true true c = refl
 or_comm true false c = refl
@@ -87,7 +84,7 @@ member-with_key y x (z ∷ zs) =
     ]
   where
     same_or_later : member y (with_key x zs) ≡ nat_eq x y || member y zs → (b : Bool) → nat_eq x z ≡ b → member y (cond b (z ∷ zs) (z ∷ with_key x zs)) ≡ nat_eq x y || (nat_eq z y || member y zs)
-    same_or_later ih true e = subst (λ w. nat_eq z y || member y zs ≡ nat_eq w y || (nat_eq z y || member y zs)) (sym (eq_test x z e)) (or_twice (nat_eq z y) (member y zs))
+    same_or_later ih true e = subst (λ w. nat_eq z y || member y zs ≡ nat_eq w y || (nat_eq z y || member y zs)) (sym (eqb-true x z e)) (or_twice (nat_eq z y) (member y zs))
     same_or_later ih false e = ap (λ b. nat_eq z y || b) ih ∙ or_comm (nat_eq z y) (nat_eq x y) (member y zs)
 
 member-keys : (y : ℕ) (qs : List Part) → member y (map (λ q. q.key) qs) ≡ has_key qs y
@@ -95,13 +92,9 @@ unfolding member
 member-keys y [] = refl
 member-keys y (q ∷ qs) = ap (λ b. nat_eq q.key y || b) (member-keys y qs)
 
-or_assoc : (a b c : Bool) → a || (b || c) ≡ (a || b) || c
-or_assoc true b c = refl
-or_assoc false b c = refl
-
 member-with_keys : (y : ℕ) (ps : List Part) (ys : List ℕ) → member y (with_keys ps ys) ≡ has_key ps y || member y ys
 member-with_keys y [] ys = refl
-member-with_keys y (p ∷ ps) ys = member-with_key y p.key (with_keys ps ys) ∙ ap (λ b. nat_eq p.key y || b) (member-with_keys y ps ys) ∙ or_assoc (nat_eq p.key y) (has_key ps y) (member y ys)
+member-with_keys y (p ∷ ps) ys = member-with_key y p.key (with_keys ps ys) ∙ ap (λ b. nat_eq p.key y || b) (member-with_keys y ps ys) ∙ sym (or_assoc (nat_eq p.key y) (has_key ps y) (member y ys))
 
 pub no_key : (y : ℕ) (ps : List Part) → has_key ps y ≡ false → factor_of ps y ≡ pos 0
 no_key y [] e = refl
@@ -111,20 +104,9 @@ no_key y (p ∷ ps) e =
       | false ↦ λ h. no_key y ps h
     ] e
 
-above_with_key : (k x : ℕ) (ys : List ℕ) → k < x → Above k ys → Above k (with_key x ys)
-above_with_key k x [] h a = (h, tt)
-above_with_key k x (y ∷ ys) h a =
-    elim (nat_lt x y) as (λ b. Above k (cond b (x ∷ y ∷ ys) (cond (nat_eq x y) (y ∷ ys) (y ∷ with_key x ys)))) [
-      | true ↦ (h, a)
-      | false ↦ elim (nat_eq x y) as (λ b. Above k (cond b (y ∷ ys) (y ∷ with_key x ys))) [ true ↦ a | false ↦ (a.0, above_with_key k x ys h a.1) ]
-    ]
-
 lower : (j k : ℕ) (ys : List ℕ) → j < k → Above k ys → Above j ys
 lower j k [] h a = tt
 lower j k (y ∷ ys) h a = (let b = a.0 in omega arith, lower j k ys h a.1)
-
-lt_test : (m n : ℕ) → nat_lt m n ≡ true → m < n
-lt_test m n h = grind (arith, nat_tests)
 
 other_test : (m n : ℕ) → nat_lt m n ≡ false → nat_eq m n ≡ false → n < m
 other_test m n h e = grind (arith, nat_tests)
@@ -138,7 +120,7 @@ increasing_with_key x (y ∷ ys) r = by_less (increasing_with_key x ys r.1) (nat
     by_same ih false h e = (above_with_key y x ys (other_test x y h e) r.0, ih)
 
     by_less : Increasing (with_key x ys) → (b : Bool) → nat_lt x y ≡ b → Increasing (cond b (x ∷ y ∷ ys) (cond (nat_eq x y) (y ∷ ys) (y ∷ with_key x ys)))
-    by_less ih true h = let l = lt_test x y h in ((l, lower x y ys l r.0), r)
+    by_less ih true h = let l = ltb-true x y h in ((l, lower x y ys l r.0), r)
     by_less ih false h = by_same ih (nat_eq x y) h refl
 
 increasing_with_keys : (ps : List Part) (ys : List ℕ) → Increasing ys → Increasing (with_keys ps ys)
@@ -179,7 +161,7 @@ module _ (f : ℤ → ℤ → ℤ) (P Q : List Part) where
   factor_made k (y ∷ ys) r = by_key (factor_made k ys r.1) (nat_eq y k) refl
     where
       by_key : factor_of (made ys) k ≡ cond (member k ys) (f (factor_of P k) (factor_of Q k)) (pos 0) → (b : Bool) → nat_eq y k ≡ b → factor_of (kept (record { key = y; factor = f (factor_of P y) (factor_of Q y) }) (made ys)) k ≡ cond (b || member k ys) (f (factor_of P k) (factor_of Q k)) (pos 0)
-      by_key ih true e = subst (λ j. factor_of (kept (record { key = y; factor = f (factor_of P y) (factor_of Q y) }) (made ys)) j ≡ f (factor_of P j) (factor_of Q j)) (eq_test y k e) (factor_kept (record { key = y; factor = f (factor_of P y) (factor_of Q y) }) (made ys) (absent y (made ys) (above_made y ys r.0)))
+      by_key ih true e = subst (λ j. factor_of (kept (record { key = y; factor = f (factor_of P y) (factor_of Q y) }) (made ys)) j ≡ f (factor_of P j) (factor_of Q j)) (eqb-true y k e) (factor_kept (record { key = y; factor = f (factor_of P y) (factor_of Q y) }) (made ys) (absent y (made ys) (above_made y ys r.0)))
       by_key ih false e = factor_past (record { key = y; factor = f (factor_of P y) (factor_of Q y) }) (made ys) k e ∙ ih
 
   -- for each key the function of its two factors

@@ -6,9 +6,13 @@ use Rattle.std.proofs.Common.{arith, refl, sym, ap, ◌∙◌, subst, zero, suc}
 use native.Mathlib.Nat.{dvd-zero, dvd_antisymm, dvd-mul_left, dvd-mul_right, dvd-one, one-mul, mul_comm, mul_assoc}
 use Rattle.std.proofs.lemmas.Bool.Decides.{nat_tests}
 use borrow.Author.Differences.{ints}
-use Rattle.ae_math.specs.Fractions.{ratio, cancel}
+use Rattle.ae_math.specs.Fractions.{ratio}
+use Rattle.ae_math.specs.Inner.Respected.{cancel}
 use Rattle.ae_math.proofs.FractionLaws.{same_frac}
-use Rattle.ae_math.proofs.Divisors.{gcd_exists, coprime_parts, euclid, abs_times, mul_cancel, divisor_positive, whole_part as whole_times}
+use Rattle.ae_base.proofs.Integers.{size_same}
+use Rattle.std.proofs.lemmas.Int.{unsigned_abs-mul}
+use Rattle.ae_math.proofs.Divisors.{gcd_exists, coprime_parts, euclid, mul_cancel, divisor_positive, whole_part as whole_times}
+use Rattle.std.proofs.lemmas.Bool.{eqb-true}
 use Rattle.ae_num.specs.declared.forms.Part.{Part}
 use Rattle.ae_num.specs.declared.forms.Lin.{Lin}
 use Rattle.ae_num.specs.Forms.{meaning, SameMeaning, factor_of, AllAbove, IsRising, IsNormal, DividesAll, sizes}
@@ -38,12 +42,9 @@ NonZero ps = AllByRecursion (λ p. p.factor ≢ pos 0) ps
 tails : (p q : Part) (ps qs : List Part) → p.key ≡ q.key → AllAbove p.key ps → AllAbove q.key qs → ((k : ℕ) → factor_of (p ∷ ps) k ≡ factor_of (q ∷ qs) k) → (k : ℕ) → factor_of ps k ≡ factor_of qs k
 tails p q ps qs e a b h k = by_test (nat_eq p.key k) refl
   where
-    eq_means : (m n : ℕ) → nat_eq m n ≡ true → m ≡ n
-    eq_means m n h = grind (arith, nat_tests)
-
     by_test : (t : Bool) → nat_eq p.key k ≡ t → factor_of ps k ≡ factor_of qs k
     by_test true s =
-        let at = eq_means p.key k s in
+        let at = eqb-true p.key k s in
         ap (factor_of ps) (sym at) ∙ absent p.key ps a ∙ sym (absent q.key qs b) ∙ ap (factor_of qs) (sym e ∙ at)
     by_test false s =
         ap (λ t. cond t p.factor (factor_of ps k)) (sym s) ∙ h k ∙ ap (λ t. cond t q.factor (factor_of qs k)) (ap (λ j. nat_eq j k) (sym e) ∙ s)
@@ -70,7 +71,7 @@ ratio_cross a (pos (suc m)) b (negsuc n) p q e = absurd (omega (arith, ints))
 ratio_cross a (pos (suc m)) b (pos (suc n)) p q e = same_frac a b m n e
 
 sizes_cross : (a dp b dq : ℤ) → a *ℤ dq ≡ b *ℤ dp → unsigned_abs a * unsigned_abs dq ≡ unsigned_abs b * unsigned_abs dp
-sizes_cross a dp b dq e = sym (abs_times a dq) ∙ ap unsigned_abs e ∙ abs_times b dp
+sizes_cross a dp b dq e = sym (unsigned_abs-mul a dq) ∙ ap unsigned_abs e ∙ unsigned_abs-mul b dp
 
 cancel_size : (a b : ℤ) (d : ℤ) → pos 0 <ℤ d → a *ℤ d ≡ b *ℤ d → a ≡ b
 cancel_size a b (pos zero) p e = absurd (omega (arith, ints))
@@ -82,11 +83,11 @@ pub all_divide : (d : ℕ) (ps : List Part) → IsRising ps → ((k : ℕ) → d
 all_divide d [] r h = tt
 all_divide d (p ∷ ps) r h = (subst (λ z. d ∣ unsigned_abs z) (factor_head p ps) (h p.key), all_divide d ps r.1 (λ k. by_test k (nat_eq p.key k) refl))
   where
-    eq_means : (m n : ℕ) → nat_eq m n ≡ true → m ≡ n
-    eq_means m n h = grind (arith, nat_tests)
+    eqb-true : (m n : ℕ) → nat_eq m n ≡ true → m ≡ n
+    eqb-true m n h = grind (arith, nat_tests)
 
     by_test : (k : ℕ) (t : Bool) → nat_eq p.key k ≡ t → d ∣ unsigned_abs (factor_of ps k)
-    by_test k true s = subst (λ z. d ∣ unsigned_abs z) (sym (ap (factor_of ps) (sym (eq_means p.key k s)) ∙ absent p.key ps r.0)) (dvd-zero d)
+    by_test k true s = subst (λ z. d ∣ unsigned_abs z) (sym (ap (factor_of ps) (sym (eqb-true p.key k s)) ∙ absent p.key ps r.0)) (dvd-zero d)
     by_test k false s = subst (λ t. d ∣ unsigned_abs (cond t p.factor (factor_of ps k))) s (h k)
 
 regroup : (a e g : ℕ) → a * (e * g) ≡ a * e * g
@@ -123,11 +124,6 @@ positive_size (pos zero) p = absurd (omega (arith, ints))
 positive_size (pos (suc n)) p = (n, refl)
 positive_size (negsuc n) p = absurd (omega (arith, ints))
 
-same_size : (a b : ℤ) → pos 0 <ℤ a → pos 0 <ℤ b → unsigned_abs a ≡ unsigned_abs b → a ≡ b
-same_size (pos m) (pos n) p q e = ap pos e
-same_size (pos m) (negsuc n) p q e = absurd (omega (arith, ints))
-same_size (negsuc m) b p q e = absurd (omega (arith, ints))
-
 pub unique : (p q : Lin) → IsNormal p → IsNormal q → SameMeaning (meaning p) (meaning q) → p ≡ q
 unique p q np nq s =
     let cross : (k : ℕ) → factor_of p.parts k *ℤ q.den ≡ factor_of q.parts k *ℤ p.den =
@@ -137,7 +133,7 @@ unique p q np nq s =
     let qs = positive_size q.den nq.positive in
     let there = den_divides p q np nq (λ k. sizes_cross (factor_of p.parts k) p.den (factor_of q.parts k) q.den (cross k)) (sizes_cross p.constant p.den q.constant q.den crossed) ps.0 ps.1 in
     let back = den_divides q p nq np (λ k. sym (sizes_cross (factor_of p.parts k) p.den (factor_of q.parts k) q.den (cross k))) (sym (sizes_cross p.constant p.den q.constant q.den crossed)) qs.0 qs.1 in
-    let dens : p.den ≡ q.den = same_size p.den q.den np.positive nq.positive (dvd_antisymm there back) in
+    let dens : p.den ≡ q.den = size_same p.den q.den (let a = np.positive in omega (arith, ints)) (let a = nq.positive in omega (arith, ints)) (dvd_antisymm there back) in
     let factors : (k : ℕ) → factor_of p.parts k ≡ factor_of q.parts k =
     λ k. cancel_size (factor_of p.parts k) (factor_of q.parts k) p.den np.positive (ap (λ d. factor_of p.parts k *ℤ d) dens ∙ cross k) in
     let constants : p.constant ≡ q.constant = cancel_size p.constant q.constant p.den np.positive (ap (λ d. p.constant *ℤ d) dens ∙ crossed) in

@@ -9,10 +9,10 @@ use Rattle.ae_num.specs.declared.forms.Part.{Part}
 use Rattle.ae_num.specs.declared.pairs.Pair.{Pair}
 use Rattle.ae_num.specs.declared.sums.Combination.{Combination}
 use Rattle.ae_num.specs.declared.sums.Combination.TheVariants.{Sum as SumRule, Substitution, Multiple}
-use Rattle.ae_num.specs.Limits.{IsWithin}
+use Rattle.ae_num.specs.Limits.{FitsLimits}
 use Rattle.ae_num.specs.Forms.{Step, Product, Sum, outcome, is_wide, wide_of, first_wide, crossed, factor_of, keys_of, has_key, others, IsRising, sizes, plus_steps, scale_steps, subst_steps}
-use Rattle.ae_num.specs.Pairs.{pair_at, pairs_of, combined, outcome_of, steps_of, all_steps}
-use Rattle.ae_num.specs.Reduction.{whole_of, whole_steps}
+use Rattle.ae_num.specs.Inner.Pairs.{pair_at, pairs_of, combined, outcome_of, steps_of, all_steps}
+use Rattle.ae_num.specs.Inner.Reduction.{whole_of, whole_steps}
 use Rattle.ae_num.proofs.StepLaws.{first_wide-none, first_wide-some}
 use Rattle.ae_num.proofs.PairLaws.{only_left}
 use Rattle.ae_num.proofs.SumLaws.{AllWithin, within_kept, NonZero, combined_rising, combined_nonzero}
@@ -73,16 +73,16 @@ pub scale_stated : (top bottom : ℤ) (p : Lin) → IsRising p.parts → scale_s
 scale_stated top bottom p r = ap (λ t. Product p.den bottom ∷ t ++ Product p.constant top ∷ []) (scale_parts top p.parts r)
 
 -- ---- where no step is wide the numbers are within the limits
-inside : (s : Step) → is_wide s ≡ false → IsWithin (outcome s)
+inside : (s : Step) → is_wide s ≡ false → FitsLimits (outcome s)
 inside s e = below_limit (2 ^ 127) (unsigned_abs (outcome s)) e
   where
     below_limit : (m n : ℕ) → nat_le m n ≡ false → n < m
     below_limit m n h = grind (arith, nat_tests)
 
-head_fits : (s : Step) (ss : List Step) → first_wide (s ∷ ss) ≡ None → IsWithin (outcome s) × (first_wide ss ≡ None)
+head_fits : (s : Step) (ss : List Step) → first_wide (s ∷ ss) ≡ None → FitsLimits (outcome s) × (first_wide ss ≡ None)
 head_fits s ss = by_test (is_wide s) refl
   where
-    by_test : (b : Bool) → is_wide s ≡ b → cond b (Some (wide_of s)) (first_wide ss) ≡ None → IsWithin (outcome s) × (first_wide ss ≡ None)
+    by_test : (b : Bool) → is_wide s ≡ b → cond b (Some (wide_of s)) (first_wide ss) ≡ None → FitsLimits (outcome s) × (first_wide ss ≡ None)
     by_test true e h = cc
     by_test false e h = (inside s e, h)
 
@@ -94,7 +94,7 @@ both_fit (x ∷ xs) ys h =
       | false ↦ λ e. both_fit xs ys e
     ] h
 
-outcome_within : (m : Combination) (a b : ℤ) → first_wide (steps_of m a b) ≡ None → IsWithin (outcome_of m a b)
+outcome_within : (m : Combination) (a b : ℤ) → first_wide (steps_of m a b) ≡ None → FitsLimits (outcome_of m a b)
 outcome_within (SumRule by other) a b h = (head_fits (Sum (a *ℤ by) (b *ℤ other)) [] (head_fits (Product b other) (Sum (a *ℤ by) (b *ℤ other) ∷ []) (head_fits (Product a by) (Product b other ∷ Sum (a *ℤ by) (b *ℤ other) ∷ []) h).1).1).0
 outcome_within (Substitution by factor) a b h = (head_fits (Sum (a *ℤ by) (factor *ℤ b)) [] (head_fits (Product factor b) (Sum (a *ℤ by) (factor *ℤ b) ∷ []) (head_fits (Product a by) (Product factor b ∷ Sum (a *ℤ by) (factor *ℤ b) ∷ []) h).1).1).0
 outcome_within (Multiple by) a b h = (head_fits (Product a by) [] h).0

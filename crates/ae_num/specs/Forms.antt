@@ -3,7 +3,7 @@ use Rattle.std.specs.Prelude.{ℕ, zero, suc, ℤ, pos, ◌*ℤ◌, ◌+ℤ◌, 
 use Rattle.std.specs.List.{flat_map, list_all, AllByRecursion}
 use Rattle.std.specs.Int.RustNames.{int_div}
 use lib.IntN.{ℤ_discrete}
-use Rattle.ae_math.specs.Choices.{pick}
+use Rattle.ae_base.specs.Decided.{pick}
 use Rattle.std.specs.Int.{◌∣◌}
 use native.Mathlib.Decide.{ℕ_discrete}
 use Rattle.ae_math.specs.Fractions.{ratio}

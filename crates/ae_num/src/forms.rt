@@ -4,9 +4,9 @@ ghost use Rattle.std.specs.Prelude.{◌≡◌, None, Some, pos, true, false, [],
 ghost use Rattle.ae_math.specs.Fractions.{ratio};
 ghost use Rattle.ae_math.specs.Forms.{plus as sum_of_forms, scale as multiple, number, substitute};
 ghost use Rattle.ae_num.specs.Forms.{meaning, SameMeaning, IsNormal, IsRising, Product, first_wide, IfWide, plus_steps, scale_steps, subst_steps, has_key, factor_of, others, lowest, sum_of, multiple_of};
-ghost use Rattle.ae_num.specs.Reduction.{whole_of, whole_steps, Reduced};
+ghost use Rattle.ae_num.specs.Inner.Reduction.{whole_of, whole_steps, Reduced};
 ghost use Rattle.ae_num.specs.declared.sums.Combination.TheVariants.{Sum, Substitution, Multiple};
-ghost use Rattle.ae_num.specs.Limits.{IsWithin};
+ghost use Rattle.ae_num.specs.Limits.{FitsLimits};
 ghost use native.Mathlib.Decide.{ℕ_discrete};
 
 use crate::numbers::{NumFail, Wide, gcd, mul};
@@ -110,8 +110,8 @@ pub fn zero(alloc: Global) -> Lin
 /// The number `top / bottom`, in the normal form.
 pub fn fraction(alloc: Global, top: i128, bottom: i128) -> Lin
     requires bottom { pos 0 <ℤ bottom }
-    requires top_within { IsWithin top }
-    requires bottom_within { IsWithin bottom }
+    requires top_within { FitsLimits top }
+    requires bottom_within { FitsLimits bottom }
     ensures form { result ≡ lowest (record { den = bottom; parts = []; constant = top }) }
     ensures normal { IsNormal result }
     ensures meaning { SameMeaning (meaning result) (number (ratio top bottom)) }

@@ -2,7 +2,7 @@
 
 ghost use Rattle.std.specs.Prelude.{◌≡◌, ◌*ℤ◌, ◌+ℤ◌, ◌≤ℤ◌, pos, unsigned_abs, IfOk, OnOk, IfErr, OnErr};
 ghost use Rattle.std.specs.Int.{IsGcd};
-ghost use Rattle.ae_num.specs.Limits.{IsWithin};
+ghost use Rattle.ae_num.specs.Limits.{FitsLimits};
 ghost use Rattle.ae_num.specs.declared.numbers.NumOp.TheVariants.{Mul, Add};
 ghost use Rattle.ae_num.specs.declared.numbers.NumFail.TheVariants.{Wide as WideFail, Memory};
 
@@ -54,9 +54,9 @@ impl From<AllocError> for NumFail {
 /// The product of two numbers; `Wide` with both where it is outside the limits.
 pub fn mul(left: i128, right: i128) -> Result<i128, Wide>
     ensures exact { IfOk result (λ product. product ≡ left *ℤ right) }
-    ensures within { OnOk result (IsWithin (left *ℤ right)) }
+    ensures within { OnOk result (FitsLimits (left *ℤ right)) }
     ensures operands { IfErr result (λ wide. wide ≡ record { op = Mul; left = left; right = right }) }
-    ensures outside { OnErr result (¬ IsWithin (left *ℤ right)) }
+    ensures outside { OnErr result (¬ FitsLimits (left *ℤ right)) }
 {
     match left.checked_mul(right) {
         Some(product) if product != i128::MIN => Ok(product),
@@ -71,9 +71,9 @@ pub fn mul(left: i128, right: i128) -> Result<i128, Wide>
 /// The sum of two numbers; `Wide` with both where it is outside the limits.
 pub fn add(left: i128, right: i128) -> Result<i128, Wide>
     ensures exact { IfOk result (λ sum. sum ≡ left +ℤ right) }
-    ensures within { OnOk result (IsWithin (left +ℤ right)) }
+    ensures within { OnOk result (FitsLimits (left +ℤ right)) }
     ensures operands { IfErr result (λ wide. wide ≡ record { op = Add; left = left; right = right }) }
-    ensures outside { OnErr result (¬ IsWithin (left +ℤ right)) }
+    ensures outside { OnErr result (¬ FitsLimits (left +ℤ right)) }
 {
     match left.checked_add(right) {
         Some(sum) if sum != i128::MIN => Ok(sum),
@@ -87,11 +87,11 @@ pub fn add(left: i128, right: i128) -> Result<i128, Wide>
 
 /// The greatest common divisor of two numbers within the limits, which is 0 for two zeros.
 pub fn gcd(left: i128, right: i128) -> i128
-    requires left { IsWithin left }
-    requires right { IsWithin right }
+    requires left { FitsLimits left }
+    requires right { FitsLimits right }
     ensures divisor { IsGcd (unsigned_abs left) (unsigned_abs right) (unsigned_abs result) }
     ensures sign { pos 0 ≤ℤ result }
-    ensures within { IsWithin result }
+    ensures within { FitsLimits result }
 {
     let mut divisor = left.unsigned_abs();
     let mut rest = right.unsigned_abs();

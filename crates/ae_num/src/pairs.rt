@@ -2,7 +2,7 @@
 
 ghost use Rattle.std.specs.Prelude.{◌≡◌, ◌<◌, ◌≤◌, ◌+◌, [], ◌∷◌, drop, length, IfOk, IfNone, IfSome, pos};
 ghost use Rattle.ae_num.specs.Forms.{IsRising};
-ghost use Rattle.ae_num.specs.Pairs.{pairs_of};
+ghost use Rattle.ae_num.specs.Inner.Pairs.{pairs_of};
 
 use crate::forms::{Name, Part};
 use sqlite_items::{Items, at};

@@ -3,7 +3,7 @@
 ghost use Rattle.std.specs.Prelude.{◌≡◌, ◌≢◌, pos, ◌<◌, ◌^◌, ◌<ℤ◌, ◌≤ℤ◌, unsigned_abs, IfOk};
 ghost use Rattle.std.specs.List.{AllByRecursion};
 ghost use Rattle.ae_num.specs.Forms.{sizes, IsCommonDivisor, IsRising, IsNormal, divided, lowest};
-ghost use Rattle.ae_num.specs.Reduction.{Reduced};
+ghost use Rattle.ae_num.specs.Inner.Reduction.{Reduced};
 
 use crate::forms::{Lin, Part};
 use crate::numbers::gcd;

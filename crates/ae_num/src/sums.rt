@@ -2,7 +2,7 @@
 
 ghost use Rattle.std.specs.Prelude.{◌≡◌, None, Some, ◌*ℤ◌, ◌+ℤ◌, ◌∷◌, ◌++◌, [], IfOk, OnOk, IfErr};
 ghost use Rattle.ae_num.specs.Forms.{crossed, first_wide, IfWide};
-ghost use Rattle.ae_num.specs.Pairs.{kept, combined, outcome_of, steps_of, all_steps};
+ghost use Rattle.ae_num.specs.Inner.Pairs.{kept, combined, outcome_of, steps_of, all_steps};
 
 use crate::forms::Part;
 use crate::numbers::{NumFail, Wide, add, mul};

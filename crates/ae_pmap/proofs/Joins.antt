@@ -1,6 +1,6 @@
 use Rattle.std.proofs.Common.{◌≡◌, ℕ, ◌+◌, ◌≤◌, append_assoc, arith, refl}
 use Rattle.ae_pmap.specs.Trees.{Tree, Fork, levels}
-use Rattle.ae_pmap.specs.Nodes.{IsJoined}
+use Rattle.ae_pmap.specs.Inner.Nodes.{IsJoined}
 
 -- a fork over two trees of nearly one height
 pub joined-fork : (l r : Tree) (key value : ℕ) → levels l ≤ levels r + 1 → levels r ≤ levels l + 1 → IsJoined l key value r (Fork l key value r)

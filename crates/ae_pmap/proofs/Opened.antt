@@ -1,7 +1,8 @@
 use Rattle.std.proofs.Common.{◌≡◌, ℕ, ◌+◌, ◌-◌, ◌<◌, ◌≤◌, List, length, get_or, sym, subst, arith}
 use Rattle.ae_pmap.specs.declared.nodes.Node.{Node}
 use Rattle.ae_pmap.specs.Trees.{Fork, levels}
-use Rattle.ae_pmap.specs.Nodes.{tree_at, IsSound}
+use Rattle.ae_pmap.specs.Nodes.{tree_at}
+use Rattle.ae_pmap.specs.Inner.Nodes.{IsSound}
 
 -- the node at a place
 pub record Opened (nodes : List Node) (place : ℕ) (n : Node) : Type 0 where

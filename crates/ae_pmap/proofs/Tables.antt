@@ -1,5 +1,4 @@
-use Rattle.std.proofs.Common.{◌≡◌, ℕ, ◌+◌, ◌<◌, ◌≤◌, List, [], ◌∷◌, ◌++◌, length, zero, suc, get_or, refl, ◌∙◌, subst, max, arith, length-append}
-use Rattle.std.proofs.Common.{inl, inr}
+use Rattle.std.proofs.Common.{◌≡◌, ℕ, ◌+◌, ◌<◌, ◌≤◌, List, [], ◌∷◌, ◌++◌, length, zero, suc, get_or, refl, ◌∙◌, subst, max, arith, length-append, inl, inr}
 use Rattle.std.specs.List.{fold}
 use Rattle.std.proofs.Math.ListN.{get_or-append}
 use Rattle.std.proofs.Math.Seq.{get_or-append_seam}
@@ -7,7 +6,8 @@ use Rattle.std.proofs.lemmas.List.Sums.{fold_push}
 use Rattle.std.proofs.lemmas.Bool.{cases_lt}
 use Rattle.ae_pmap.specs.declared.nodes.Node.{Node}
 use Rattle.ae_pmap.specs.Trees.{Tree, Leaf, Fork, levels, IsBalanced}
-use Rattle.ae_pmap.specs.Nodes.{with_node, trees_of, tree_at, IsSoundNode, IsSound, Keeps}
+use Rattle.ae_pmap.specs.Nodes.{with_node, trees_of, tree_at}
+use Rattle.ae_pmap.specs.Inner.Nodes.{IsSoundNode, IsSound, Keeps}
 
 -- what stands over the two children of a node
 abbrev pub fork_of : List Node → Node → Tree

@@ -1,7 +1,8 @@
 use Rattle.std.proofs.Common.{◌≡◌, ℕ, ◌+◌, ◌<◌, ◌≤◌, List, length, subst, arith}
 use Rattle.ae_pmap.specs.declared.nodes.Node.{Node}
 use Rattle.ae_pmap.specs.Trees.{Tree, Fork, levels, IsBalanced}
-use Rattle.ae_pmap.specs.Nodes.{tree_at, Keeps, IsJoined}
+use Rattle.ae_pmap.specs.Nodes.{tree_at}
+use Rattle.ae_pmap.specs.Inner.Nodes.{Keeps, IsJoined}
 use Rattle.ae_pmap.proofs.Opened.{Opened}
 use Rattle.ae_pmap.proofs.Joins.{joined-right, joined-left, joined-right_twice, joined-left_twice}
 

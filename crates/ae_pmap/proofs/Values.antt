@@ -1,13 +1,13 @@
 use Rattle.std.proofs.Common.{◌≡◌, ℕ, ◌<◌, ◌≤◌, List, [], ◌∷◌, ◌++◌, length, refl, sym, ◌∙◌, ap, arith, Option, Some, None, is_some, true, false, get_or, slice_get, length-append, inl, inr}
 use Rattle.std.proofs.lemmas.Bool.{cases_eq, cases_order}
 use Rattle.std.proofs.lemmas.Bool.Decides.{nat_tests}
-use Rattle.std.proofs.lemmas.Option.{slice_get-get_or, slice_get_read}
-use Rattle.std.proofs.Math.ListN.{get_or-append}
-use Rattle.std.proofs.Math.Seq.{get_or-append_seam}
+use Rattle.std.proofs.lemmas.Option.{slice_get_read}
+use Rattle.ae_base.proofs.ListFacts.{value_at, get_before, get_seam}
 use Rattle.ae_pmap.specs.declared.nodes.Node.{Node}
 use Rattle.ae_pmap.specs.Pairs.{found, put_in, take_out, with_at, AllAbove, Rises}
 use Rattle.ae_pmap.specs.Trees.{pairs}
-use Rattle.ae_pmap.specs.Nodes.{tree_at, Keeps}
+use Rattle.ae_pmap.specs.Nodes.{tree_at}
+use Rattle.ae_pmap.specs.Inner.Nodes.{Keeps}
 use Rattle.ae_pmap.specs.Forest.{Forest, with_value, valued, map_at, present, AllNamed, IsRoot, Lasts}
 use Rattle.ae_pmap.proofs.PairLemmas.{put_rises, out_rises}
 
@@ -25,10 +25,6 @@ found_out key q [] h = grind (arith, nat_tests)
 found_out key q (p ∷ ps) h = grind (arith, nat_tests, found_out key q ps h.1, found_none p.0 ps h.0)
 
 -- values and their places
-named_value : {V : Type 0} (xs : List V) (i : ℕ) → i < length xs → (v : V) × (slice_get xs i ≡ Some v)
-named_value [] i h = absurd (omega arith)
-named_value (x ∷ xs) i h = (get_or (x ∷ xs) i x, slice_get-get_or (x ∷ xs) i x h)
-
 abbrev pub read : {V : Type 0} → List V → Option ℕ → Option V
 read xs None = None
 read xs (Some place) = slice_get xs place
@@ -49,17 +45,10 @@ named_out : (n key : ℕ) (ps : List (ℕ × ℕ)) → AllNamed n ps → AllName
 named_out n key [] h = tt
 named_out n key (q ∷ ps) h = grind (arith, nat_tests, named_out n key ps h.1, h.0, h.1)
 
-read_more : {V : Type 0} (xs : List V) (v : V) (i : ℕ) → i < length xs → slice_get (xs ++ v ∷ []) i ≡ slice_get xs i
-read_more xs v i h =
-    slice_get-get_or (xs ++ v ∷ []) i v (omega (arith, length-append xs (v ∷ []))) ∙ (ap Some (get_or-append xs (v ∷ []) v i h) ∙ sym (slice_get-get_or xs i v h))
-
-read_last : {V : Type 0} (xs : List V) (v : V) → slice_get (xs ++ v ∷ []) (length xs) ≡ Some v
-read_last xs v = slice_get-get_or (xs ++ v ∷ []) (length xs) v (omega (arith, length-append xs (v ∷ []))) ∙ ap Some (get_or-append_seam xs v [] v)
-
 -- one more value changes no map
 valued_more : {V : Type 0} (xs : List V) (v : V) (ps : List (ℕ × ℕ)) → AllNamed (length xs) ps → valued (xs ++ v ∷ []) ps ≡ valued xs ps
 valued_more xs v [] h = refl
-valued_more xs v (q ∷ ps) h = rw (read_more xs v q.1 h.0, valued_more xs v ps h.1) refl
+valued_more xs v (q ∷ ps) h = rw (get_before xs (v ∷ []) q.1 h.0, valued_more xs v ps h.1) refl
 
 pub valued_step : {V : Type 0} (xs : List V) (p : ℕ × ℕ) (ps : List (ℕ × ℕ)) (v : V) → slice_get xs p.1 ≡ Some v → valued xs (p ∷ ps) ≡ (p.0, v) ∷ valued xs ps
 valued_step xs p ps v e = ap (λ (o : Option _). with_value p.0 o (valued xs ps)) e
@@ -67,19 +56,19 @@ valued_step xs p ps v e = ap (λ (o : Option _). with_value p.0 o (valued xs ps)
 found_valued : {V : Type 0} (xs : List V) (key : ℕ) (ps : List (ℕ × ℕ)) → AllNamed (length xs) ps → found (valued xs ps) key ≡ read xs (found ps key)
 found_valued xs key [] h = refl
 found_valued xs key (q ∷ ps) h =
-    let (v, e) = named_value xs q.1 h.0 in
+    let (v, e) = value_at xs q.1 h.0 in
     rw (valued_step xs q ps v e) (elim (cases_eq q.0 key) as (λ _. found ((q.0, v) ∷ valued xs ps) key ≡ read xs (found (q ∷ ps) key)) [
       | inl i ↦ grind (arith, nat_tests)
       | inr d ↦ grind (arith, nat_tests, found_valued xs key ps h.1)
     ])
 
 pub valued_put : {V : Type 0} (xs : List V) (key : ℕ) (v : V) (ps : List (ℕ × ℕ)) → AllNamed (length xs) ps → valued (xs ++ v ∷ []) (put_in key (length xs) ps) ≡ put_in key v (valued xs ps)
-valued_put xs key v [] h = rw (read_last xs v) refl
+valued_put xs key v [] h = rw (get_seam xs [] v) refl
 valued_put {V} xs key v (q ∷ ps) h =
-    let (u, e) = named_value xs q.1 h.0 in
-    let a : slice_get (xs ++ v ∷ []) (length xs) ≡ Some v = read_last xs v in
+    let (u, e) = value_at xs q.1 h.0 in
+    let a : slice_get (xs ++ v ∷ []) (length xs) ≡ Some v = get_seam xs [] v in
     let b : valued (xs ++ v ∷ []) ps ≡ valued xs ps = valued_more xs v ps h.1 in
-    let d : slice_get (xs ++ v ∷ []) q.1 ≡ Some u = read_more xs v q.1 h.0 ∙ e in
+    let d : slice_get (xs ++ v ∷ []) q.1 ≡ Some u = get_before xs (v ∷ []) q.1 h.0 ∙ e in
     rw (valued_step xs q ps u e) (elim (cases_order key q.0) as (λ _. valued (xs ++ v ∷ []) (put_in key (length xs) (q ∷ ps)) ≡ put_in key v ((q.0, u) ∷ valued xs ps)) [
       | inl i ↦ grind (arith, nat_tests, a, b)
       | inr o ↦ elim o as (λ _. valued (xs ++ v ∷ []) (put_in key (length xs) (q ∷ ps)) ≡ put_in key v ((q.0, u) ∷ valued xs ps)) [
@@ -91,7 +80,7 @@ valued_put {V} xs key v (q ∷ ps) h =
 pub valued_out : {V : Type 0} (xs : List V) (key : ℕ) (ps : List (ℕ × ℕ)) → AllNamed (length xs) ps → valued xs (take_out key ps) ≡ take_out key (valued xs ps)
 valued_out xs key [] h = refl
 valued_out xs key (q ∷ ps) h =
-    let (u, e) = named_value xs q.1 h.0 in
+    let (u, e) = value_at xs q.1 h.0 in
     rw (valued_step xs q ps u e) (elim (cases_eq q.0 key) as (λ _. valued xs (take_out key (q ∷ ps)) ≡ take_out key ((q.0, u) ∷ valued xs ps)) [
       | inl i ↦ grind (arith, nat_tests)
       | inr d ↦ grind (arith, nat_tests, e, valued_out xs key ps h.1)
@@ -99,11 +88,11 @@ valued_out xs key (q ∷ ps) h =
 
 above_valued : {V : Type 0} (xs : List V) (k : ℕ) (ps : List (ℕ × ℕ)) → AllNamed (length xs) ps → AllAbove k ps → AllAbove k (valued xs ps)
 above_valued xs k [] h a = tt
-above_valued xs k (q ∷ ps) h a = let (u, e) = named_value xs q.1 h.0 in rw (valued_step xs q ps u e) (a.0, above_valued xs k ps h.1 a.1)
+above_valued xs k (q ∷ ps) h a = let (u, e) = value_at xs q.1 h.0 in rw (valued_step xs q ps u e) (a.0, above_valued xs k ps h.1 a.1)
 
 pub rises_valued : {V : Type 0} (xs : List V) (ps : List (ℕ × ℕ)) → AllNamed (length xs) ps → Rises ps → Rises (valued xs ps)
 rises_valued xs [] h a = tt
-rises_valued xs (q ∷ ps) h a = let (u, e) = named_value xs q.1 h.0 in rw (valued_step xs q ps u e) (above_valued xs q.0 ps h.1 a.0, rises_valued xs ps h.1 a.1)
+rises_valued xs (q ∷ ps) h a = let (u, e) = value_at xs q.1 h.0 in rw (valued_step xs q ps u e) (above_valued xs q.0 ps h.1 a.0, rises_valued xs ps h.1 a.1)
 
 -- taking out what isn't there
 pub out_absent : {A : Type 0} (key : ℕ) (ps : List (ℕ × A)) → found ps key ≡ None → take_out key ps ≡ ps
@@ -185,7 +174,7 @@ none_found f nodes key (Some place) n e t h = cc
 pub some_found : {V : Type 0} (f : Forest V) (nodes : List Node) (key : ℕ) (o : Option ℕ) → nodes ≡ f.nodes → o ≡ found (pairs (tree_at nodes f.root)) key → is_some o ≡ true → IsRoot f f.root → found (present f) key ≡ None → ⊥
 some_found f nodes key None n e t h a = cc
 some_found f nodes key (Some place) n e t h a =
-    let (v, s) = named_value f.values place (got_within f nodes key place n e h) in
+    let (v, s) = value_at f.values place (got_within f nodes key place n e h) in
     let k : found (pairs (tree_at f.nodes f.root)) key ≡ Some place = sym (e ∙ ap (λ (w : List Node). found (pairs (tree_at w f.root)) key) n) in
     let b : Some v ≡ None = sym (found_present f key h ∙ (ap (read f.values) k ∙ s)) ∙ a in cc
 

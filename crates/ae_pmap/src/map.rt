@@ -25,7 +25,7 @@ pub struct Pmap<V: Drop> {
 impl<V: Drop> Model for Pmap<V> {
     ghost use Rattle.std.specs.Prelude.{length, ℕ, List};
     ghost use Rattle.ae_pmap.specs.Forest.{Forest, IsRoot};
-    ghost use Rattle.ae_pmap.specs.Nodes.{IsSound};
+    ghost use Rattle.ae_pmap.specs.Inner.Nodes.{IsSound};
 
     ghost Value = { Forest V };
 
@@ -41,8 +41,6 @@ pub struct Version {
 }
 
 impl Model for Version {
-    ghost use Rattle.std.specs.Prelude.{ℕ};
-
     ghost Value = { ℕ };
 
     ghost view = { λ v. v.root };

@@ -2,7 +2,8 @@
 ghost use Rattle.std.specs.Prelude.{◌≡◌, ℕ, ◌+◌, ◌<◌, ◌≤◌, max, ◌↔◌, ◌++◌, ◌∷◌, length, IfOk, IsTrue};
 ghost use Rattle.ae_pmap.specs.Pairs.{found, put_in, take_out, Rises};
 ghost use Rattle.ae_pmap.specs.Trees.{Tree, Fork, pairs, levels};
-ghost use Rattle.ae_pmap.specs.Nodes.{tree_at, IsSound, Keeps, IsJoined};
+ghost use Rattle.ae_pmap.specs.Nodes.{tree_at};
+ghost use Rattle.ae_pmap.specs.Inner.Nodes.{IsSound, Keeps, IsJoined};
 ghost use Rattle.ae_pmap.specs.Walk.{left_after, first_of, IsPast};
 
 use std::alloc::{AllocError, Global};

@@ -22,7 +22,8 @@ impl<'a, V> Model for Walk<'a, V> {
     ghost Value = { List (ℕ × V) };
 
     ghost use Rattle.ae_pmap.specs.Trees.{pairs};
-    ghost use Rattle.ae_pmap.specs.Nodes.{tree_at, IsSound};
+    ghost use Rattle.ae_pmap.specs.Nodes.{tree_at};
+    ghost use Rattle.ae_pmap.specs.Inner.Nodes.{IsSound};
     ghost use Rattle.ae_pmap.specs.Forest.{valued, IsRoot};
     ghost use Rattle.ae_pmap.specs.Walk.{left_after};
 

@@ -2,7 +2,8 @@ use Rattle.std.proofs.Common.{◌≡◌, ◌+◌, ◌≤◌, ℕ, List, ◌++◌
 use Rattle.std.specs.List.Sorted.{IsNonDecreasing}
 use Rattle.ae_multiset.specs.Multisets.{count}
 use Rattle.ae_multiset.proofs.Counts.{count-append}
-use Rattle.ae_multiset.proofs.Merging.{Merging, begun, ends_by_both, ends_rising, from_place, take_left, take_right}
+use Rattle.ae_multiset.proofs.Merging.{Merging, begun, ends_by_both, ends_rising, take_left, take_right}
+use Rattle.ae_base.proofs.ListFacts.{take_rest}
 use Rattle.ae_multiset.proofs.addition.sum.Goals.{then-loop-i-test+else-j-right, else-loop-i-test}
 use Rattle.ae_multiset.proofs.addition.sum.Goals as goal
 
@@ -27,8 +28,8 @@ over c = elim c.loop-i-test.branch [ then-loop-i-test+else-j-right w ↦ inr w.i
 made : (c : goal.In_ok-extend_from_slice-2) → c.extend_from_slice-2.new.self.items ≡ (c.loop-i.merged.items ++ drop c.loop-i.i c.args.left.now) ++ drop c.loop-i.j c.args.right.now
 made c =
     let l : c.extend_from_slice.new.self.items ≡ c.loop-i.merged.items ++ drop c.loop-i.i c.args.left.now =
-    c.in_ok-extend_from_slice.ensures.items ∙ ap (λ (w : List ℕ). c.loop-i.merged.items ++ w) (from_place c.args.left.now c.loop-i.i) in
-    c.in_ok-extend_from_slice-2.ensures.items ∙ (ap (λ (w : List ℕ). c.extend_from_slice.new.self.items ++ w) (from_place c.args.right.now c.loop-i.j) ∙ ap (λ (w : List ℕ). w ++ drop c.loop-i.j c.args.right.now) l)
+    c.in_ok-extend_from_slice.ensures.items ∙ ap (λ (w : List ℕ). c.loop-i.merged.items ++ w) (take_rest c.args.left.now c.loop-i.i) in
+    c.in_ok-extend_from_slice-2.ensures.items ∙ (ap (λ (w : List ℕ). c.extend_from_slice.new.self.items ++ w) (take_rest c.args.right.now c.loop-i.j) ∙ ap (λ (w : List ℕ). w ++ drop c.loop-i.j c.args.right.now) l)
 
 pub returns-clause-names : goal.returns-clause-names
 returns-clause-names c = record {

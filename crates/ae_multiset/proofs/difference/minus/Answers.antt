@@ -3,7 +3,8 @@ use Rattle.std.specs.List.Sorted.{IsNonDecreasing}
 use Rattle.ae_multiset.specs.Multisets.{count}
 use Rattle.ae_multiset.proofs.Counts.{count-minus}
 use Rattle.ae_multiset.proofs.Rising.{non_decreasing}
-use Rattle.ae_multiset.proofs.Merging.{Merging, begun, ends_by_left, equal_dropped, from_place, greater_dropped, less_taken}
+use Rattle.ae_multiset.proofs.Merging.{Merging, begun, ends_by_left, equal_dropped, greater_dropped, less_taken}
+use Rattle.ae_base.proofs.ListFacts.{take_rest}
 use Rattle.ae_multiset.proofs.difference.minus.Goals.{then-loop-i-test+else-j-right, else-loop-i-test}
 use Rattle.ae_multiset.proofs.difference.minus.Goals as goal
 
@@ -25,7 +26,7 @@ over : (c : goal.In_ok-extend_from_slice) → (length c.args.left.now ≤ c.loop
 over c = elim c.loop-i-test.branch [ then-loop-i-test+else-j-right w ↦ inr w.if-j-right.false | else-loop-i-test w ↦ inl w.loop-i-test.false ]
 
 made : (c : goal.In_ok-extend_from_slice) → c.extend_from_slice.new.self.items ≡ c.loop-i.merged.items ++ drop c.loop-i.i c.args.left.now
-made c = c.in_ok-extend_from_slice.ensures.items ∙ ap (λ (w : List ℕ). c.loop-i.merged.items ++ w) (from_place c.args.left.now c.loop-i.i)
+made c = c.in_ok-extend_from_slice.ensures.items ∙ ap (λ (w : List ℕ). c.loop-i.merged.items ++ w) (take_rest c.args.left.now c.loop-i.i)
 
 pub returns-clause-names : goal.returns-clause-names
 returns-clause-names c = record {

@@ -5,8 +5,9 @@ use Rattle.ae_num.specs.declared.forms.Lin.{Lin}
 use Rattle.ae_num.specs.declared.sums.Combination.{Combination}
 use Rattle.ae_num.specs.declared.sums.Combination.TheVariants.{Sum}
 use Rattle.ae_num.specs.Forms.{meaning, SameMeaning, IsNormal, first_wide, IfWide, lowest, sum_of}
-use Rattle.ae_num.specs.Reduction.{Reduced, whole_of, whole_steps}
-use Rattle.ae_num.proofs.StepLaws.{if_ok, if_both}
+use Rattle.ae_num.specs.Inner.Reduction.{Reduced, whole_of, whole_steps}
+use Rattle.std.proofs.lemmas.Result.{IfOk-weaker}
+use Rattle.ae_base.proofs.Results.{if_ok_both}
 use Rattle.ae_num.proofs.MeaningLaws.{plus_means}
 use Rattle.ae_num.proofs.WholeLaws.{plus_stated}
 use Rattle.ae_num.proofs.LowestLaws.{sum_made}
@@ -16,7 +17,7 @@ pub returns-clause-exact : goal.returns-clause-exact
 returns-clause-exact c =
     let p = c.args.left.now in
     let q = c.args.right.now in
-    if_both c.made.result (Reduced (whole_of c.sum_rule.result p q)) IsNormal (λ f. SameMeaning (meaning f) (plus (meaning p) (meaning q)))
+    if_ok_both c.made.result (Reduced (whole_of c.sum_rule.result p q)) IsNormal (λ f. SameMeaning (meaning f) (plus (meaning p) (meaning q)))
     (λ (f : Lin) r n. plus_means p q (whole_of (Sum q.den p.den) p q) f refl (subst (λ (m : Combination). Reduced (whole_of m p q) f) c.sum_rule.ensures r) n c.requires.left c.requires.right)
     c.made.ensures.exact c.made.ensures.normal
 
@@ -24,7 +25,7 @@ pub returns-clause-form : goal.returns-clause-form
 returns-clause-form c =
     let p = c.args.left.now in
     let q = c.args.right.now in
-    if_ok c.made.result (λ f. f ≡ lowest (whole_of c.sum_rule.result p q)) (λ f. f ≡ sum_of p q)
+    IfOk-weaker c.made.result (λ f. f ≡ lowest (whole_of c.sum_rule.result p q)) (λ f. f ≡ sum_of p q)
     (λ (f : Lin) e. e ∙ ap (λ m. lowest (whole_of m p q)) c.sum_rule.ensures ∙ sum_made p q) c.made.ensures.form
 
 pub returns-clause-fits : goal.returns-clause-fits

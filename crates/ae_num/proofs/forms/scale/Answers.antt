@@ -8,8 +8,9 @@ use Rattle.ae_num.specs.declared.forms.Lin.{Lin}
 use Rattle.ae_num.specs.declared.sums.Combination.{Combination}
 use Rattle.ae_num.specs.declared.sums.Combination.TheVariants.{Multiple}
 use Rattle.ae_num.specs.Forms.{meaning, SameMeaning, IsNormal, IsRising, first_wide, IfWide, lowest, multiple_of}
-use Rattle.ae_num.specs.Reduction.{Reduced, whole_of, whole_steps}
-use Rattle.ae_num.proofs.StepLaws.{if_ok, if_both}
+use Rattle.ae_num.specs.Inner.Reduction.{Reduced, whole_of, whole_steps}
+use Rattle.std.proofs.lemmas.Result.{IfOk-weaker}
+use Rattle.ae_base.proofs.Results.{if_ok_both}
 use Rattle.ae_num.proofs.MeaningLaws.{scale_means}
 use Rattle.ae_num.proofs.WholeLaws.{scale_stated}
 use Rattle.ae_num.proofs.LowestLaws.{multiple_made}
@@ -20,7 +21,7 @@ returns-clause-exact c =
     let p = c.args.of.now in
     let rule : c.product_rule.result ≡ Multiple c.args.top = c.product_rule.ensures ∙ ap Multiple (to_z-of_z w128 c.args.top c.ranges.top) in
     let over : c.zero_over-divisor.result ≡ record { den = c.args.bottom; parts = []; constant = pos 0 } = c.zero_over-divisor.ensures ∙ ap (λ d. record { den = d; parts = []; constant = pos 0 }) (to_z-of_z w128 c.args.bottom c.ranges.bottom) in
-    if_both c.made.result (Reduced (whole_of c.product_rule.result p c.zero_over-divisor.result)) IsNormal (λ f. SameMeaning (meaning f) (scale (ratio c.args.top c.args.bottom) (meaning p)))
+    if_ok_both c.made.result (Reduced (whole_of c.product_rule.result p c.zero_over-divisor.result)) IsNormal (λ f. SameMeaning (meaning f) (scale (ratio c.args.top c.args.bottom) (meaning p)))
     (λ (f : Lin) r n. scale_means c.args.top c.args.bottom p (whole_of (Multiple c.args.top) p (record { den = c.args.bottom; parts = []; constant = pos 0 })) f refl
     (subst (λ (q : Lin). Reduced (whole_of (Multiple c.args.top) p q) f) over (subst (λ (m : Combination). Reduced (whole_of m p c.zero_over-divisor.result) f) rule r)) n c.requires.of c.requires.bottom)
     c.made.ensures.exact c.made.ensures.normal
@@ -30,7 +31,7 @@ returns-clause-form c =
     let p = c.args.of.now in
     let rule : c.product_rule.result ≡ Multiple c.args.top = c.product_rule.ensures ∙ ap Multiple (to_z-of_z w128 c.args.top c.ranges.top) in
     let over : c.zero_over-divisor.result ≡ record { den = c.args.bottom; parts = []; constant = pos 0 } = c.zero_over-divisor.ensures ∙ ap (λ d. record { den = d; parts = []; constant = pos 0 }) (to_z-of_z w128 c.args.bottom c.ranges.bottom) in
-    if_ok c.made.result (λ f. f ≡ lowest (whole_of c.product_rule.result p c.zero_over-divisor.result)) (λ f. f ≡ multiple_of c.args.top c.args.bottom p)
+    IfOk-weaker c.made.result (λ f. f ≡ lowest (whole_of c.product_rule.result p c.zero_over-divisor.result)) (λ f. f ≡ multiple_of c.args.top c.args.bottom p)
     (λ (f : Lin) e. e ∙ (λ i. lowest (whole_of (rule i) p (over i))) ∙ multiple_made c.args.top c.args.bottom p) c.made.ensures.form
 
 pub returns-clause-fits : goal.returns-clause-fits

@@ -6,8 +6,8 @@ use Rattle.ae_num.specs.declared.forms.Lin.{Lin}
 use Rattle.ae_num.specs.declared.sums.Combination.{Combination}
 use Rattle.ae_num.specs.declared.sums.Combination.TheVariants.{Substitution}
 use Rattle.ae_num.specs.Forms.{meaning, SameMeaning, IsNormal, IsRising, first_wide, IfWide, has_key, factor_of, others}
-use Rattle.ae_num.specs.Reduction.{Reduced, whole_of, whole_steps}
-use Rattle.ae_num.proofs.StepLaws.{if_both}
+use Rattle.ae_num.specs.Inner.Reduction.{Reduced, whole_of, whole_steps}
+use Rattle.ae_base.proofs.Results.{if_ok_both}
 use Rattle.ae_num.proofs.KeyLaws.{others_none, rising_others}
 use Rattle.ae_num.proofs.MeaningLaws.{subst_means, subst_absent}
 use Rattle.ae_num.proofs.WholeLaws.{subst_stated}
@@ -40,7 +40,7 @@ returns-clause-exact c =
     let rest : Lin = record p { parts = others p.parts c.args.key } in
     let number = c.in-Some.ensures.some.1 ∙ ap (λ ps. factor_of ps c.args.key) c.as_slice.ensures in
     let rule : c.substitution_rule.result ≡ Substitution q.den (factor_of p.parts c.args.key) = c.substitution_rule.ensures ∙ ap (Substitution q.den) number in
-    if_both c.made.result (Reduced (whole_of c.substitution_rule.result c.in_ok-rest.rest q)) IsNormal (λ f. SameMeaning (meaning f) (substitute ℕ_discrete (meaning p) c.args.key (meaning q)))
+    if_ok_both c.made.result (Reduced (whole_of c.substitution_rule.result c.in_ok-rest.rest q)) IsNormal (λ f. SameMeaning (meaning f) (substitute ℕ_discrete (meaning p) c.args.key (meaning q)))
     (λ (f : Lin) r n. subst_means p q (whole_of (Substitution q.den (factor_of p.parts c.args.key)) rest q) f c.args.key refl
     (subst (λ (l : Lin). Reduced (whole_of (Substitution q.den (factor_of p.parts c.args.key)) l q) f) c.in_ok-rest.ensures (subst (λ (m : Combination). Reduced (whole_of m c.in_ok-rest.rest q) f) rule r)) n c.requires.into c.requires.by c.requires.absent)
     c.made.ensures.exact c.made.ensures.normal

@@ -2,8 +2,8 @@ use Rattle.std.specs.Prelude.{◌≡◌, Some}
 use Rattle.std.proofs.Common.{◌∙◌}
 use Rattle.ae_num.specs.declared.numbers.Wide.{Wide}
 use Rattle.ae_num.specs.Forms.{first_wide}
-use Rattle.ae_num.specs.Pairs.{pairs_of}
-use Rattle.ae_num.specs.Reduction.{whole_steps}
+use Rattle.ae_num.specs.Inner.Pairs.{pairs_of}
+use Rattle.ae_num.specs.Inner.Reduction.{whole_steps}
 use Rattle.ae_num.proofs.StepLaws.{wide_err, same_err}
 use Rattle.ae_num.proofs.WholeLaws.{parts_wide, constant_wide, whole_fits}
 use Rattle.ae_num.proofs.forms.whole.Goals as goal

@@ -1,5 +1,5 @@
 use Rattle.std.proofs.Common.{◌≡◌, ◌+◌, ◌-◌, ◌≤◌, ◌++◌, length, drop}
-use Rattle.ae_num.specs.Pairs.{pairs_of}
+use Rattle.ae_num.specs.Inner.Pairs.{pairs_of}
 use Rattle.ae_num.proofs.pairs.paired.Given as goal
 
 abbrev pub invariant-keys : goal.invariant-keys

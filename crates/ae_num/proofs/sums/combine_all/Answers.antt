@@ -4,7 +4,7 @@ use Rattle.std.proofs.lemmas.Int.{to_z-of_z}
 use mir.Syntax.{w128}
 use Rattle.ae_num.specs.declared.numbers.Wide.{Wide}
 use Rattle.ae_num.specs.Forms.{first_wide}
-use Rattle.ae_num.specs.Pairs.{all_steps}
+use Rattle.ae_num.specs.Inner.Pairs.{all_steps}
 use Rattle.ae_num.proofs.StepLaws.{wide_err}
 use Rattle.ae_num.proofs.SumLaws.{combined_step, steps_step, steps_stop}
 use Rattle.ae_num.proofs.sums.combine_all.Goals as goal

@@ -1,6 +1,6 @@
 use Rattle.std.proofs.Common.{◌≡◌, ◌++◌, drop}
 use Rattle.ae_num.specs.Forms.{first_wide}
-use Rattle.ae_num.specs.Pairs.{combined, outcome_of, all_steps}
+use Rattle.ae_num.specs.Inner.Pairs.{combined, outcome_of, all_steps}
 use Rattle.ae_num.proofs.sums.combine_all.Given as goal
 
 abbrev pub invariant-loop-pair : goal.invariant-loop-pair

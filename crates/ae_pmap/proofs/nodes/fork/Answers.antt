@@ -1,7 +1,8 @@
 use Rattle.std.proofs.Common.{◌≡◌, ◌∙◌, ap, ℕ, ◌++◌, ◌∷◌, [], List, sym, subst, arith}
 use Rattle.ae_pmap.specs.declared.nodes.Node.{Node}
 use Rattle.ae_pmap.specs.Trees.{levels}
-use Rattle.ae_pmap.specs.Nodes.{tree_at, IsSound, Keeps}
+use Rattle.ae_pmap.specs.Nodes.{tree_at}
+use Rattle.ae_pmap.specs.Inner.Nodes.{IsSound, Keeps}
 use Rattle.ae_pmap.proofs.Tables.{sound_push, keeps_push, tree_new, at_place, fork_of}
 use Rattle.ae_pmap.proofs.nodes.fork.Goals as goal
 

@@ -1,6 +1,6 @@
 use Rattle.std.proofs.Common.{◌≡◌, List, [], refl, sym, subst, arith}
 use Rattle.ae_pmap.specs.declared.nodes.Node.{Node}
-use Rattle.ae_pmap.specs.Nodes.{IsSound}
+use Rattle.ae_pmap.specs.Inner.Nodes.{IsSound}
 use Rattle.ae_pmap.specs.Forest.{map_at, IsRoot}
 use Rattle.ae_pmap.proofs.Tables.{tree_at-zero}
 use Rattle.ae_pmap.proofs.map.Pmap.new.Goals as goal

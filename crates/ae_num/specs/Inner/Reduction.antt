@@ -3,7 +3,7 @@ use Rattle.std.specs.Prelude.{ℕ, pos, ◌<◌, ◌*ℤ◌, ◌≡◌, List, �
 use Rattle.ae_num.specs.declared.forms.Lin.{Lin}
 use Rattle.ae_num.specs.declared.sums.Combination.{Combination}
 use Rattle.ae_num.specs.Forms.{Step, Product, factor_of}
-use Rattle.ae_num.specs.Pairs.{pairs_of, combined, outcome_of, steps_of, all_steps}
+use Rattle.ae_num.specs.Inner.Pairs.{pairs_of, combined, outcome_of, steps_of, all_steps}
 
 -- the second form is the first with all numbers divided by one
 pub record Reduced (w f : Lin) : Type 0 where

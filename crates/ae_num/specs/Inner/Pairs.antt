@@ -1,7 +1,7 @@
 -- The parts of two forms key by key, and the parts that are made of them.
 use Rattle.std.specs.Prelude.{ℕ, ℤ, pos, ◌*ℤ◌, ◌+ℤ◌, List, [], ◌∷◌, ◌++◌, map}
 use lib.IntN.{ℤ_discrete}
-use Rattle.ae_math.specs.Choices.{pick}
+use Rattle.ae_base.specs.Decided.{pick}
 use Rattle.ae_num.specs.declared.forms.Part.{Part}
 use Rattle.ae_num.specs.declared.pairs.Pair.{Pair}
 use Rattle.ae_num.specs.declared.sums.Combination.{Combination}

@@ -1,0 +1,2 @@
+-- What holds of the nodes between the calls.
+pub mod Nodes
