@@ -1,11 +1,14 @@
 -- What reads and writes do to the bytes that a source has left and a sink has got, where these are
 -- told, and to the counts of their faults.
-use Rattle.std.specs.Prelude.{◌≡◌, ℕ, ◌+◌, ◌-◌, ◌^◌, ◌≤◌, ◌<◌, ◌⊎◌, min, List, [], ◌++◌, length, take, Option, Some, None, Result, Ok, Err, MatchResult, Bool, false, nat_lt, ◌||◌, ◌==◌}
+use Rattle.std.specs.Prelude.{cond, ◌≡◌, ℕ, ◌+◌, ◌-◌, ◌^◌, ◌≤◌, ◌<◌, ◌⊎◌, min, List, [], ◌++◌, length, take, Option, Some, None, Result, Ok, Err, MatchResult, Bool, false, nat_lt, ◌||◌, ◌==◌}
 use Rattle.std.specs.Io.KnownBytes.{Consumes}
 
 -- one more, for a count that stays at the greatest u64 once there
 abbrev pub raised : ℕ → ℕ
 raised count = min (count + 1) (2 ^ 64 - 1)
+
+abbrev pub raised_by : ℕ → ℕ → ℕ
+raised_by more count = min (count + more) (2 ^ 64 - 1)
 
 -- a count is greater than before, or stands at the greatest u64
 abbrev pub Rose : ℕ → ℕ → Type 0
@@ -30,7 +33,8 @@ IsTold Lost = ⊥
 IsTold Untold = ⊥
 IsTold (Told xs) = Unit {0}
 
--- a sink that tells its bytes has got these, or tells nothing from now on
+-- What a sink gets. One that has told its bytes has got these after them, or tells nothing from now on. One that has
+-- told nothing so far may do anything. One that tells nothing any more goes on telling nothing.
 abbrev pub Gets : Written → Written → List ℕ → Type 0
 Gets Lost Lost bytes = Unit {0}
 Gets Lost Untold bytes = ⊥
@@ -60,3 +64,8 @@ TakesAtMost old new n = (bytes : List ℕ) × Consumes old new bytes × (length 
 abbrev pub took_some : {E : Type 0} → Result ℕ E → List ℕ → Bool
 took_some (Ok n) bytes = nat_lt 0 n || (length bytes == 0)
 took_some (Err e) bytes = false
+
+-- one for a read that gave no byte: it failed, found the end or asked for none
+abbrev pub idle_reads : {E : Type 0} → Result ℕ E → ℕ
+idle_reads (Ok n) = cond (n == 0) 1 0
+idle_reads (Err e) = 1

@@ -10,6 +10,8 @@ pub record SourceState : Type 0 where
   pub failing : List ℕ
   -- the number of the next call
   pub call : ℕ
+  -- how many calls gave no byte
+  pub idle : ℕ
   pub faults : ℕ
 
 -- a sink with room for so many bytes, which fails at the calls whose numbers are in `failing`

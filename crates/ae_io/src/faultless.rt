@@ -3,7 +3,7 @@
 ghost use Rattle.std.specs.Prelude.{◌≡◌, ◌≤◌, ◌<◌, ◌+◌, ◌-◌, ◌++◌, ◌||◌, length, take, drop, min, nat_lt, List, ℕ, Some, Ok, [], false, OnErr, vec_capacity};
 ghost use Rattle.std.specs.Io.{ReadsAtMost, WritesAtMost};
 ghost use Rattle.std.specs.Io.KnownBytes.{ReadConsumes};
-ghost use Rattle.ae_io.specs.Moves.{Rose, WriteGets};
+ghost use Rattle.ae_io.specs.Moves.{Rose, WriteGets, idle_reads};
 ghost use Rattle.ae_io.specs.States.{kept_written};
 
 use crate::memory::keep;
@@ -47,6 +47,7 @@ impl Source for FaultlessSource {
         ensures later { 0 ≤ 0 }
         ensures cause { OnErr result (Rose 0 0) }
         ensures counted { 0 ≤ 0 + 1 }
+        ensures idle { 0 ≤ 0 + idle_reads result }
 
         ensures count { result ≡ Ok (min (length self.old) (length buf.new)) }
     {

@@ -1,9 +1,9 @@
 //! A source and a sink in memory, which fail at the calls that they are told.
 
-ghost use Rattle.std.specs.Prelude.{◌≡◌, ◌≤◌, ◌<◌, ◌+◌, ◌-◌, ◌++◌, ◌⊎◌, ◌↔◌, length, take, drop, min, List, ℕ, Some, Ok, [], IfOk, OnErr, IsErr, Contains, vec_capacity};
+ghost use Rattle.std.specs.Prelude.{cond, ◌==◌, ◌≡◌, ◌≤◌, ◌<◌, ◌+◌, ◌-◌, ◌++◌, ◌⊎◌, ◌↔◌, length, take, drop, min, List, ℕ, Some, Ok, [], IfOk, OnErr, IsErr, Contains, vec_capacity};
 ghost use Rattle.std.specs.Io.{ReadsAtMost, WritesAtMost};
 ghost use Rattle.std.specs.Io.KnownBytes.{ReadConsumes};
-ghost use Rattle.ae_io.specs.Moves.{Told, Rose, WriteGets, raised};
+ghost use Rattle.ae_io.specs.Moves.{Told, Rose, WriteGets, raised, raised_by, idle_reads};
 
 use crate::traits::{Failed, Sink, Source};
 use std::marker::Model;
@@ -16,6 +16,7 @@ pub struct MemSource {
     piece: usize,
     failing: Vec<u64>,
     call: u64,
+    idle: u64,
     faults: u64,
 }
 
@@ -25,7 +26,7 @@ impl Model for MemSource {
 
     ghost Value = { SourceState };
 
-    ghost view = { λ s. record { left = drop s.at s.bytes.items; piece = s.piece; failing = s.failing.items; call = s.call; faults = s.faults } };
+    ghost view = { λ s. record { left = drop s.at s.bytes.items; piece = s.piece; failing = s.failing.items; call = s.call; idle = s.idle; faults = s.faults } };
 
     ghost invariant = { λ s. (s.at ≤ length s.bytes.items) × (1 ≤ s.piece) };
 }
@@ -35,7 +36,7 @@ impl MemSource {
     /// counted from 0, stand in `failing` fail. It takes no memory.
     pub fn new(bytes: Vec<u8>, piece: usize, failing: Vec<u64>) -> MemSource
         requires { 1 ≤ piece }
-        ensures { result ≡ record { left = bytes.items; piece = piece; failing = failing.items; call = 0; faults = 0 } }
+        ensures { result ≡ record { left = bytes.items; piece = piece; failing = failing.items; call = 0; idle = 0; faults = 0 } }
     {
         MemSource {
             bytes,
@@ -43,6 +44,7 @@ impl MemSource {
             piece,
             failing,
             call: 0,
+            idle: 0,
             faults: 0,
         }
     }
@@ -62,25 +64,30 @@ impl Source for MemSource {
 
     ghost calls = { λ s. s.call };
 
+    ghost idle = { λ s. s.idle };
+
     fn read(&mut self, buf: &mut [u8]) -> Result<usize, Failed>
         ensures bound { ReadsAtMost result buf.new }
         ensures bytes { ReadConsumes (Some self.old.left) (Some self.new.left) result buf.new }
         ensures later { self.old.faults ≤ self.new.faults }
         ensures cause { OnErr result (Rose self.old.faults self.new.faults) }
         ensures counted { self.new.call ≤ self.old.call + 1 }
+        ensures idle { self.new.idle ≤ self.old.idle + idle_reads result }
 
         ensures fails { IsErr result ↔ Contains self.old.failing self.old.call }
         ensures count { IfOk result (λ n. n ≡ min (min (length self.old.left) self.old.piece) (length buf.new)) }
-        ensures moved { IfOk result (λ n. self.new ≡ record self.old { left = drop n self.old.left; call = raised self.old.call }) }
-        ensures failed { OnErr result (self.new ≡ record self.old { call = raised self.old.call; faults = raised self.old.faults }) }
+        ensures moved { IfOk result (λ n. self.new ≡ record self.old { left = drop n self.old.left; call = raised self.old.call; idle = raised_by (idle_reads result) self.old.idle }) }
+        ensures failed { OnErr result (self.new ≡ record self.old { call = raised self.old.call; idle = raised self.old.idle; faults = raised self.old.faults }) }
     {
         let call = self.call;
         self.call = call.saturating_add(1);
         if self.failing.contains(&call) {
+            self.idle = self.idle.saturating_add(1);
             self.faults = self.faults.saturating_add(1);
             return Err(Failed);
         }
         let count = (self.bytes.len() - self.at).min(self.piece).min(buf.len());
+        self.idle = self.idle.saturating_add(idle_read(count));
         buf[..count].copy_from_slice(&self.bytes[self.at..self.at + count]);
         self.at += count;
         Ok(count)
@@ -176,6 +183,13 @@ impl Sink for MemSink {
         keep(&mut self.kept, &bytes[..count]);
         Ok(count)
     }
+}
+
+// One for a read of no byte.
+fn idle_read(count: usize) -> u64
+    ensures { result ≡ cond (count == 0) 1 0 }
+{
+    if count == 0 { 1 } else { 0 }
 }
 
 // Appends bytes for which there is room.

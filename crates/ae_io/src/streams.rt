@@ -3,7 +3,7 @@
 ghost use Rattle.std.specs.Prelude.{◌≡◌, ◌≤◌, ◌<◌, ◌+◌, length, Ok, OnErr, is_ok, if◌then◌else◌};
 ghost use Rattle.std.specs.Io.{ReadsAtMost, WritesAtMost};
 ghost use Rattle.std.specs.Io.KnownBytes.{ReadConsumes};
-ghost use Rattle.ae_io.specs.Moves.{Rose, WriteGets, IsTold, told, took_some, raised};
+ghost use Rattle.ae_io.specs.Moves.{Rose, WriteGets, IsTold, told, took_some, raised, idle_reads};
 
 use crate::traits::{Failed, Sink, Source};
 use std::io::{Read, Write};
@@ -45,6 +45,7 @@ impl<R: Read> Source for StdSource<R> {
         ensures later { self.old.faults ≤ self.new.faults }
         ensures cause { OnErr result (Rose self.old.faults self.new.faults) }
         ensures counted { 0 ≤ 0 + 1 }
+        ensures idle { 0 ≤ 0 + idle_reads result }
 
         ensures exactly { self.new.faults ≡ (if is_ok result then self.old.faults else raised self.old.faults) }
     {

@@ -3,7 +3,7 @@
 ghost use Rattle.std.specs.Prelude.{◌≡◌, ◌≤◌, ◌<◌, ◌+◌, List, ℕ, Option, length, Ok, OnErr};
 ghost use Rattle.std.specs.Io.{ReadsAtMost, WritesAtMost};
 ghost use Rattle.std.specs.Io.KnownBytes.{ReadConsumes};
-ghost use Rattle.ae_io.specs.Moves.{Written, Rose, WriteGets};
+ghost use Rattle.ae_io.specs.Moves.{Written, Rose, WriteGets, idle_reads};
 
 /// A read or a write failed.
 #[derive(Clone, Copy, Debug, PartialEq, Eq)]
@@ -20,6 +20,10 @@ pub trait Source {
     /// How often it was read, where it counts that: a read adds one at most.
     ghost calls: { Self → ℕ } = { λ _. 0 };
 
+    /// How many of its reads gave no byte, because they failed, found the end or asked for none,
+    /// where it counts these.
+    ghost idle: { Self → ℕ } = { λ _. 0 };
+
     /// Gives the next bytes: at `Ok(n)` they are the first `n` of `buf`. A buffer that has room gets
     /// none only at the end of the input. Where it fails, its count of faults rises and no byte is
     /// lost.
@@ -28,7 +32,8 @@ pub trait Source {
         ensures bytes { ReadConsumes (left self.old) (left self.new) result buf.new }
         ensures later { faults self.old ≤ faults self.new }
         ensures cause { OnErr result (Rose (faults self.old) (faults self.new)) }
-        ensures counted { calls self.new ≤ calls self.old + 1 };
+        ensures counted { calls self.new ≤ calls self.old + 1 }
+        ensures idle { idle self.new ≤ idle self.old + idle_reads result };
 }
 
 /// Where bytes go.

@@ -52,8 +52,8 @@ pub enum WriteEnd {
 /// Reads to the end, at most `limit` bytes.
 ///
 /// `ReadFault` comes only where a read failed, `TooLong` exactly where one byte more than `limit`
-/// was got, and no more is read then. Each read but the last takes at least one byte, so that
-/// their number is at most one above that of the bytes.
+/// was got, and no more is read then. Each turn takes at least one byte, ends the reading or fails:
+/// a read that gave no byte is the last one, which found the end or failed.
 pub fn read_all<S: Source>(alloc: Global, source: &mut S, limit: usize) -> Result<Vec<u8>, ReadEnd>
     ensures whole { IfOk result (λ v. IfSome (S.left source.old) (λ xs. v.items ≡ xs)) }
     ensures end { OnOk result (IsAtEnd (S.left source.new)) }
@@ -68,6 +68,9 @@ pub fn read_all<S: Source>(alloc: Global, source: &mut S, limit: usize) -> Resul
     ensures later { S.faults source.old ≤ S.faults source.new }
     ensures turns { IfOk result (λ v. S.calls source.new ≤ S.calls source.old + length v.items + 1) }
     ensures turns_at_most { S.calls source.new ≤ S.calls source.old + limit + 1 }
+    ensures idle { S.idle source.new ≤ S.idle source.old + 1 }
+    ensures idle_long { IsErrOf result TooLong → S.idle source.new ≤ S.idle source.old }
+    ensures idle_memory { IsErrOf result Memory → S.idle source.new ≤ S.idle source.old }
 {
     let mut bytes = Vec::new(alloc);
     let mut chunk = [0u8; CHUNK];

@@ -2,7 +2,7 @@
 use Rattle.std.proofs.Common.{ℕ, zero, suc, ◌+◌, ◌-◌, ◌≤◌, ◌<◌, true, false, List, [], ◌∷◌, ◌++◌, ◌≡◌, length, drop, refl, sym, ap, ◌∙◌, subst, append_assoc, arith}
 use Rattle.std.specs.Prelude.{MatchBool}
 use Rattle.ae_lex.specs.Lexis.{Closes, is_opening, is_closing}
-use Rattle.ae_lex.specs.Pieces.{IsPart}
+use Rattle.ae_lex.specs.Inner.Pieces.{IsPart}
 use Rattle.ae_lex.proofs.Parts.{part_none, part_step, part_join, append_cancel}
 
 -- the comment that is open at `from`, up to `at`, where so many are open

@@ -5,7 +5,7 @@ use Rattle.ae_lex.specs.declared.kinds.Token.{Token}
 use Rattle.ae_lex.specs.declared.kinds.LexFault.{LexFault}
 use Rattle.ae_lex.specs.declared.lexer.Piece.TheVariants as piece
 use Rattle.ae_lex.specs.Lexis.{IsFaultAt, IsCut, ends, fails, passes, gives, IsTokenized, IsFault}
-use Rattle.ae_lex.specs.Pieces.{Stands}
+use Rattle.ae_lex.specs.Inner.Pieces.{Stands}
 use Rattle.ae_lex.proofs.KindLaws.{gap_some, token_some}
 
 -- the tokens so far, and the place

@@ -5,19 +5,20 @@ use Rattle.std.proofs.lemmas.Bool.{ltb-true, eqb-true, or_cases, both_ways}
 use Rattle.ae_lex.specs.declared.kinds.Sign.{Sign}
 use Rattle.ae_lex.specs.Spellings.{sign_bytes}
 use Rattle.ae_lex.specs.Lexis.{is_blank, is_digit, is_letter, is_inner, is_point, Begins, IsWord, IsTypeVar, IsWhole, IsPointed, IsNumeral, whole, pointed, IsToken, word, type_var, numeral, sign, IsLongest, IsOutsideMark, power, mapsto, quote, caret, at_sign, IsOutside, mark, suffix, IsWide, wide_whole, wide_digits, wide_power}
-use Rattle.ae_lex.specs.Pieces.{StopsAt, IsMark}
-use Rattle.ae_lex.proofs.Parts.{both, all_back}
+use Rattle.ae_lex.specs.Inner.Pieces.{StopsAt, IsMark}
+use Rattle.std.proofs.lemmas.Bool.{and_parts}
+use Rattle.ae_lex.proofs.Parts.{all_back}
 use Rattle.ae_lex.proofs.Tables.{sign_mark}
 
 -- ---- bytes
 pub digit_range : (b : ℕ) → is_digit b ≡ true → (48 ≤ b) × (b ≤ 57)
-digit_range b e = let t = both (nat_lt 47 b) (nat_lt b 58) e in let l = ltb-true _ _ t.0 in let m = ltb-true _ _ t.1 in (omega (arith, l), omega (arith, m))
+digit_range b e = let t = and_parts (nat_lt 47 b) (nat_lt b 58) e in let l = ltb-true _ _ t.0 in let m = ltb-true _ _ t.1 in (omega (arith, l), omega (arith, m))
 
 letter_range : (b : ℕ) → is_letter b ≡ true → ((65 ≤ b) × (b ≤ 90)) ⊎ (((97 ≤ b) × (b ≤ 122)) ⊎ (b ≡ 95))
 letter_range b e = elim (or_cases ((nat_lt 64 b && nat_lt b 91) || (nat_lt 96 b && nat_lt b 123)) (nat_eq b 95) e) [
   | inl f ↦ elim (or_cases (nat_lt 64 b && nat_lt b 91) (nat_lt 96 b && nat_lt b 123) f) [
-    | inl g ↦ let t = both (nat_lt 64 b) (nat_lt b 91) g in let l = ltb-true _ _ t.0 in let m = ltb-true _ _ t.1 in inl (omega (arith, l), omega (arith, m))
-    | inr g ↦ let t = both (nat_lt 96 b) (nat_lt b 123) g in let l = ltb-true _ _ t.0 in let m = ltb-true _ _ t.1 in inr (inl (omega (arith, l), omega (arith, m)))
+    | inl g ↦ let t = and_parts (nat_lt 64 b) (nat_lt b 91) g in let l = ltb-true _ _ t.0 in let m = ltb-true _ _ t.1 in inl (omega (arith, l), omega (arith, m))
+    | inr g ↦ let t = and_parts (nat_lt 96 b) (nat_lt b 123) g in let l = ltb-true _ _ t.0 in let m = ltb-true _ _ t.1 in inr (inl (omega (arith, l), omega (arith, m)))
   ]
   | inr f ↦ inr (inr (eqb-true b 95 f))
 ]
@@ -52,12 +53,12 @@ digit_not_blank b e f = let s = blank_small b f in let d = digit_range b e in om
 
 -- ---- what tokens begin with
 pub numeral_head : (b : ℕ) (u : List ℕ) → IsNumeral (b ∷ u) → is_digit b ≡ true
-numeral_head b u (whole p) = (both (is_digit b) (list_all is_digit u) p.1).0
+numeral_head b u (whole p) = (and_parts (is_digit b) (list_all is_digit u) p.1).0
 numeral_head b u (pointed before after p) = go before after p.written p.front
   where
     go : (before after : List ℕ) → b ∷ u ≡ before ++ 46 ∷ after → IsWhole before → is_digit b ≡ true
     go [] after e f = absurd (f.0 refl)
-    go (c ∷ before) after e f = let h : c ≡ b = cc in subst (λ z. is_digit z ≡ true) h (both (is_digit c) (list_all is_digit before) f.1).0
+    go (c ∷ before) after e f = let h : c ≡ b = cc in subst (λ z. is_digit z ≡ true) h (and_parts (is_digit c) (list_all is_digit before) f.1).0
 
 pub sign_head : (b : ℕ) (u : List ℕ) (s : Sign) → b ∷ u ≡ sign_bytes s → IsMark b
 sign_head b u s e = let m = sign_mark s in let f : b ∷ u ≡ m.head ∷ m.tail = e ∙ m.is in let h : m.head ≡ b = cc in subst (λ z. IsMark z) h m.mark
@@ -107,7 +108,7 @@ word_longest [] rest i s more after e t = absurd i
 word_longest (b ∷ u) rest i s [] after e t = refl
 word_longest (b ∷ u) rest i s (m ∷ more) after e t =
     let all = all_back is_inner u (m ∷ more) (at_letter b (u ++ m ∷ more) i.0 t) in
-    absurd (stop_false is_inner m (more ++ after) rest s e (both (is_inner m) (list_all is_inner more) all).0)
+    absurd (stop_false is_inner m (more ++ after) rest s e (and_parts (is_inner m) (list_all is_inner more) all).0)
 
 pub type_var_longest : (w rest : List ℕ) → IsTypeVar w → StopsAt is_inner rest → IsLongest w rest
 type_var_longest [] rest i s more after e t = absurd i
@@ -115,39 +116,39 @@ type_var_longest (b ∷ []) rest i s more after e t = absurd i.1
 type_var_longest (b ∷ c ∷ u) rest i s [] after e t = refl
 type_var_longest (b ∷ c ∷ u) rest i s (m ∷ more) after e t =
     let all = all_back is_inner u (m ∷ more) (at_quote b (c ∷ u ++ m ∷ more) i.0 t).1 in
-    absurd (stop_false is_inner m (more ++ after) rest s e (both (is_inner m) (list_all is_inner more) all).0)
+    absurd (stop_false is_inner m (more ++ after) rest s e (and_parts (is_inner m) (list_all is_inner more) all).0)
 
 -- after digits, a longer numeral goes on with a digit or a point
 split_digits : (w before more after : List ℕ) (m : ℕ) → list_all is_digit w ≡ true → list_all is_digit before ≡ true → w ++ m ∷ more ≡ before ++ 46 ∷ after → (is_digit m ≡ true) ⊎ (m ≡ 46)
 split_digits [] [] more after m d f e = inr (let h : m ≡ 46 = cc in h)
-split_digits [] (c ∷ before) more after m d f e = let h : c ≡ m = cc in inl (subst (λ z. is_digit z ≡ true) h (both (is_digit c) (list_all is_digit before) f).0)
-split_digits (b ∷ w) [] more after m d f e = let h : b ≡ 46 = cc in absurd (digit_not b 46 (both (is_digit b) (list_all is_digit w) d).0 (inl (omega arith)) h)
-split_digits (b ∷ w) (c ∷ before) more after m d f e = let h : w ++ m ∷ more ≡ before ++ 46 ∷ after = cc in split_digits w before more after m (both (is_digit b) (list_all is_digit w) d).1 (both (is_digit c) (list_all is_digit before) f).1 h
+split_digits [] (c ∷ before) more after m d f e = let h : c ≡ m = cc in inl (subst (λ z. is_digit z ≡ true) h (and_parts (is_digit c) (list_all is_digit before) f).0)
+split_digits (b ∷ w) [] more after m d f e = let h : b ≡ 46 = cc in absurd (digit_not b 46 (and_parts (is_digit b) (list_all is_digit w) d).0 (inl (omega arith)) h)
+split_digits (b ∷ w) (c ∷ before) more after m d f e = let h : w ++ m ∷ more ≡ before ++ 46 ∷ after = cc in split_digits w before more after m (and_parts (is_digit b) (list_all is_digit w) d).1 (and_parts (is_digit c) (list_all is_digit before) f).1 h
 
 -- where the digits of a numeral end, and its point stands
 pub same_point : (before before' after after' : List ℕ) → list_all is_digit before ≡ true → list_all is_digit before' ≡ true → before ++ 46 ∷ after ≡ before' ++ 46 ∷ after' → (before ≡ before') × (after ≡ after')
 same_point [] [] after after' d f e = (refl, let h : after ≡ after' = cc in h)
-same_point [] (c ∷ before') after after' d f e = let h : c ≡ 46 = cc in absurd (digit_not c 46 (both (is_digit c) (list_all is_digit before') f).0 (inl (omega arith)) h)
-same_point (b ∷ before) [] after after' d f e = let h : b ≡ 46 = cc in absurd (digit_not b 46 (both (is_digit b) (list_all is_digit before) d).0 (inl (omega arith)) h)
+same_point [] (c ∷ before') after after' d f e = let h : c ≡ 46 = cc in absurd (digit_not c 46 (and_parts (is_digit c) (list_all is_digit before') f).0 (inl (omega arith)) h)
+same_point (b ∷ before) [] after after' d f e = let h : b ≡ 46 = cc in absurd (digit_not b 46 (and_parts (is_digit b) (list_all is_digit before) d).0 (inl (omega arith)) h)
 same_point (b ∷ before) (c ∷ before') after after' d f e =
     let h : b ≡ c = cc in
     let t : before ++ 46 ∷ after ≡ before' ++ 46 ∷ after' = cc in
-    let s = same_point before before' after after' (both (is_digit b) (list_all is_digit before) d).1 (both (is_digit c) (list_all is_digit before') f).1 t in
+    let s = same_point before before' after after' (and_parts (is_digit b) (list_all is_digit before) d).1 (and_parts (is_digit c) (list_all is_digit before') f).1 t in
     (λ i. h i ∷ s.0 i, s.1)
 
 -- digits alone have no point
 pub no_point : (w before after : List ℕ) → list_all is_digit w ≡ true → w ≡ before ++ 46 ∷ after → ⊥
 no_point w before after d e =
     let all = all_back is_digit before (46 ∷ after) (subst (λ z. list_all is_digit z ≡ true) e d) in
-    digit_not 46 46 (both (is_digit 46) (list_all is_digit after) all).0 (inl (omega arith)) refl
+    digit_not 46 46 (and_parts (is_digit 46) (list_all is_digit after) all).0 (inl (omega arith)) refl
 
 pub whole_longest : (w rest : List ℕ) → IsWhole w → StopsAt is_digit rest → StopsAt is_point rest → IsLongest w rest
 whole_longest [] rest i s p more after e t = absurd (i.0 refl)
 whole_longest (b ∷ u) rest i s p [] after e t = refl
-whole_longest (b ∷ u) rest i s p (m ∷ more) after e t = go (at_digit b (u ++ m ∷ more) (both (is_digit b) (list_all is_digit u) i.1).0 t)
+whole_longest (b ∷ u) rest i s p (m ∷ more) after e t = go (at_digit b (u ++ m ∷ more) (and_parts (is_digit b) (list_all is_digit u) i.1).0 t)
   where
     go : IsNumeral (b ∷ u ++ m ∷ more) → m ∷ more ≡ []
-    go (whole n) = absurd (stop_false is_digit m (more ++ after) rest s e (both (is_digit m) (list_all is_digit more) (all_back is_digit (b ∷ u) (m ∷ more) n.1)).0)
+    go (whole n) = absurd (stop_false is_digit m (more ++ after) rest s e (and_parts (is_digit m) (list_all is_digit more) (all_back is_digit (b ∷ u) (m ∷ more) n.1)).0)
     go (pointed before back n) = elim (split_digits (b ∷ u) before more back m i.1 n.front.1 n.written) [
       | inl d ↦ absurd (stop_false is_digit m (more ++ after) rest s e d)
       | inr q ↦ absurd (stop_false is_point m (more ++ after) rest p e (eq-eqb m 46 q))
@@ -166,7 +167,7 @@ pointed_longest (b ∷ u) before back rest i s (m ∷ more) after e t = go (at_d
     go (pointed before' back' n) =
         let q = same_point before before' (back ++ m ∷ more) back' i.front.1 n.front.1 (sym joined ∙ n.written) in
         let all = all_back is_digit back (m ∷ more) (subst (λ z. list_all is_digit z ≡ true) (sym q.1) n.back) in
-        absurd (stop_false is_digit m (more ++ after) rest s e (both (is_digit m) (list_all is_digit more) all).0)
+        absurd (stop_false is_digit m (more ++ after) rest s e (and_parts (is_digit m) (list_all is_digit more) all).0)
 
 pub sign_longest : (s : Sign) (rest : List ℕ) → ((t : Sign) → Begins (sign_bytes t) (sign_bytes s ++ rest) → length (sign_bytes t) ≤ length (sign_bytes s)) → IsLongest (sign_bytes s) rest
 sign_longest s rest l [] after e t = refl

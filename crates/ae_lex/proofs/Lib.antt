@@ -1,4 +1,5 @@
 pub mod Parts
+pub mod Enumerations
 pub mod Tables
 pub mod Forms
 pub mod Comments

@@ -3,7 +3,7 @@ use Rattle.std.proofs.Common.{ℕ, zero, suc, ◌*◌, ◌^◌, ◌<◌, ℤ, �
 use Rattle.std.proofs.Math.Nat.{pow-suc, one-mul, mul-dvd-mul_right, dvd_of_mul-dvd-mul_right, eq-one_of_dvd-one, pos_of_dvd_of_pos}
 use Rattle.std.specs.Int.{◌∣◌}
 use Rattle.ae_lex.specs.Lexis.{IsLowest}
-use Rattle.ae_lex.specs.Pieces.{IsValue}
+use Rattle.ae_lex.specs.Inner.Pieces.{IsValue}
 
 pub ten_positive : (k : ℕ) → 0 < 10 ^ k
 ten_positive zero = omega arith

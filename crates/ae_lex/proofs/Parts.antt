@@ -1,37 +1,26 @@
 -- Parts of a text, and runs of bytes.
-use Rattle.std.proofs.Common.{ℕ, ◌+◌, ◌-◌, ◌*◌, ◌≤◌, ◌<◌, Bool, true, false, ◌&&◌, List, [], ◌∷◌, ◌++◌, ◌≡◌, length, drop, refl, sym, ap, ◌∙◌, subst, append_assoc, length-append, arith}
+use Rattle.std.proofs.Common.{ℕ, ◌+◌, ◌-◌, ◌*◌, ◌≤◌, ◌<◌, Bool, true, false, List, [], ◌∷◌, ◌++◌, ◌≡◌, length, drop, refl, sym, ap, ◌∙◌, subst, append_assoc, length-append, arith}
 use Rattle.std.specs.Prelude.{IsTrue}
 use Rattle.std.specs.List.{list_all}
+use Rattle.std.proofs.lemmas.Bool.{and_parts, and_from}
 use Rattle.ae_lex.specs.Lexis.{value}
-use Rattle.ae_lex.specs.Pieces.{IsPart, StopsAt}
+use Rattle.ae_lex.specs.Inner.Pieces.{IsPart, StopsAt}
 
 -- ---- tests of all bytes
-pub false_true : {A : Type 0} → ◌≡◌ {A = Bool} false true → A
-false_true e = absurd (let h : ⊥ = cc in h)
-
-pub both : (a b : Bool) → (a && b) ≡ true → (a ≡ true) × (b ≡ true)
-both true true e = (refl, refl)
-both true false e = false_true e
-both false b e = false_true e
-
-pub joined : (a b : Bool) → a ≡ true → b ≡ true → (a && b) ≡ true
-joined true b e h = h
-joined false b e h = false_true e
-
 pub all-append : (p : ℕ → Bool) (u w : List ℕ) → list_all p u ≡ true → list_all p w ≡ true → list_all p (u ++ w) ≡ true
 all-append p [] w e h = h
-all-append p (b ∷ u) w e h = let t = both (p b) (list_all p u) e in joined (p b) (list_all p (u ++ w)) t.0 (all-append p u w t.1 h)
+all-append p (b ∷ u) w e h = let t = and_parts (p b) (list_all p u) e in and_from (p b) (list_all p (u ++ w)) t.0 (all-append p u w t.1 h)
 
 pub all_front : (p : ℕ → Bool) (u w : List ℕ) → list_all p (u ++ w) ≡ true → list_all p u ≡ true
 all_front p [] w e = refl
-all_front p (b ∷ u) w e = let t = both (p b) (list_all p (u ++ w)) e in joined (p b) (list_all p u) t.0 (all_front p u w t.1)
+all_front p (b ∷ u) w e = let t = and_parts (p b) (list_all p (u ++ w)) e in and_from (p b) (list_all p u) t.0 (all_front p u w t.1)
 
 pub all_back : (p : ℕ → Bool) (u w : List ℕ) → list_all p (u ++ w) ≡ true → list_all p w ≡ true
 all_back p [] w e = e
-all_back p (b ∷ u) w e = let t = both (p b) (list_all p (u ++ w)) e in all_back p u w t.1
+all_back p (b ∷ u) w e = let t = and_parts (p b) (list_all p (u ++ w)) e in all_back p u w t.1
 
 pub all_one : (p : ℕ → Bool) (b : ℕ) → p b ≡ true → list_all p (b ∷ []) ≡ true
-all_one p b e = joined (p b) true e refl
+all_one p b e = and_from (p b) true e refl
 
 pub value-append : (v : ℕ) (u w : List ℕ) → value v (u ++ w) ≡ value (value v u) w
 value-append v [] w = refl

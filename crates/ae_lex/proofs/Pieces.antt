@@ -11,7 +11,7 @@ use Rattle.ae_lex.specs.declared.lexer.Piece.{Piece}
 use Rattle.ae_lex.specs.declared.lexer.Piece.TheVariants as piece
 use Rattle.ae_lex.specs.Spellings.{sign_bytes}
 use Rattle.ae_lex.specs.Lexis.{is_blank, is_digit, is_letter, is_inner, is_point, Begins, BeginsWithLetter, Closes, IsComment, IsWord, IsWhole, IsPointed, IsNumeral, whole, pointed, IsToken, numeral, number, IsLongest, IsOutsideMark, IsOutside, mark, suffix, IsWide, wide_whole, wide_digits, wide_power, HasKind, IsTokenBefore, blank, comment, IsFaultAt}
-use Rattle.ae_lex.specs.Pieces.{IsPart, IsRun, HasRun, HasDigits, StopsAt, IsValue, IsWholeKind, IsDecimalKind, IsEnded, IsMark, Stands}
+use Rattle.ae_lex.specs.Inner.Pieces.{IsPart, IsRun, HasRun, HasDigits, StopsAt, IsValue, IsWholeKind, IsDecimalKind, IsEnded, IsMark, Stands}
 use Rattle.ae_lex.proofs.Parts.{part_none, part_step, part_join, append_cancel, value-append}
 use Rattle.ae_lex.proofs.Forms.{letter_not, letter_not_digit, digit_not, numeral_head, no_empty_token, at_mark, at_quote, word_longest, type_var_longest, whole_longest, pointed_longest, sign_longest, same_longest, same_point, no_point, outside_mark, not_outside, not_wide, no_opening}
 use Rattle.ae_lex.proofs.Tables.{sign_mark}

@@ -180,6 +180,14 @@ IsFaultAt (fault.WideLiteral place) at x = (place ≡ at) × IsWideFirst x
 IsFaultAt (fault.OutsideProfile place) at x = (place ≡ at) × IsOutside x
 IsFaultAt fault.Memory at x = ⊥
 
+-- the byte at which a fault stands; want of memory stands at none
+abbrev pub fault_place : LexFault → Option ℕ
+fault_place (fault.BadByte place) = Some place
+fault_place (fault.OpenComment place) = Some place
+fault_place (fault.WideLiteral place) = Some place
+fault_place (fault.OutsideProfile place) = Some place
+fault_place fault.Memory = None
+
 -- ---- the text
 -- a blank or a comment
 pub data IsGap (w : List ℕ) : Type 0 where

@@ -75,13 +75,13 @@ pub enum Reserved {
     Xor,
 }
 
-/// The signs.
+/// The signs, the longer ones first.
 #[derive(Clone, Copy, Debug, PartialEq, Eq)]
 pub enum Sign {
-    /// `->`
-    Arrow,
     /// `<->`
     Iff,
+    /// `->`
+    Arrow,
     /// `<>`
     NotEqual,
     /// `<=`

@@ -3,7 +3,7 @@
 ghost use Rattle.std.specs.Prelude.{◌≡◌, ◌∷◌, ◌<◌, ◌≤◌, ◌+◌, ◌-◌, List, ℕ, length, drop, IfOk, IfErr, IfSome, IfNone, IsTrue, ◌≢◌};
 ghost use Rattle.std.specs.Bool.{Decides};
 ghost use Rattle.ae_lex.specs.Lexis.{is_digit, is_letter, IsTokenized, IsFault, IsOutsideMark};
-ghost use Rattle.ae_lex.specs.Pieces.{HasByte, Stands, IsEnded, IsMark};
+ghost use Rattle.ae_lex.specs.Inner.Pieces.{HasByte, Stands, IsEnded, IsMark};
 ghost use Rattle.ae_lex.specs.declared.kinds.LexFault.TheVariants.{Memory};
 ghost use Rattle.ae_lex.specs.declared.kinds.Token.{Token};
 

@@ -4,7 +4,7 @@ ghost use Rattle.std.specs.Prelude.{ℕ, ◌≡◌, ◌<◌, ◌≤◌, ◌+◌,
 ghost use Rattle.std.specs.Option.{ForSome};
 ghost use Rattle.std.specs.Int.{IsGcd};
 ghost use Rattle.ae_lex.specs.Lexis.{IsLowest};
-ghost use Rattle.ae_lex.specs.Pieces.{IsValue, HasDigits, IsWholeKind, IsDecimalKind};
+ghost use Rattle.ae_lex.specs.Inner.Pieces.{IsValue, HasDigits, IsWholeKind, IsDecimalKind};
 
 use crate::kinds::TokenKind;
 use crate::scans::{is_digit, next};

@@ -2,13 +2,13 @@
 
 ghost use Rattle.std.specs.Prelude.{◌≡◌, ◌∷◌, [], ◌<◌, ◌≤◌, ◌+◌, ◌^◌, ◌-◌, length, drop, IfSome, IfNone, IsTrue, IsFalse};
 ghost use Rattle.ae_lex.specs.Lexis.{is_blank, is_digit, is_letter, is_inner, is_point};
-ghost use Rattle.ae_lex.specs.Pieces.{HasByte, HasRun, IsCommentEnd, StopsAt};
+ghost use Rattle.ae_lex.specs.Inner.Pieces.{HasByte, HasRun, IsCommentEnd, StopsAt};
 
 /// A blank: a tab, a line feed, a form feed, a carriage return or a space.
 pub fn is_blank(byte: u8) -> bool
     ensures { result ≡ is_blank byte }
 {
-    matches!(byte, 9 | 10 | 12 | 13 | 32)
+    matches!(byte, b'\t' | b'\n' | b'\x0C' | b'\r' | b' ')
 }
 
 /// A digit.

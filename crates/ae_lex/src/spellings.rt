@@ -5,7 +5,7 @@ ghost use Rattle.std.specs.Bool.{Decides};
 ghost use Rattle.ae_lex.specs.declared.kinds.Reserved.{Reserved};
 ghost use Rattle.ae_lex.specs.declared.kinds.Sign.{Sign};
 ghost use Rattle.ae_lex.specs.Lexis.{Begins};
-ghost use Rattle.ae_lex.specs.Pieces.{IsFirstSign};
+ghost use Rattle.ae_lex.specs.Inner.Pieces.{IsFirstSign};
 ghost use Rattle.ae_lex.specs.Spellings.{word_bytes, sign_bytes};
 
 use crate::kinds::{Reserved, Sign};

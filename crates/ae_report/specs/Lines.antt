@@ -1,9 +1,11 @@
 -- The line that says why a text is refused, and at which line and column.
-use Rattle.std.specs.Prelude.{ℕ, suc, ◌+◌, ◌≤◌, List, [], ◌∷◌, ◌++◌, ◌≡◌, length, take, codes, decimal, nat_eq, cond, Option, Some, None}
+use Rattle.std.specs.Prelude.{ℕ, suc, ◌+◌, List, [], ◌∷◌, ◌++◌, ◌≡◌, length, take, codes, decimal, nat_eq, cond, Option, Some, None}
 use Rattle.ae_lex.specs.declared.kinds.LexFault.{LexFault}
 use Rattle.ae_lex.specs.declared.kinds.LexFault.TheVariants as lex
 use Rattle.ae_syntax.specs.declared.faults.SyntaxFault.{SyntaxFault}
 use Rattle.ae_syntax.specs.declared.faults.SyntaxFault.TheVariants as syntax
+use Rattle.ae_lex.specs.Lexis as lexis
+use Rattle.ae_syntax.specs.Files as files
 use Rattle.ae_report.specs.declared.refusal.Refusal.{Refusal}
 use Rattle.ae_report.specs.declared.refusal.Refusal.TheVariants as refusal
 
@@ -33,22 +35,9 @@ abbrev pub IsPlace : List ℕ → ℕ → ℕ → ℕ → Type 0
 IsPlace text at line column = Precede (take at text) line column
 
 -- the byte at which a text is refused; a text that is too long or not of the form is refused as a whole
-abbrev pub lex_refused_at : LexFault → Option ℕ
-lex_refused_at (lex.BadByte at) = Some at
-lex_refused_at (lex.OpenComment at) = Some at
-lex_refused_at (lex.WideLiteral at) = Some at
-lex_refused_at (lex.OutsideProfile at) = Some at
-lex_refused_at lex.Memory = None
-
-abbrev pub syntax_refused_at : SyntaxFault → Option ℕ
-syntax_refused_at (syntax.Unexpected at) = Some at
-syntax_refused_at (syntax.TooDeep at) = Some at
-syntax_refused_at (syntax.OutsideProfile at) = Some at
-syntax_refused_at syntax.Memory = None
-
 abbrev pub refused_at : Refusal → Option ℕ
-refused_at (refusal.Lex f) = lex_refused_at f
-refused_at (refusal.Syntax f) = syntax_refused_at f
+refused_at (refusal.Lex f) = lexis.fault_place f
+refused_at (refusal.Syntax f) = files.fault_place f
 refused_at refusal.TooLong = None
 refused_at refusal.NoForm = None
 
@@ -71,11 +60,6 @@ words (refusal.Lex f) = lex_words f
 words (refusal.Syntax f) = syntax_words f
 words refusal.TooLong = codes "input too long"
 words refusal.NoForm = codes "form"
-
--- the place stands in the text or at its end
-abbrev pub IsWithin : List ℕ → Option ℕ → Type 0
-IsWithin text None = Unit {0}
-IsWithin text (Some at) = at ≤ length text
 
 -- `refused`, the line and the column where there is a place, and why
 abbrev pub IsLineAt : List ℕ → Option ℕ → List ℕ → List ℕ → Type 0

@@ -1,7 +1,9 @@
 //! The line by which a text is refused.
 
-ghost use Rattle.std.specs.Prelude.{◌≡◌, ◌++◌, ◌≤◌, length, codes, decimal, take, IfOk, OnOk};
-ghost use Rattle.ae_report.specs.Lines.{IsPlace, IsWithin, IsLineAt, IsRefusalLine, lex_refused_at, syntax_refused_at, refused_at, lex_words, syntax_words, words};
+ghost use Rattle.std.specs.Prelude.{◌≡◌, ◌++◌, ◌≤◌, length, codes, decimal, take, IfOk, IfSome, OnOk};
+ghost use Rattle.ae_lex.specs.Lexis as lexis;
+ghost use Rattle.ae_syntax.specs.Files as files;
+ghost use Rattle.ae_report.specs.Lines.{IsPlace, IsLineAt, IsRefusalLine, refused_at, lex_words, syntax_words, words};
 
 use crate::refusal::Refusal;
 use ae_lex::LexFault;
@@ -37,7 +39,7 @@ pub fn place_of(text: &[u8], at: usize) -> Place
 
 // The byte at which the lexer refuses a text, where there is one.
 fn lex_refused_at(fault: LexFault) -> Option<usize>
-    ensures { result ≡ lex_refused_at fault }
+    ensures { result ≡ lexis.fault_place fault }
 {
     match fault {
         LexFault::BadByte { at }
@@ -50,7 +52,7 @@ fn lex_refused_at(fault: LexFault) -> Option<usize>
 
 // The byte at which the parser refuses a text, where there is one.
 fn syntax_refused_at(fault: SyntaxFault) -> Option<usize>
-    ensures { result ≡ syntax_refused_at fault }
+    ensures { result ≡ files.fault_place fault }
 {
     match fault {
         SyntaxFault::Unexpected { at }
@@ -129,7 +131,7 @@ fn put_place(out: &mut Vec<u8>, place: Place) -> Result<(), AllocError>
 
 // The line with these words, at this place where there is one.
 fn line_at(alloc: Global, text: &[u8], at: Option<usize>, why: &str) -> Result<Vec<u8>, AllocError>
-    requires { IsWithin text.now at }
+    requires { IfSome at (λ at. at ≤ length text.now) }
     ensures { IfOk result (λ line. IsLineAt text.now at why.now line.items) }
 {
     let mut line = Vec::new(alloc);
@@ -145,7 +147,7 @@ fn line_at(alloc: Global, text: &[u8], at: Option<usize>, why: &str) -> Result<V
 /// The line by which a text is refused: `refused`, the line and the column of its first faulty byte
 /// where there is one, and why. Want of memory is no refusal; its line has no place.
 pub fn refusal_text(alloc: Global, text: &[u8], refusal: &Refusal) -> Result<Vec<u8>, AllocError>
-    requires within { IsWithin text.now (refused_at refusal.now) }
+    requires within { IfSome (refused_at refusal.now) (λ at. at ≤ length text.now) }
     ensures { IfOk result (λ line. IsRefusalLine text.now refusal.now line.items) }
 {
     line_at(alloc, text, refused_at(refusal), words(refusal))

@@ -1,8 +1,8 @@
 //! The lines by which texts are refused. What is expected is the table of refused texts.
 
-ghost use Rattle.std.specs.Prelude.{◌≡◌, ◌≤◌, true};
+ghost use Rattle.std.specs.Prelude.{◌≡◌, ◌≤◌, true, length};
 ghost use Rattle.std.specs.Option.{IfSome};
-ghost use Rattle.ae_report.specs.Lines.{IsWithin, refused_at};
+ghost use Rattle.ae_report.specs.Lines.{refused_at};
 
 use crate::lines::refusal_text;
 use crate::refusal::Refusal;
@@ -34,7 +34,7 @@ fn place(refusal: Refusal) -> usize
 
 // Whether a refusal's place is in the text.
 fn is_within(text: &[u8], refusal: Refusal) -> bool
-    ensures { result ≡ true → IsWithin text.now (refused_at refusal) }
+    ensures { result ≡ true → IfSome (refused_at refusal) (λ at. at ≤ length text.now) }
 {
     place(refusal) <= text.len()
 }

@@ -8,7 +8,7 @@ use Rattle.ae_lex.specs.declared.kinds.Sign.TheVariants as sign
 use Rattle.ae_syntax.specs.Parts.{Part, token}
 use Rattle.ae_syntax.specs.Grammar.{Level, Is, file, a_decl, id, ac, params, formals, in_brackets, arguments, typed_id, a_result, a_type, some, of_names, of_constructors, of_vars, of_types, of_fields, of_formals, file_none, file_decl, some_one, some_more, decl_type, decl_record, decl_enumeration, decl_logic, decl_function, decl_predicate, decl_axiom, decl_goal, is_id, ac_none, ac_word, params_none, params_var, params_vars, id_type, formals_none, formals_some, brackets_none, brackets_some, arguments_none, arguments_some, result_type, result_prop, type_int, type_real, type_bool, type_unit, type_var, type_name, type_postfix, type_brackets}
 use Rattle.ae_syntax.specs.Depth.{depths}
-use Rattle.ae_syntax.specs.Machine.{begin, add, apply, Want, more, keep, pass, make, a_file, type_head, type_body, type_form, type_end, logic_head, logic_sorts, after_sort, a_result as a_result_want, formals_end, predicate_head, be_abstract, be_record, be_choice, be_symbols, be_function, be_predicate, be_axiom, be_goal, more_params, sort_result, record_wants, on_type, take, then_wants, row_wants, Outcome, mark, run, a_type as a_type_want}
+use Rattle.ae_syntax.specs.Inner.Machine.{begin, add, apply, Want, more, keep, pass, make, a_file, type_head, type_body, type_definition, type_end, logic_head, logic_sorts, after_sort, a_result as a_result_want, formals_end, predicate_head, be_abstract, be_record, be_choice, be_symbols, be_function, be_predicate, be_axiom, be_goal, more_params, sort_result, record_wants, on_type, take, then_wants, items_wants, Outcome, mark, run, a_type as a_type_want}
 use Rattle.ae_syntax.proofs.Steps.{no_body, no_end, no_after, run_is, run_act, step_take, makes, pull, pulls, no_type}
 use Rattle.ae_syntax.proofs.Levels.{deeper_plain}
 use Rattle.ae_syntax.specs.declared.spans.Span.{Span}
@@ -17,13 +17,13 @@ use Rattle.ae_syntax.specs.declared.decls.TypedName.{TypedName}
 use Rattle.ae_syntax.specs.declared.decls.SymbolResult.{SymbolResult}
 use Rattle.ae_syntax.specs.declared.decls.Decl.{Decl}
 use Rattle.ae_syntax.specs.Parts.{names, sorts, typeds, result, decl, decls, flag, prop_at}
-use Rattle.ae_syntax.specs.Kinds.{same}
+use Rattle.ae_syntax.specs.Inner.SameKinds.{same}
 use Rattle.std.proofs.Common.{take as front}
 use Rattle.std.proofs.Common.{zero, length}
-use Rattle.ae_syntax.specs.Machine.{Fed, fed, unfed, onward, finish, feed, read, stops}
-use Rattle.ae_syntax.proofs.Levels.{plain_take, plain_refuse, Plain, plain_cond, plain_some}
+use Rattle.ae_syntax.specs.Inner.Machine.{Fed, fed, unfed, onward, finish, feed, read, stops}
+use Rattle.ae_syntax.proofs.Acts.{plain_take, plain_refuse, Plain, plain_cond, plain_some}
 use Rattle.ae_syntax.proofs.Steps.{no_more_constructors}
-use Rattle.ae_syntax.proofs.Complete.{marks, marks_append, marks2, marks3, flat2, flat3, reads, row_ends}
+use Rattle.ae_syntax.proofs.GrammarToMachine.{marks, marks_append, marks2, marks3, flat2, flat3, reads, items_ends}
 
 -- ---- the head of a type's declaration
 abbrev type_rest : {w : List Token} {p : Part} → Is params w p → Want
@@ -38,7 +38,7 @@ type_named (params_vars w o x e c ho hx he p hc) m rest ss v hm = ap (λ z. run 
     ∙ ap (mark 1) (step_take x _ (keep kind.TypeVar 1) _ _ kind.TypeVar 1 [] _ hx refl
     ∙ ap (mark 1) (step_take e _ (pass (kind.Sign sign.Comma) 1) _ _ (kind.Sign sign.Comma) 1 [] _ he refl
     ∙ ap (mark 1) (reads p tt 1 (c ∷ m ∷ rest) _ _ (pulls c _ (kind.Sign sign.CloseParen) _ hc (omega arith))
-    ∙ ap (marks (depths p 1)) (row_ends of_vars 1 c _ _ _ (kind.Sign sign.CloseParen) hc refl
+    ∙ ap (marks (depths p 1)) (items_ends of_vars 1 c _ _ _ (kind.Sign sign.CloseParen) hc refl
     ∙ step_take c _ (pass (kind.Sign sign.CloseParen) 0) _ _ (kind.Sign sign.CloseParen) 0 [] _ hc refl
     ∙ ap (mark 0) (makes more_params _ _ _ ∙ step_take m rest (keep kind.Ident 0) _ _ kind.Ident 0 [] _ hm refl))
     ∙ sym (marks_append (depths p 1) (0 ∷ []) _))))
@@ -49,11 +49,11 @@ type_ends (params_var t h) rest ss v l = no_end rest ss v l
 type_ends (params_vars w o x e c ho hx he p hc) rest ss v l = no_end rest ss v l
 
 type_opens : {w : List Token} {p : Part} (h : Is params w p) (e o : Token) (rest : List Token) (ss : List Want) (v : List Part) → e.kind ≡ (kind.Sign sign.Equal) → o.kind ≡ (kind.Sign sign.OpenBrace) → run (e ∷ o ∷ rest) (type_rest h ∷ ss) v ≡ mark 0 (mark 1 (run rest (record_wants ++ ss) v))
-type_opens params_none e o rest ss v he ho = step_take e _ type_body ss v (kind.Sign sign.Equal) 0 _ _ he refl ∙ ap (mark 0) (step_take o rest type_form ss v (kind.Sign sign.OpenBrace) 1 _ _ ho refl)
+type_opens params_none e o rest ss v he ho = step_take e _ type_body ss v (kind.Sign sign.Equal) 0 _ _ he refl ∙ ap (mark 0) (step_take o rest type_definition ss v (kind.Sign sign.OpenBrace) 1 _ _ ho refl)
 type_opens (params_var t h) e o rest ss v he ho = step_take e _ type_end ss v (kind.Sign sign.Equal) 0 _ _ he refl ∙ ap (mark 0) (step_take o rest (pass (kind.Sign sign.OpenBrace) 1) _ v (kind.Sign sign.OpenBrace) 1 [] _ ho refl)
 type_opens (params_vars w p x t c hp hx ht q hc) e o rest ss v he ho = step_take e _ type_end ss v (kind.Sign sign.Equal) 0 _ _ he refl ∙ ap (mark 0) (step_take o rest (pass (kind.Sign sign.OpenBrace) 1) _ v (kind.Sign sign.OpenBrace) 1 [] _ ho refl)
 
--- ---- rows that begin with an identifier
+-- ---- items that begin with an identifier
 record Named (w : List Token) : Type 0 where
   pub name : Token
   pub more_tokens : List Token
@@ -82,32 +82,32 @@ named_first (some_more of_constructors u w t p h e) i = longer u (t ∷ w) (name
 named_first (some_more of_formals u w t p h e) i = longer u (t ∷ w) (named_first p tt)
 named_first _ i = absurd i
 
-as_choices : {w : List Token} {p : Part} → Is (some of_constructors) w p → (rest : List Token) (ss : List Want) (v : List Part) → run (w ++ rest) (type_form ∷ ss) v ≡ run (w ++ rest) (row_wants of_constructors 0 ++ make be_choice ∷ ss) v
+as_choices : {w : List Token} {p : Part} → Is (some of_constructors) w p → (rest : List Token) (ss : List Want) (v : List Part) → run (w ++ rest) (type_definition ∷ ss) v ≡ run (w ++ rest) (items_wants of_constructors 0 ++ make be_choice ∷ ss) v
 as_choices h rest ss v = let s = named_first h tt in
-    ap (λ z. run (z ++ rest) (type_form ∷ ss) v) s.whole
-    ∙ step_take s.name _ type_form ss v kind.Ident 0 _ _ s.is_name refl
+    ap (λ z. run (z ++ rest) (type_definition ∷ ss) v) s.whole
+    ∙ step_take s.name _ type_definition ss v kind.Ident 0 _ _ s.is_name refl
     ∙ sym (step_take s.name _ (keep kind.Ident 0) _ v kind.Ident 0 [] _ s.is_name refl)
-    ∙ ap (λ z. run (z ++ rest) (row_wants of_constructors 0 ++ make be_choice ∷ ss) v) (sym s.whole)
+    ∙ ap (λ z. run (z ++ rest) (items_wants of_constructors 0 ++ make be_choice ∷ ss) v) (sym s.whole)
 
-as_symbols : {w : List Token} {p : Part} → Is (some of_names) w p → (rest : List Token) (ss : List Want) (v : List Part) → run (w ++ rest) (logic_head ∷ ss) v ≡ run (w ++ rest) (row_wants of_names 0 ++ pass (kind.Sign sign.Colon) 0 ∷ logic_sorts ∷ ss) (flag false ∷ v)
+as_symbols : {w : List Token} {p : Part} → Is (some of_names) w p → (rest : List Token) (ss : List Want) (v : List Part) → run (w ++ rest) (logic_head ∷ ss) v ≡ run (w ++ rest) (items_wants of_names 0 ++ pass (kind.Sign sign.Colon) 0 ∷ logic_sorts ∷ ss) (flag false ∷ v)
 as_symbols h rest ss v = let s = named_first h tt in
     ap (λ z. run (z ++ rest) (logic_head ∷ ss) v) s.whole
     ∙ step_take s.name _ logic_head ss v kind.Ident 0 _ _ s.is_name refl
     ∙ sym (step_take s.name _ (keep kind.Ident 0) _ _ kind.Ident 0 [] _ s.is_name refl)
-    ∙ ap (λ z. run (z ++ rest) (row_wants of_names 0 ++ pass (kind.Sign sign.Colon) 0 ∷ logic_sorts ∷ ss) (flag false ∷ v)) (sym s.whole)
+    ∙ ap (λ z. run (z ++ rest) (items_wants of_names 0 ++ pass (kind.Sign sign.Colon) 0 ∷ logic_sorts ∷ ss) (flag false ∷ v)) (sym s.whole)
 
-as_formals : {w : List Token} {p : Part} → Is (some of_formals) w p → (rest : List Token) (ss : List Want) (v : List Part) → run (w ++ rest) (formals_end ∷ ss) v ≡ run (w ++ rest) (row_wants of_formals 1 ++ pass (kind.Sign sign.CloseParen) 0 ∷ ss) v
+as_formals : {w : List Token} {p : Part} → Is (some of_formals) w p → (rest : List Token) (ss : List Want) (v : List Part) → run (w ++ rest) (formals_end ∷ ss) v ≡ run (w ++ rest) (items_wants of_formals 1 ++ pass (kind.Sign sign.CloseParen) 0 ∷ ss) v
 as_formals h rest ss v = let s = named_first h tt in
     ap (λ z. run (z ++ rest) (formals_end ∷ ss) v) s.whole
     ∙ step_take s.name _ formals_end ss v kind.Ident 1 _ _ s.is_name refl
     ∙ sym (step_take s.name _ (keep kind.Ident 1) _ v kind.Ident 1 [] _ s.is_name refl)
-    ∙ ap (λ z. run (z ++ rest) (row_wants of_formals 1 ++ pass (kind.Sign sign.CloseParen) 0 ∷ ss) v) (sym s.whole)
+    ∙ ap (λ z. run (z ++ rest) (items_wants of_formals 1 ++ pass (kind.Sign sign.CloseParen) 0 ∷ ss) v) (sym s.whole)
 
 reads_formals : {w : List Token} {fs : List TypedName} (h : Is formals w (typeds fs)) (c : Token) (rest : List Token) (ss : List Want) (v : List Part) → c.kind ≡ (kind.Sign sign.CloseParen) → run (w ++ c ∷ rest) (formals_end ∷ ss) v ≡ marks (depths h 1) (mark 0 (run rest ss (typeds fs ∷ v)))
 reads_formals formals_none c rest ss v hc = step_take c rest formals_end ss v (kind.Sign sign.CloseParen) 0 [] _ hc refl
 reads_formals (formals_some p) c rest ss v hc = as_formals p (c ∷ rest) ss v
     ∙ reads p tt 1 (c ∷ rest) _ v (pulls c _ (kind.Sign sign.CloseParen) _ hc (omega arith))
-    ∙ ap (marks (depths p 1)) (row_ends of_formals 1 c _ _ _ (kind.Sign sign.CloseParen) hc refl ∙ step_take c rest (pass (kind.Sign sign.CloseParen) 0) _ _ (kind.Sign sign.CloseParen) 0 [] _ hc refl)
+    ∙ ap (marks (depths p 1)) (items_ends of_formals 1 c _ _ _ (kind.Sign sign.CloseParen) hc refl ∙ step_take c rest (pass (kind.Sign sign.CloseParen) 0) _ _ (kind.Sign sign.CloseParen) 0 [] _ hc refl)
 
 reads_brackets : {w : List Token} {fs : List TypedName} (h : Is in_brackets w (typeds fs)) (q : Token) (rest : List Token) (ss : List Want) (v : List Part) → q.kind ≡ (kind.Sign sign.Equal) → run (w ++ q ∷ rest) (predicate_head ∷ ss) v ≡ marks (depths h 0) (mark 0 (run rest ss (typeds fs ∷ v)))
 reads_brackets brackets_none q rest ss v hq = step_take q rest predicate_head ss v (kind.Sign sign.Equal) 0 [] _ hq refl
@@ -177,17 +177,17 @@ after_comma : (t : Token) (ts : List Token) (ss : List Want) (v : List Part) →
 after_comma t ts ss v h = step_take t ts after_sort ss v (kind.Sign sign.Comma) 0 _ _ h refl ∙ sym (makes begin _ _ _ ∙ step_take t ts (more of_types 0) _ _ (kind.Sign sign.Comma) 0 _ _ h refl)
 
 after_arrow : (t : Token) (ts : List Token) (ss : List Want) (v : List Part) → t.kind ≡ (kind.Sign sign.Arrow) → run (t ∷ ts) (after_sort ∷ ss) v ≡ run (t ∷ ts) (make begin ∷ more of_types 0 ∷ pass (kind.Sign sign.Arrow) 0 ∷ a_result_want ∷ make be_symbols ∷ ss) v
-after_arrow t ts ss v h = step_take t ts after_sort ss v (kind.Sign sign.Arrow) 0 _ _ h refl ∙ sym (makes begin _ _ _ ∙ row_ends of_types 0 t ts _ _ (kind.Sign sign.Arrow) h refl ∙ step_take t ts (pass (kind.Sign sign.Arrow) 0) _ _ (kind.Sign sign.Arrow) 0 [] _ h refl)
+after_arrow t ts ss v h = step_take t ts after_sort ss v (kind.Sign sign.Arrow) 0 _ _ h refl ∙ sym (makes begin _ _ _ ∙ items_ends of_types 0 t ts _ _ (kind.Sign sign.Arrow) h refl ∙ step_take t ts (pass (kind.Sign sign.Arrow) 0) _ _ (kind.Sign sign.Arrow) 0 [] _ h refl)
 
--- the first of a row of types, and then what follows it, is the row
-first_of_row : {l : Level} {w : List Token} {p : Part} → Is l w p → l ≡ some of_types → (t : Token) (ts : List Token) (ss : List Want) (v : List Part) → pull (t ∷ ts) < 10 → ((v : List Part) → run (t ∷ ts) (after_sort ∷ ss) v ≡ run (t ∷ ts) (make begin ∷ more of_types 0 ∷ pass (kind.Sign sign.Arrow) 0 ∷ a_result_want ∷ make be_symbols ∷ ss) v) → run (w ++ t ∷ ts) (a_type_want 0 ∷ after_sort ∷ ss) v ≡ run (w ++ t ∷ ts) (row_wants of_types 0 ++ pass (kind.Sign sign.Arrow) 0 ∷ a_result_want ∷ make be_symbols ∷ ss) v
-first_of_row (some_one of_types p) e t ts ss v l f = reads p tt 0 (t ∷ ts) (after_sort ∷ ss) v (omega arith)
+-- the first of some types, and then what follows it, are the types
+first_of_items : {l : Level} {w : List Token} {p : Part} → Is l w p → l ≡ some of_types → (t : Token) (ts : List Token) (ss : List Want) (v : List Part) → pull (t ∷ ts) < 10 → ((v : List Part) → run (t ∷ ts) (after_sort ∷ ss) v ≡ run (t ∷ ts) (make begin ∷ more of_types 0 ∷ pass (kind.Sign sign.Arrow) 0 ∷ a_result_want ∷ make be_symbols ∷ ss) v) → run (w ++ t ∷ ts) (a_type_want 0 ∷ after_sort ∷ ss) v ≡ run (w ++ t ∷ ts) (items_wants of_types 0 ++ pass (kind.Sign sign.Arrow) 0 ∷ a_result_want ∷ make be_symbols ∷ ss) v
+first_of_items (some_one of_types p) e t ts ss v l f = reads p tt 0 (t ∷ ts) (after_sort ∷ ss) v (omega arith)
     ∙ ap (marks (depths p 0)) (no_type _ _ _ _ l ∙ f _ ∙ sym (no_type _ _ _ _ l))
     ∙ sym (reads p tt 0 (t ∷ ts) _ v (omega arith))
-first_of_row (some_more of_types u w m p h g) e t ts ss v l f = ap (λ z. run z (a_type_want 0 ∷ after_sort ∷ ss) v) (append_assoc u (m ∷ w) (t ∷ ts))
-    ∙ first_of_row p refl m (w ++ t ∷ ts) ss v (pulls m _ (kind.Sign sign.Comma) _ h (omega arith)) (λ v. after_comma m (w ++ t ∷ ts) ss v h)
-    ∙ ap (λ z. run z (row_wants of_types 0 ++ pass (kind.Sign sign.Arrow) 0 ∷ a_result_want ∷ make be_symbols ∷ ss) v) (sym (append_assoc u (m ∷ w) (t ∷ ts)))
-first_of_row _ e t ts ss v l f = cc
+first_of_items (some_more of_types u w m p h g) e t ts ss v l f = ap (λ z. run z (a_type_want 0 ∷ after_sort ∷ ss) v) (append_assoc u (m ∷ w) (t ∷ ts))
+    ∙ first_of_items p refl m (w ++ t ∷ ts) ss v (pulls m _ (kind.Sign sign.Comma) _ h (omega arith)) (λ v. after_comma m (w ++ t ∷ ts) ss v h)
+    ∙ ap (λ z. run z (items_wants of_types 0 ++ pass (kind.Sign sign.Arrow) 0 ∷ a_result_want ∷ make be_symbols ∷ ss) v) (sym (append_assoc u (m ∷ w) (t ∷ ts)))
+first_of_items _ e t ts ss v l f = cc
 
 reads_arity : {w x : List Token} {xs : List WrittenType} {r : SymbolResult} (h : Is arguments w (sorts xs)) (k : Is a_result x (result r)) (rest : List Token) (ss : List Want) (v : List Part) → pull rest < 1 → run (w ++ (x ++ rest)) (logic_sorts ∷ ss) v ≡ marks (depths h 0) (marks (depths k 0) (run rest ss (apply be_symbols (result r ∷ sorts xs ∷ v))))
 reads_arity arguments_none (result_prop t h) rest ss v l = step_take t rest logic_sorts ss v (kind.Reserved word.Prop) 0 _ _ h refl ∙ ap (mark 0) (makes be_symbols rest ss _)
@@ -196,14 +196,14 @@ reads_arity arguments_none (result_type {s} {w} p) rest ss v l = as_sorts w (sor
     ∙ ap (marks (depths p 0)) (no_type _ rest _ _ (omega arith) ∙ no_after rest ss _ (omega arith))
 reads_arity {x = x} (arguments_some w a p h) k rest ss v l = ap (λ z. run z (logic_sorts ∷ ss) v) (append_assoc w (a ∷ []) (x ++ rest))
     ∙ as_sorts w (sorted_first p tt) (a ∷ (x ++ rest)) ss v
-    ∙ first_of_row p refl a (x ++ rest) ss v (pulls a _ (kind.Sign sign.Arrow) _ h (omega arith)) (λ v. after_arrow a (x ++ rest) ss v h)
+    ∙ first_of_items p refl a (x ++ rest) ss v (pulls a _ (kind.Sign sign.Arrow) _ h (omega arith)) (λ v. after_arrow a (x ++ rest) ss v h)
     ∙ reads p tt 0 (a ∷ (x ++ rest)) _ v (pulls a _ (kind.Sign sign.Arrow) _ h (omega arith))
-    ∙ ap (marks (depths p 0)) (row_ends of_types 0 a _ _ _ (kind.Sign sign.Arrow) h refl
+    ∙ ap (marks (depths p 0)) (items_ends of_types 0 a _ _ _ (kind.Sign sign.Arrow) h refl
     ∙ step_take a _ (pass (kind.Sign sign.Arrow) 0) _ _ (kind.Sign sign.Arrow) 0 [] _ h refl
     ∙ ap (mark 0) (reads_result k rest _ _ (omega arith) ∙ ap (marks (depths k 0)) (makes be_symbols rest ss _)))
     ∙ sym (marks_append (depths p 0) (0 ∷ []) _)
 
-reads_ac : {u x : List Token} {a : Bool} {p : Part} (h : Is ac u (flag a)) → Is (some of_names) x p → (rest : List Token) (ss : List Want) (v : List Part) → run (u ++ (x ++ rest)) (logic_head ∷ ss) v ≡ marks (depths h 0) (run (x ++ rest) (row_wants of_names 0 ++ pass (kind.Sign sign.Colon) 0 ∷ logic_sorts ∷ ss) (flag a ∷ v))
+reads_ac : {u x : List Token} {a : Bool} {p : Part} (h : Is ac u (flag a)) → Is (some of_names) x p → (rest : List Token) (ss : List Want) (v : List Part) → run (u ++ (x ++ rest)) (logic_head ∷ ss) v ≡ marks (depths h 0) (run (x ++ rest) (items_wants of_names 0 ++ pass (kind.Sign sign.Colon) 0 ∷ logic_sorts ∷ ss) (flag a ∷ v))
 reads_ac ac_none q rest ss v = as_symbols q rest ss v
 reads_ac (ac_word t h) q rest ss v = step_take t _ logic_head ss v (kind.Reserved word.Ac) 0 _ _ h refl
 
@@ -217,7 +217,7 @@ reads_decl (decl_record u w t m e o c ht p hm he ho q hc) rest ss v l = ap (λ z
     ∙ ap (mark 0) (type_named p m (e ∷ o ∷ (w ++ c ∷ rest)) _ _ hm
     ∙ ap (marks (depths p 0)) (ap (mark 0) (type_opens p e o (w ++ c ∷ rest) _ _ he ho
     ∙ ap (λ z. mark 0 (mark 1 z)) (reads q tt 1 (c ∷ rest) _ _ (pulls c _ (kind.Sign sign.CloseBrace) _ hc (omega arith))
-    ∙ ap (marks (depths q 1)) (row_ends of_fields 1 c _ _ _ (kind.Sign sign.CloseBrace) hc refl
+    ∙ ap (marks (depths q 1)) (items_ends of_fields 1 c _ _ _ (kind.Sign sign.CloseBrace) hc refl
     ∙ step_take c rest (keep (kind.Sign sign.CloseBrace) 0) _ _ (kind.Sign sign.CloseBrace) 0 [] _ hc refl
     ∙ ap (mark 0) (makes be_record rest _ _)))))
     ∙ sym (marks2 (depths p 0) (0 ∷ 0 ∷ 1 ∷ depths q 1) (0 ∷ []) _))
@@ -231,7 +231,7 @@ reads_decl (decl_logic u x w y t c ht p q hc g k) rest ss v l = ap (λ z. run (t
     ∙ step_take t _ a_file ss v (kind.Reserved word.Logic) 0 _ _ ht refl
     ∙ ap (mark 0) (reads_ac p q (c ∷ (w ++ (y ++ rest))) _ _
     ∙ ap (marks (depths p 0)) (reads q tt 0 (c ∷ (w ++ (y ++ rest))) _ _ (pulls c _ (kind.Sign sign.Colon) _ hc (omega arith))
-    ∙ ap (marks (depths q 0)) (row_ends of_names 0 c _ _ _ (kind.Sign sign.Colon) hc refl
+    ∙ ap (marks (depths q 0)) (items_ends of_names 0 c _ _ _ (kind.Sign sign.Colon) hc refl
     ∙ step_take c _ (pass (kind.Sign sign.Colon) 0) _ _ (kind.Sign sign.Colon) 0 [] _ hc refl
     ∙ ap (mark 0) (reads_arity g k rest _ _ l)))
     ∙ sym (marks3 (depths p 0) (depths q 0) (0 ∷ depths g 0) (depths k 0) _))

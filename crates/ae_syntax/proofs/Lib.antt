@@ -1,20 +1,17 @@
-pub mod ComposedSteps
-pub mod ComposedLevels
-pub mod ComposedExprs
-pub mod ComposedForms
-pub mod ComposedAtoms
-pub mod ComposedRows
-pub mod ComposedBraces
-pub mod ComposedDecls
-pub mod Alike
+-- Steps, Acts, Levels: what the machine does. GrammarToMachine, Files: it reads what the grammar relates to tokens. Pieces,
+-- ViablePrefix, Continuation, Stops, Whole: what it reads is of the grammar, and where it stops no file goes on.
+-- ParserMeetsMachine: what the parser's functions answer is what the machine does. FileLaws, Places: the laws.
 pub mod Steps
+pub mod Acts
 pub mod Levels
-pub mod Complete
+pub mod GrammarToMachine
 pub mod Files
 pub mod Stops
 pub mod Pieces
-pub mod Viable
-pub mod Ahead
+pub mod ViablePrefix
+pub mod Continuation
 pub mod Whole
-pub mod Places
+pub mod SameKinds
+pub mod ParserMeetsMachine
 pub mod FileLaws
+pub mod Places

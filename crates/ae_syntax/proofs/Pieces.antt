@@ -15,9 +15,9 @@ use Rattle.ae_syntax.specs.declared.decls.TypedName.{TypedName}
 use Rattle.ae_syntax.specs.declared.decls.SymbolResult.{SymbolResult}
 use Rattle.ae_syntax.specs.declared.decls.Decl.{Decl}
 use Rattle.ae_syntax.specs.Parts.{Part, token, flag, tree, sort, setting, trigger, group, typed, result, decl, names, trees, sorts, settings, triggers, groups, typeds, decls}
-use Rattle.ae_syntax.specs.Grammar.{IsWord, IsSign, IsIdent, Row, of_names, of_constructors, of_vars, of_types, of_fields, of_formals, of_groups, of_exprs, of_triggers, of_settings, separator, Level, file, a_decl, id, var, ac, params, formals, in_brackets, arguments, in_squares, typed_id, set_id, a_result as result_level, a_type as type_level, expr, orE, orC, andE, andC, notE, notC, a_group, a_trigger, rel, sum, prod, unary, post, atom, some, element, Is, some_one, some_more, is_id, is_var, id_type, group_type, trigger_exprs, id_value}
-use Rattle.ae_syntax.specs.Machine.{Rule, begin, give_type, group_names, match_terms, set, Want, an_expr, an_or, an_and, an_not, a_rel, a_sum, a_prod, a_unary, a_post, an_atom, a_type, more_arrow, more_or, more_and, more_rel, more_sum, more_prod, more_post, more_type, more, keep, pass, make, call, bracket_end, brace, brace_name, triggers_or_dot, a_file, type_head, type_body, type_form, type_end, logic_head, logic_sorts, after_sort, a_result, formals_end, predicate_head, element_wants, row_wants, unchained}
-use Rattle.ae_syntax.proofs.Alike.{never}
+use Rattle.ae_syntax.specs.Grammar.{IsWord, IsSign, IsIdent, Items, of_names, of_constructors, of_vars, of_types, of_fields, of_formals, of_groups, of_exprs, of_triggers, of_settings, separator, Level, file, a_decl, id, var, ac, params, formals, in_brackets, arguments, in_squares, typed_id, set_id, a_result as result_level, a_type as type_level, expr, orE, orC, andE, andC, notE, notC, a_group, a_trigger, rel, sum, prod, unary, post, atom, some, element, Is, some_one, some_more, is_id, is_var, id_type, group_type, trigger_exprs, id_value}
+use Rattle.ae_syntax.specs.Inner.Machine.{Rule, begin, give_type, group_names, match_terms, set, Want, an_expr, an_or, an_and, an_not, a_rel, a_sum, a_prod, a_unary, a_post, an_atom, a_type, more_arrow, more_or, more_and, more_rel, more_sum, more_prod, more_post, more_type, more, keep, pass, make, call, bracket_end, brace, brace_name, triggers_or_dot, a_file, type_head, type_body, type_definition, type_end, logic_head, logic_sorts, after_sort, a_result, formals_end, predicate_head, element_wants, items_wants, unchained}
+use Rattle.ae_syntax.proofs.SameKinds.{never}
 
 -- ---- what a level makes
 abbrev pub Made : Level → Type 0
@@ -84,7 +84,7 @@ pub record Some_of (l : Level) (w : List Token) : Type 0 where
   pub value : Made l
   pub is : Is l w (part_of l value)
 
-pub one_of : (r : Row) (w : List Token) → Some_of (element r) w → Some_of (some r) w
+pub one_of : (r : Items) (w : List Token) → Some_of (element r) w → Some_of (some r) w
 one_of of_names w p = record { value = _; is = some_one of_names p.is }
 one_of of_constructors w p = record { value = _; is = some_one of_constructors p.is }
 one_of of_vars w p = record { value = _; is = some_one of_vars p.is }
@@ -96,7 +96,7 @@ one_of of_exprs w p = record { value = _; is = some_one of_exprs p.is }
 one_of of_triggers w p = record { value = _; is = some_one of_triggers p.is }
 one_of of_settings w p = record { value = _; is = some_one of_settings p.is }
 
-pub more_of : (r : Row) (u w : List Token) (t : Token) → Some_of (some r) u → IsSign (separator r) t → Some_of (element r) w → Some_of (some r) (u ++ t ∷ w)
+pub more_of : (r : Items) (u w : List Token) (t : Token) → Some_of (some r) u → IsSign (separator r) t → Some_of (element r) w → Some_of (some r) (u ++ t ∷ w)
 more_of of_names u w t q h p = record { value = _; is = some_more of_names u w t q.is h p.is }
 more_of of_constructors u w t q h p = record { value = _; is = some_more of_constructors u w t q.is h p.is }
 more_of of_vars u w t q h p = record { value = _; is = some_more of_vars u w t q.is h p.is }
@@ -168,7 +168,7 @@ Piece (triggers_or_dot n) d u = Closed in_squares (kind.Sign sign.Dot) u
 Piece a_file d u = (x : List Token) → Some_of file x → Some_of file (x ++ u)
 Piece type_head d u = (t : Token) → IsWord word.Type_ t → Some_of a_decl (t ∷ u)
 Piece type_body d u = (t m : Token) → IsWord word.Type_ t → IsIdent m → Some_of a_decl (t ∷ m ∷ u)
-Piece type_form d u = (t m e : Token) → IsWord word.Type_ t → IsIdent m → IsSign sign.Equal e → Some_of a_decl (t ∷ m ∷ e ∷ u)
+Piece type_definition d u = (t m e : Token) → IsWord word.Type_ t → IsIdent m → IsSign sign.Equal e → Some_of a_decl (t ∷ m ∷ e ∷ u)
 Piece type_end d u = (t : Token) → IsWord word.Type_ t → (x : List Token) → Some_of params x → (m : Token) → IsIdent m → Some_of a_decl (t ∷ x ++ m ∷ u)
 Piece logic_head d u = (t : Token) → IsWord word.Logic t → Some_of a_decl (t ∷ u)
 Piece logic_sorts d u = Arity u
@@ -218,25 +218,25 @@ sew y f k = let n = k.more in record { open_end = n.open_end; here = k.here ++ n
 pub prefixed : {piece whole after : Bool → List Token → Type 0} (t : Token) (y : List Token) → ((d : Bool) (u : List Token) → piece d u → whole d (t ∷ u)) → Cut piece after y → Cut whole after (t ∷ y)
 prefixed t y f k = record { open_end = k.open_end; here = t ∷ k.here; there = k.there; whole = ap (λ z. t ∷ z) k.whole; is = f k.open_end k.here k.is; more = k.more }
 
--- ---- rows
-abbrev pub Elemental : Row → Type 0
+-- ---- items
+abbrev pub Elemental : Items → Type 0
 Elemental r = (n : ℕ) (ss : List Want) (c : Bool) (y : List Token) → Split (element_wants r n ++ ss) c y → Cut (λ d u. Some_of (element r) u) (Split ss) y
 
-abbrev pub Rowed : Row → Type 0
-Rowed r = (n : ℕ) (ss : List Want) (c : Bool) (y : List Token) → Split (row_wants r n ++ ss) c y → Cut (λ d u. Some_of (some r) u) (Split ss) y
+abbrev pub Itemized : Items → Type 0
+Itemized r = (n : ℕ) (ss : List Want) (c : Bool) (y : List Token) → Split (items_wants r n ++ ss) c y → Cut (λ d u. Some_of (some r) u) (Split ss) y
 
-rowed : (r : Row) → Elemental r → Rowed r
-rowed r e n ss c y k = sew y (λ c d u x p m. m u (one_of r u p)) (e n (make begin ∷ more r n ∷ ss) c y (subst (λ z. Split z c y) (append_assoc (element_wants r n) (make begin ∷ more r n ∷ []) ss) k))
+itemized : (r : Items) → Elemental r → Itemized r
+itemized r e n ss c y k = sew y (λ c d u x p m. m u (one_of r u p)) (e n (make begin ∷ more r n ∷ ss) c y (subst (λ z. Split z c y) (append_assoc (element_wants r n) (make begin ∷ more r n ∷ []) ss) k))
 
 -- ---- what is wanted in sequence
 pub data Bit : Type 0 where
   want : Want → Bit
-  row : Row → ℕ → Bit
+  items : Items → ℕ → Bit
   mk : Rule → Bit
 
 abbrev pub Bite : Bit → Bool → List Token → Type 0
 Bite (want s) d u = Piece s d u
-Bite (row r n) d u = Some_of (some r) u
+Bite (items r n) d u = Some_of (some r) u
 Bite (mk r) d u = ⊥
 
 pub data Pieces : List Bit → List Token → Type 0 where
@@ -248,13 +248,13 @@ pub data Pieces : List Bit → List Token → Type 0 where
 abbrev pub expand : List Bit → List Want
 expand [] = []
 expand (want s ∷ bs) = s ∷ expand bs
-expand (row r n ∷ bs) = row_wants r n ++ expand bs
+expand (items r n ∷ bs) = items_wants r n ++ expand bs
 expand (mk r ∷ bs) = make r ∷ expand bs
 
 abbrev pub reals : List Bit → List Bit
 reals [] = []
 reals (want s ∷ bs) = want s ∷ reals bs
-reals (row r n ∷ bs) = row r n ∷ reals bs
+reals (items r n ∷ bs) = items r n ∷ reals bs
 reals (mk r ∷ bs) = reals bs
 
 -- no chain of expressions is among them
@@ -266,12 +266,12 @@ quiet (want (more_and n) ∷ bs) = false
 quiet (want (make r) ∷ bs) = false
 quiet (b ∷ bs) = quiet bs
 
--- what is known of the rows among them
-abbrev pub Rows : List Bit → Type 0
-Rows [] = Unit {0}
-Rows (want s ∷ bs) = Rows bs
-Rows (row r n ∷ bs) = Rowed r × Rows bs
-Rows (mk r ∷ bs) = Rows bs
+-- what is known of the items among them
+abbrev pub AllItems : List Bit → Type 0
+AllItems [] = Unit {0}
+AllItems (want s ∷ bs) = AllItems bs
+AllItems (items r n ∷ bs) = Itemized r × AllItems bs
+AllItems (mk r ∷ bs) = AllItems bs
 
 join : (b : Bit) (d : Bool) (u : List Token) (bs : List Bit) (x : List Token) → Bite b d u → Pieces bs x → Pieces (b ∷ bs) (u ++ x)
 join b d u [] _ p none = subst (λ z. Pieces (b ∷ []) z) (sym (append-nil u)) (last d u p)
@@ -280,10 +280,10 @@ join b d u (c ∷ bs) x p q = next d u x p q
 attach : (b : Bit) (bs : List Bit) (ss : List Want) (y : List Token) → ((c : Bool) (y : List Token) → Split (expand bs ++ ss) c y → Cut (λ d u. Pieces (reals bs) u) (Split ss) y) → Cut (Bite b) (Split (expand bs ++ ss)) y → Cut (λ d u. Pieces (b ∷ reals bs) u) (Split ss) y
 attach b bs ss y f k = let n = f k.open_end k.there k.more in record { open_end = n.open_end; here = k.here ++ n.here; there = n.there; whole = k.whole ∙ ap (λ z. k.here ++ z) n.whole ∙ sym (append_assoc k.here n.here n.there); is = join b k.open_end k.here (reals bs) n.here k.is n.is; more = n.more }
 
-pub gather : (bs : List Bit) → quiet bs ≡ true → Rows bs → (ss : List Want) (c : Bool) (y : List Token) → Split (expand bs ++ ss) c y → Cut (λ d u. Pieces (reals bs) u) (Split ss) y
+pub gather : (bs : List Bit) → quiet bs ≡ true → AllItems bs → (ss : List Want) (c : Bool) (y : List Token) → Split (expand bs ++ ss) c y → Cut (λ d u. Pieces (reals bs) u) (Split ss) y
 gather [] q w ss c y k = record { open_end = c; here = []; there = y; whole = refl; is = none; more = k }
 gather (mk r ∷ bs) q w ss c y k = gather bs q w ss c y k
-gather (row r n ∷ bs) q w ss c y k = attach (row r n) bs ss y (λ c y k. gather bs q w.1 ss c y k) (w.0 n (expand bs ++ ss) c y (subst (λ z. Split z c y) (append_assoc (row_wants r n) (expand bs) ss) k))
+gather (items r n ∷ bs) q w ss c y k = attach (items r n) bs ss y (λ c y k. gather bs q w.1 ss c y k) (w.0 n (expand bs ++ ss) c y (subst (λ z. Split z c y) (append_assoc (items_wants r n) (expand bs) ss) k))
 gather (want (more_arrow n) ∷ bs) q w ss c y k = never q
 gather (want (more_or n) ∷ bs) q w ss c y k = never q
 gather (want (more_and n) ∷ bs) q w ss c y k = never q
@@ -291,10 +291,10 @@ gather (want (make r) ∷ bs) q w ss c y k = never q
 gather (want s ∷ bs) q w ss c y k = attach (want s) bs ss y (λ c y k. gather bs q w ss c y k) k
 
 -- the same, as one thing
-as_one : (bs : List Bit) → quiet bs ≡ true → Rows bs → (P : List Token → Type 0) → ((u : List Token) → Pieces (reals bs) u → P u) → (ss : List Want) (c : Bool) (y : List Token) → Split (expand bs ++ ss) c y → Cut (λ d u. P u) (Split ss) y
+as_one : (bs : List Bit) → quiet bs ≡ true → AllItems bs → (P : List Token → Type 0) → ((u : List Token) → Pieces (reals bs) u → P u) → (ss : List Want) (c : Bool) (y : List Token) → Split (expand bs ++ ss) c y → Cut (λ d u. P u) (Split ss) y
 as_one bs q w P f ss c y k = let g = gather bs q w ss c y k in record { open_end = g.open_end; here = g.here; there = g.there; whole = g.whole; is = f g.here g.is; more = g.more }
 
--- ---- the elements of rows
+-- ---- one of the items
 id_is : (k : ℕ) (u : List Token) → Pieces (want (keep kind.Ident k) ∷ []) u → Some_of id u
 id_is k _ (last _ _ (one t h)) = record { value = t; is = is_id t h }
 
@@ -313,26 +313,26 @@ typed_is k _ (next _ _ _ (one m hm) (next _ _ _ (one c hc) (last _ w p))) = reco
 set_is : (k : ℕ) (u : List Token) → Pieces (want (keep kind.Ident k) ∷ want (pass (kind.Sign sign.Equal) k) ∷ want (an_expr k) ∷ []) u → Some_of set_id u
 set_is k _ (next _ _ _ (one m hm) (next _ _ _ (one c hc) (last _ w p))) = record { value = _; is = id_value w m c hm hc p.is }
 
-elemental : (r : Row) → (bs : ℕ → List Bit) → ((n : ℕ) → quiet (bs n) ≡ true) → ((n : ℕ) → Rows (bs n)) → ((n : ℕ) → expand (bs n) ≡ element_wants r n) → ((n : ℕ) (u : List Token) → Pieces (reals (bs n)) u → Some_of (element r) u) → Elemental r
+elemental : (r : Items) → (bs : ℕ → List Bit) → ((n : ℕ) → quiet (bs n) ≡ true) → ((n : ℕ) → AllItems (bs n)) → ((n : ℕ) → expand (bs n) ≡ element_wants r n) → ((n : ℕ) (u : List Token) → Pieces (reals (bs n)) u → Some_of (element r) u) → Elemental r
 elemental r bs q w e f n ss c y k = as_one (bs n) (q n) (w n) (Some_of (element r)) (f n) ss c y (subst (λ z. Split (z ++ ss) c y) (sym (e n)) k)
 
-names_rowed : Rowed of_names
-names_rowed = rowed of_names (elemental of_names (λ n. want (keep kind.Ident n) ∷ []) (λ n. refl) (λ n. tt) (λ n. refl) id_is)
+names_itemized : Itemized of_names
+names_itemized = itemized of_names (elemental of_names (λ n. want (keep kind.Ident n) ∷ []) (λ n. refl) (λ n. tt) (λ n. refl) id_is)
 
-exprs_rowed : Rowed of_exprs
-exprs_rowed = rowed of_exprs (elemental of_exprs (λ n. want (an_expr n) ∷ []) (λ n. refl) (λ n. tt) (λ n. refl) expr_is)
+exprs_itemized : Itemized of_exprs
+exprs_itemized = itemized of_exprs (elemental of_exprs (λ n. want (an_expr n) ∷ []) (λ n. refl) (λ n. tt) (λ n. refl) expr_is)
 
 typed_bits : ℕ → List Bit
 typed_bits n = want (keep kind.Ident n) ∷ want (pass (kind.Sign sign.Colon) n) ∷ want (a_type n) ∷ mk give_type ∷ []
 
-group_is : (k : ℕ) (u : List Token) → Pieces (row of_names k ∷ want (pass (kind.Sign sign.Colon) k) ∷ want (a_type k) ∷ []) u → Some_of a_group u
+group_is : (k : ℕ) (u : List Token) → Pieces (items of_names k ∷ want (pass (kind.Sign sign.Colon) k) ∷ want (a_type k) ∷ []) u → Some_of a_group u
 group_is k _ (next _ u _ p (next _ _ _ (one c hc) (last _ w q))) = record { value = _; is = group_type u w c p.is hc q.is }
 
-trigger_is : (k : ℕ) (u : List Token) → Pieces (row of_exprs k ∷ []) u → Some_of a_trigger u
+trigger_is : (k : ℕ) (u : List Token) → Pieces (items of_exprs k ∷ []) u → Some_of a_trigger u
 trigger_is k u (last _ _ p) = record { value = _; is = trigger_exprs p.is }
 
--- an element of a row
-pub element_of : (r : Row) → Elemental r
+-- one of the items
+pub element_of : (r : Items) → Elemental r
 unfolding typed_bits
 element_of of_names = elemental of_names (λ n. want (keep kind.Ident n) ∷ []) (λ n. refl) (λ n. tt) (λ n. refl) id_is
 element_of of_constructors = elemental of_constructors (λ n. want (keep kind.Ident n) ∷ []) (λ n. refl) (λ n. tt) (λ n. refl) id_is
@@ -340,20 +340,20 @@ element_of of_vars = elemental of_vars (λ n. want (keep kind.TypeVar n) ∷ [])
 element_of of_types = elemental of_types (λ n. want (a_type n) ∷ []) (λ n. refl) (λ n. tt) (λ n. refl) sort_is
 element_of of_fields = elemental of_fields typed_bits (λ n. refl) (λ n. tt) (λ n. refl) typed_is
 element_of of_formals = elemental of_formals typed_bits (λ n. refl) (λ n. tt) (λ n. refl) typed_is
-element_of of_groups = elemental of_groups (λ n. row of_names n ∷ want (pass (kind.Sign sign.Colon) n) ∷ want (a_type n) ∷ mk group_names ∷ []) (λ n. refl) (λ n. (names_rowed, tt)) (λ n. refl) group_is
+element_of of_groups = elemental of_groups (λ n. items of_names n ∷ want (pass (kind.Sign sign.Colon) n) ∷ want (a_type n) ∷ mk group_names ∷ []) (λ n. refl) (λ n. (names_itemized, tt)) (λ n. refl) group_is
 element_of of_exprs = elemental of_exprs (λ n. want (an_expr n) ∷ []) (λ n. refl) (λ n. tt) (λ n. refl) expr_is
-element_of of_triggers = elemental of_triggers (λ n. row of_exprs n ∷ mk match_terms ∷ []) (λ n. refl) (λ n. (exprs_rowed, tt)) (λ n. refl) trigger_is
+element_of of_triggers = elemental of_triggers (λ n. items of_exprs n ∷ mk match_terms ∷ []) (λ n. refl) (λ n. (exprs_itemized, tt)) (λ n. refl) trigger_is
 element_of of_settings = elemental of_settings (λ n. want (keep kind.Ident n) ∷ want (pass (kind.Sign sign.Equal) n) ∷ want (an_expr n) ∷ mk set ∷ []) (λ n. refl) (λ n. tt) (λ n. refl) set_is
 
-rows : (r : Row) → Rowed r
-rows r = rowed r (element_of r)
+are_items : (r : Items) → Itemized r
+are_items r = itemized r (element_of r)
 
-pub all_rows : (bs : List Bit) → Rows bs
-all_rows [] = tt
-all_rows (want s ∷ bs) = all_rows bs
-all_rows (row r n ∷ bs) = (rows r, all_rows bs)
-all_rows (mk r ∷ bs) = all_rows bs
+pub all_items : (bs : List Bit) → AllItems bs
+all_items [] = tt
+all_items (want s ∷ bs) = all_items bs
+all_items (items r n ∷ bs) = (are_items r, all_items bs)
+all_items (mk r ∷ bs) = all_items bs
 
 -- a token, and then a sequence, is this piece
 pub after_token : (bs : List Bit) → quiet bs ≡ true → (P : Bool → List Token → Type 0) (ss : List Want) (t : Token) (y : List Token) → ((d : Bool) (u : List Token) → Pieces (reals bs) u → P d (t ∷ u)) → Split (expand bs ++ ss) false y → Cut P (Split ss) (t ∷ y)
-after_token bs q P ss t y f k = prefixed t y f (gather bs q (all_rows bs) ss false y k)
+after_token bs q P ss t y f k = prefixed t y f (gather bs q (all_items bs) ss false y k)

@@ -4,9 +4,11 @@ use Rattle.ae_lex.specs.declared.kinds.Token.{Token}
 use Rattle.ae_lex.specs.declared.kinds.LexFault.{LexFault}
 use Rattle.ae_lex.specs.declared.kinds.LexFault.TheVariants as lex_fault
 use Rattle.ae_lex.specs.Lexis.{IsCut, ends, fails, passes, gives, IsTokenized, IsFault, IsFaultAt}
+use Rattle.ae_lex.specs.Lexis as lexis
+use Rattle.std.specs.Prelude.{IfSome}
 use Rattle.ae_syntax.specs.declared.faults.SyntaxFault.{SyntaxFault}
 use Rattle.ae_syntax.specs.declared.faults.SyntaxFault.TheVariants as fault
-use Rattle.ae_syntax.specs.Files.{IsSyntaxFault, StopsAt, SinksAt, place, fault_place, lex_fault_place}
+use Rattle.ae_syntax.specs.Files.{IsSyntaxFault, StopsAt, SinksAt, place, fault_place}
 
 -- no token begins after a place
 abbrev Begin : ℕ → List Token → Type 0
@@ -37,13 +39,13 @@ stops_within : (text : List ℕ) (ts : List Token) (b : Bool) (at : ℕ) → IsT
 stops_within text ts b at c s = let l = place_within text s.before s.after (subst (λ z. Begin (length text) z) s.cut (tokens_begin text ts c)) in let e = s.at_is in omega (arith, l, e)
 
 -- the place of a fault of syntax is in the text
-pub fault_within : (text : List ℕ) (ts : List Token) (e : SyntaxFault) → IsTokenized text ts → IsSyntaxFault text ts e → fault_place e ≤ length text
+pub fault_within : (text : List ℕ) (ts : List Token) (e : SyntaxFault) → IsTokenized text ts → IsSyntaxFault text ts e → IfSome (fault_place e) (λ at. at ≤ length text)
 fault_within text ts (fault.Unexpected at) c s = stops_within text ts _ at c s
 fault_within text ts (fault.OutsideProfile at) c s = stops_within text ts _ at c s
 fault_within text ts (fault.TooDeep at) c s = let l = begins_at (length text) s.before s.after s.token (subst (λ z. Begin (length text) z) s.cut (tokens_begin text ts c)) in let e = s.at_is in omega (arith, l, e)
 fault_within text ts fault.Memory c s = absurd s
 
-fault_at : (f : LexFault) (at : ℕ) (x : List ℕ) → IsFaultAt f at x → lex_fault_place f ≤ at + length x
+fault_at : (f : LexFault) (at : ℕ) (x : List ℕ) → IsFaultAt f at x → IfSome (lexis.fault_place f) (λ p. p ≤ at + length x)
 fault_at (lex_fault.BadByte p) at x h = let e = h.0 in omega (arith, e)
 fault_at (lex_fault.OpenComment p) at x h = let e = h.0 in omega (arith, e)
 fault_at (lex_fault.WideLiteral p) at x h = let e = h.0 in omega (arith, e)
@@ -53,12 +55,12 @@ fault_at lex_fault.Memory at x h = absurd h
 no_fault : (f : LexFault) → ◌≡◌ {A = Option LexFault} None (Some f) → ⊥
 no_fault f e = cc
 
-cut_within : (at : ℕ) (x : List ℕ) (ts : List Token) (o : Option LexFault) (f : LexFault) → IsCut at x ts o → o ≡ Some f → lex_fault_place f ≤ at + length x
+cut_within : (at : ℕ) (x : List ℕ) (ts : List Token) (o : Option LexFault) (f : LexFault) → IsCut at x ts o → o ≡ Some f → IfSome (lexis.fault_place f) (λ p. p ≤ at + length x)
 cut_within at x ts o f (ends a) q = absurd (no_fault f q)
-cut_within at x ts o f (fails a y g h) q = let e : g ≡ f = cc in subst (λ z. lex_fault_place z ≤ a + length y) e (fault_at g a y h)
-cut_within at x ts o f (passes a y w rest us g e p c) q = subst (λ n. lex_fault_place f ≤ n) (further a y w rest e) (cut_within (a + length w) rest us g f c q)
-cut_within at x ts o f (gives a y w rest k us g e b c) q = subst (λ n. lex_fault_place f ≤ n) (further a y w rest e) (cut_within (a + length w) rest us g f c q)
+cut_within at x ts o f (fails a y g h) q = let e : g ≡ f = cc in subst (λ z. IfSome (lexis.fault_place z) (λ p. p ≤ a + length y)) e (fault_at g a y h)
+cut_within at x ts o f (passes a y w rest us g e p c) q = subst (λ n. IfSome (lexis.fault_place f) (λ p. p ≤ n)) (further a y w rest e) (cut_within (a + length w) rest us g f c q)
+cut_within at x ts o f (gives a y w rest k us g e b c) q = subst (λ n. IfSome (lexis.fault_place f) (λ p. p ≤ n)) (further a y w rest e) (cut_within (a + length w) rest us g f c q)
 
 -- and so is the place of a fault of lexis
-pub lex_fault_within : (text : List ℕ) (f : LexFault) → IsFault text f → lex_fault_place f ≤ length text
-lex_fault_within text f h = let l = cut_within 0 text h.0 (Some f) f h.1 refl in omega (arith, l)
+pub lex_fault_within : (text : List ℕ) (f : LexFault) → IsFault text f → IfSome (lexis.fault_place f) (λ at. at ≤ length text)
+lex_fault_within text f h = let whole : 0 + length text ≡ length text = omega arith in subst (λ n. IfSome (lexis.fault_place f) (λ p. p ≤ n)) whole (cut_within 0 text h.0 (Some f) f h.1 refl)

@@ -7,7 +7,7 @@ use Rattle.ae_lex.specs.declared.kinds.Reserved.TheVariants as word
 use Rattle.ae_lex.specs.declared.kinds.Sign.TheVariants as sign
 use Rattle.ae_syntax.specs.Grammar.{of_exprs, of_constructors}
 use Rattle.ae_syntax.specs.Parts.{Part}
-use Rattle.ae_syntax.specs.Machine.{Rule, be_bare, apply, Want, more_arrow, more_or, more_and, more_rel, more_sum, more_prod, more_post, more_type, more, make, call, type_body, type_end, after_sort, be_abstract, be_symbols, lone_result, Act, skip, take, opens, refuse, act, unchained, Outcome, stops, mark, after, feed, idle, ended, finish, onward, run}
+use Rattle.ae_syntax.specs.Inner.Machine.{Rule, be_bare, apply, Want, more_arrow, more_or, more_and, more_rel, more_sum, more_prod, more_post, more_type, more, make, call, type_body, type_end, after_sort, be_abstract, be_symbols, lone_result, Act, skip, take, opens, refuse, act, unchained, Outcome, stops, mark, after, feed, idle, ended, finish, onward, run}
 
 -- what follows an act
 unfoldable pub went : Act → List Want → Token → List Token → Outcome

@@ -7,9 +7,10 @@ use Rattle.ae_syntax.specs.declared.decls.Decl.{Decl}
 use Rattle.ae_syntax.specs.Parts.{Part, decls}
 use Rattle.ae_syntax.specs.Grammar.{Is, file}
 use Rattle.ae_syntax.specs.Depth.{depths}
-use Rattle.ae_syntax.specs.Machine.{Want, a_file, Act, skip, take, opens, refuse, Outcome, read, stops, mark, Fed, fed, unfed, ended, idle, finish, feed, onward, run, all, wrong, deep, limited}
-use Rattle.ae_syntax.proofs.Complete.{marks}
+use Rattle.ae_syntax.specs.Inner.Machine.{Want, a_file, Act, skip, take, opens, refuse, Outcome, read, stops, mark, Fed, fed, unfed, ended, idle, finish, feed, onward, run, all, wrong, deep, limited}
+use Rattle.ae_syntax.proofs.GrammarToMachine.{marks}
 use Rattle.ae_syntax.proofs.Files.{file_read}
+use Rattle.ae_syntax.specs.declared.cursor.TheConstants.{DEPTH_LIMIT}
 
 -- the outcome ends in a stop, or in parts
 abbrev Stopped : Outcome → Type 0
@@ -112,7 +113,7 @@ left_over w s v ds n e = count_marks ds n (length w) (subst (Count (length w)) e
 -- ---- what a verdict says of the outcome
 abbrev pub Shallow : List ℕ → Type 0
 Shallow [] = Unit {0}
-Shallow (d ∷ ds) = (d ≤ 1000) × Shallow ds
+Shallow (d ∷ ds) = (d ≤ DEPTH_LIMIT) × Shallow ds
 
 pub record Wrongly (o : Outcome) (n : ℕ) : Type 0 where
   pub taken : List ℕ
@@ -130,7 +131,7 @@ pub record Deeply (o : Outcome) (left n : ℕ) : Type 0 where
   pub rest : Outcome
   pub is : o ≡ marks taken (mark depth rest)
   pub shallow : Shallow taken
-  pub beyond : 1000 < depth
+  pub beyond : DEPTH_LIMIT < depth
   pub left_there : n + length taken ≡ left
 
 wrong_same : (m n : ℕ) → wrong m ≡ wrong n → m ≡ n
@@ -139,23 +140,23 @@ wrong_same m n e = cc
 all_same : (u v : List Part) → all u ≡ all v → u ≡ v
 all_same u v e = cc
 
-wrong_step : (d left n : ℕ) (o : Outcome) (b : Bool) → nat_le d 1000 ≡ b → (limited (left - 1) o ≡ wrong n → Wrongly o n) → cond b (limited (left - 1) o) (deep left) ≡ wrong n → Wrongly (mark d o) n
-wrong_step d left n o true h ih e = let w = ih e in record { taken = d ∷ w.taken; is = ap (mark d) w.is; shallow = (leb-true d 1000 h, w.shallow) }
+wrong_step : (d left n : ℕ) (o : Outcome) (b : Bool) → nat_le d DEPTH_LIMIT ≡ b → (limited (left - 1) o ≡ wrong n → Wrongly o n) → cond b (limited (left - 1) o) (deep left) ≡ wrong n → Wrongly (mark d o) n
+wrong_step d left n o true h ih e = let w = ih e in record { taken = d ∷ w.taken; is = ap (mark d) w.is; shallow = (leb-true d DEPTH_LIMIT h, w.shallow) }
 wrong_step d left n o false h ih e = cc
 
 pub judged_wrong : (left n : ℕ) (o : Outcome) → limited left o ≡ wrong n → Wrongly o n
 judged_wrong left n (read v) e = cc
 judged_wrong left n (stops m) e = record { taken = []; is = ap stops (wrong_same m n e); shallow = tt }
-judged_wrong left n (mark d o) e = wrong_step d left n o (nat_le d 1000) refl (judged_wrong (left - 1) n o) e
+judged_wrong left n (mark d o) e = wrong_step d left n o (nat_le d DEPTH_LIMIT) refl (judged_wrong (left - 1) n o) e
 
-all_step : (d left : ℕ) (v : List Part) (o : Outcome) (b : Bool) → nat_le d 1000 ≡ b → (limited (left - 1) o ≡ all v → Wholly o v) → cond b (limited (left - 1) o) (deep left) ≡ all v → Wholly (mark d o) v
-all_step d left v o true h ih e = let w = ih e in record { taken = d ∷ w.taken; is = ap (mark d) w.is; shallow = (leb-true d 1000 h, w.shallow) }
+all_step : (d left : ℕ) (v : List Part) (o : Outcome) (b : Bool) → nat_le d DEPTH_LIMIT ≡ b → (limited (left - 1) o ≡ all v → Wholly o v) → cond b (limited (left - 1) o) (deep left) ≡ all v → Wholly (mark d o) v
+all_step d left v o true h ih e = let w = ih e in record { taken = d ∷ w.taken; is = ap (mark d) w.is; shallow = (leb-true d DEPTH_LIMIT h, w.shallow) }
 all_step d left v o false h ih e = cc
 
 pub judged_all : (left : ℕ) (v : List Part) (o : Outcome) → limited left o ≡ all v → Wholly o v
 judged_all left v (read u) e = record { taken = []; is = ap read (all_same u v e); shallow = tt }
 judged_all left v (stops m) e = cc
-judged_all left v (mark d o) e = all_step d left v o (nat_le d 1000) refl (judged_all (left - 1) v o) e
+judged_all left v (mark d o) e = all_step d left v o (nat_le d DEPTH_LIMIT) refl (judged_all (left - 1) v o) e
 
 deep_same : (m n : ℕ) → deep m ≡ deep n → m ≡ n
 deep_same m n e = cc
@@ -166,13 +167,13 @@ one_less left m l = omega arith
 deep_below : (left m n : ℕ) (o : Outcome) → left ≡ suc m → limited (left - 1) o ≡ deep n → limited m o ≡ deep n
 deep_below left m n o l e = subst (λ z. limited z o ≡ deep n) (one_less left m l) e
 
-deep_step : (d left m n : ℕ) (o : Outcome) (b : Bool) → nat_le d 1000 ≡ b → left ≡ suc m → (limited m o ≡ deep n → Deeply o m n) → cond b (limited (left - 1) o) (deep left) ≡ deep n → Deeply (mark d o) left n
+deep_step : (d left m n : ℕ) (o : Outcome) (b : Bool) → nat_le d DEPTH_LIMIT ≡ b → left ≡ suc m → (limited m o ≡ deep n → Deeply o m n) → cond b (limited (left - 1) o) (deep left) ≡ deep n → Deeply (mark d o) left n
 deep_step d left m n o true h l ih e =
     let w = ih (deep_below left m n o l e) in
-    record { taken = d ∷ w.taken; depth = w.depth; rest = w.rest; is = ap (mark d) w.is; shallow = (leb-true d 1000 h, w.shallow); beyond = w.beyond; left_there = let c = w.left_there in omega (arith, c, l) }
-deep_step d left m n o false h l ih e = record { taken = []; depth = d; rest = o; is = refl; shallow = tt; beyond = leb-false d 1000 h; left_there = let s = deep_same left n e in omega (arith, s) }
+    record { taken = d ∷ w.taken; depth = w.depth; rest = w.rest; is = ap (mark d) w.is; shallow = (leb-true d DEPTH_LIMIT h, w.shallow); beyond = w.beyond; left_there = let c = w.left_there in omega (arith, c, l) }
+deep_step d left m n o false h l ih e = record { taken = []; depth = d; rest = o; is = refl; shallow = tt; beyond = leb-false d DEPTH_LIMIT h; left_there = let s = deep_same left n e in omega (arith, s) }
 
 pub judged_deep : (left n : ℕ) (o : Outcome) → Count left o → limited left o ≡ deep n → Deeply o left n
 judged_deep left n (read v) c e = cc
 judged_deep left n (stops m) c e = cc
-judged_deep left n (mark d o) c e = deep_step d left c.0 n o (nat_le d 1000) refl c.1 (judged_deep c.0 n o c.2) e
+judged_deep left n (mark d o) c e = deep_step d left c.0 n o (nat_le d DEPTH_LIMIT) refl c.1 (judged_deep c.0 n o c.2) e

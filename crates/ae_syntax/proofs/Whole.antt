@@ -10,13 +10,14 @@ use Rattle.ae_syntax.specs.declared.decls.File.{File}
 use Rattle.ae_syntax.specs.Parts.{Part, decls}
 use Rattle.ae_syntax.specs.Grammar.{Is, file}
 use Rattle.ae_syntax.specs.Depth.{depths}
-use Rattle.ae_syntax.specs.Machine.{a_file, Outcome, read, stops, mark, run, Verdict, all, wrong, deep, limited, judge}
+use Rattle.ae_syntax.specs.Inner.Machine.{a_file, Outcome, read, stops, mark, run, Verdict, all, wrong, deep, limited, judge}
 use Rattle.ae_syntax.specs.Files.{AreShallow, IsParsed, BeginsFile, IsImpossible, IsStuck, IsTooDeep}
-use Rattle.ae_syntax.proofs.Complete.{marks}
+use Rattle.ae_syntax.proofs.GrammarToMachine.{marks}
 use Rattle.ae_syntax.proofs.Files.{file_read, parts_of, parts_marks, log_of, log_marks, same_decls, same_log}
 use Rattle.ae_syntax.proofs.Stops.{Shallow, Count, counts, left_over, no_file, judged_wrong, judged_all, judged_deep}
 use Rattle.ae_syntax.proofs.Pieces.{Some_of}
-use Rattle.ae_syntax.proofs.Ahead.{read_file, stopped_file, taken_file}
+use Rattle.ae_syntax.proofs.Continuation.{read_file, stopped_file, taken_file}
+use Rattle.ae_syntax.specs.declared.cursor.TheConstants.{DEPTH_LIMIT}
 
 -- ---- lists
 front_length : {A : Type 0} (u v : List A) → front (length u) (u ++ v) ≡ u
@@ -59,7 +60,7 @@ record Peeled (n : ℕ) (ds : List ℕ) (d : ℕ) : Type 0 where
   pub next : front (suc n) ds ≡ front n ds ++ d ∷ []
   pub long : length (front n ds) ≡ n
 
-peeled : (n : ℕ) (ds : List ℕ) → 1000 < slice_index_or ds n 0 → Peeled n ds (slice_index_or ds n 0)
+peeled : (n : ℕ) (ds : List ℕ) → DEPTH_LIMIT < slice_index_or ds n 0 → Peeled n ds (slice_index_or ds n 0)
 peeled zero [] l = absurd (omega arith)
 peeled (suc n) [] l = absurd (omega arith)
 peeled zero (d ∷ ds) l = record { next = refl; long = refl }
@@ -81,7 +82,7 @@ shallow_front (suc k) zero ds l h = absurd (omega arith)
 shallow_front (suc k) (suc n) [] l h = tt
 shallow_front (suc k) (suc n) (d ∷ ds) l h = (h.0, shallow_front k n ds (omega arith) h.1)
 
-shallow_last : (a : List ℕ) (d : ℕ) → Shallow (a ++ d ∷ []) → d ≤ 1000
+shallow_last : (a : List ℕ) (d : ℕ) → Shallow (a ++ d ∷ []) → d ≤ DEPTH_LIMIT
 shallow_last [] d h = h.0
 shallow_last (c ∷ a) d h = shallow_last a d h.1
 
@@ -155,29 +156,29 @@ file_deep before after t e =
       declared = f.value;
       is = f.is;
       shallow = subst AreShallow (sym first) (all_shallow w.taken w.shallow);
-      deep = subst (λ d. 1000 < d) (sym there) w.beyond;
+      deep = subst (λ d. DEPTH_LIMIT < d) (sym there) w.beyond;
     }
 
 -- ---- to the verdict
 limited_read : (ds : List ℕ) (left : ℕ) (v : List Part) → Shallow ds → limited left (marks ds (read v)) ≡ all v
 limited_read [] left v h = refl
-limited_read (d ∷ ds) left v h = ap (λ b. cond b (limited (left - 1) (marks ds (read v))) (deep left)) (le-leb d 1000 h.0) ∙ limited_read ds (left - 1) v h.1
+limited_read (d ∷ ds) left v h = ap (λ b. cond b (limited (left - 1) (marks ds (read v))) (deep left)) (le-leb d DEPTH_LIMIT h.0) ∙ limited_read ds (left - 1) v h.1
 
 pub parsed_judge : (ts : List Token) (f : File) → IsParsed ts f → judge ts (a_file ∷ []) (decls [] ∷ []) ≡ all (decls f.decls ∷ [])
 parsed_judge ts f p = ap (limited (length ts)) (file_read p.is) ∙ limited_read (depths p.is 0) (length ts) (decls f.decls ∷ []) (shallow_all (depths p.is 0) p.shallow)
 
-limited_deep : (a : List ℕ) (left d : ℕ) (o : Outcome) → front (suc (length a)) (log_of o) ≡ a ++ d ∷ [] → Shallow a → 1000 < d → limited left o ≡ deep (left - length a)
+limited_deep : (a : List ℕ) (left d : ℕ) (o : Outcome) → front (suc (length a)) (log_of o) ≡ a ++ d ∷ [] → Shallow a → DEPTH_LIMIT < d → limited left o ≡ deep (left - length a)
 unfolding log_of
 limited_deep a left d (read v) e h l = absurd (let z : 0 ≡ length (a ++ d ∷ []) = ap length e in let y = length-append a (d ∷ []) in omega (arith, y, z))
 limited_deep a left d (stops n) e h l = absurd (let z : 0 ≡ length (a ++ d ∷ []) = ap length e in let y = length-append a (d ∷ []) in omega (arith, y, z))
 limited_deep [] left d (mark c o) e h l =
     let same : c ≡ d = cc in
-    let deeper : 1000 < c = subst (λ z. 1000 < z) (sym same) l in
-    ap (λ b. cond b (limited (left - 1) o) (deep left)) (lt-leb c 1000 deeper) ∙ ap deep (let z : left ≡ left - 0 = omega arith in z)
+    let deeper : DEPTH_LIMIT < c = subst (λ z. DEPTH_LIMIT < z) (sym same) l in
+    ap (λ b. cond b (limited (left - 1) o) (deep left)) (lt-leb c DEPTH_LIMIT deeper) ∙ ap deep (let z : left ≡ left - 0 = omega arith in z)
 limited_deep (x ∷ a) left d (mark c o) e h l =
     let same : c ≡ x = cc in
     let tails : front (suc (length a)) (log_of o) ≡ a ++ d ∷ [] = cc in
-    ap (λ b. cond b (limited (left - 1) o) (deep left)) (le-leb c 1000 (subst (λ z. z ≤ 1000) (sym same) h.0))
+    ap (λ b. cond b (limited (left - 1) o) (deep left)) (le-leb c DEPTH_LIMIT (subst (λ z. z ≤ DEPTH_LIMIT) (sym same) h.0))
     ∙ limited_deep a (left - 1) d o tails h.1 l
     ∙ ap deep (let z : left - 1 - length a ≡ left - suc (length a) = omega arith in z)
 
@@ -221,7 +222,7 @@ too_early before after b a n e l = no_file (before ++ after) a n e (before ++ b.
 too_late : (before after : List Token) → IsImpossible before after → (k : ℕ) (x : List Token) → Some_of file (front k (before ++ after) ++ x) → length before < k → k ≤ length (before ++ after) → ⊥
 too_late before after i k x f l h = blocked before after i (front k (before ++ after) ++ x) f.value (front_front (suc (length before)) k (before ++ after) x (omega (arith, l)) h) f.is
 
-too_deep : (before after : List Token) → BeginsFile before → (a : List ℕ) (d : ℕ) (o : Outcome) → run (before ++ after) (a_file ∷ []) (decls [] ∷ []) ≡ marks a (mark d o) → 1000 < d → length a < length before → ⊥
+too_deep : (before after : List Token) → BeginsFile before → (a : List ℕ) (d : ℕ) (o : Outcome) → run (before ++ after) (a_file ∷ []) (decls [] ∷ []) ≡ marks a (mark d o) → DEPTH_LIMIT < d → length a < length before → ⊥
 too_deep before after b a d o e h l =
     let q = depths_there (suc (length a)) (before ++ after) (before ++ b.more) (a ++ d ∷ []) o b.declared b.is (e ∙ marks_next a d o) (length-append a (d ∷ []) ∙ (let z : length a + suc 0 ≡ suc (length a) = omega arith in z)) (front_both (suc (length a)) before after b.more (omega (arith, l))) in
     let s = shallow_front (suc (length a)) (length before) (depths b.is 0) (omega (arith, l)) (shallow_all (front (length before) (depths b.is 0)) b.shallow) in
@@ -236,7 +237,7 @@ wrong_by before after s m a e (inr (inr l)) =
     let n = left_over (before ++ after) (a_file ∷ []) (decls [] ∷ []) a m e in
     absurd (too_late before after s.impossible (length a) r.0 r.1 l (omega (arith, n)))
 
-deep_by : (before after : List Token) → IsStuck before after → (a : List ℕ) (d : ℕ) (o : Outcome) → run (before ++ after) (a_file ∷ []) (decls [] ∷ []) ≡ marks a (mark d o) → 1000 < d → (length a ≡ length before) ⊎ ((length a < length before) ⊎ (length before < length a)) → ⊥
+deep_by : (before after : List Token) → IsStuck before after → (a : List ℕ) (d : ℕ) (o : Outcome) → run (before ++ after) (a_file ∷ []) (decls [] ∷ []) ≡ marks a (mark d o) → DEPTH_LIMIT < d → (length a ≡ length before) ⊎ ((length a < length before) ⊎ (length before < length a)) → ⊥
 deep_by before after s a d o e h (inr (inl l)) = too_deep before after s.begins a d o e h l
 deep_by before after s a d o e h (inl q) =
     let r = taken_file (before ++ after) (decls [] ∷ []) a d o e in

@@ -1,8 +1,6 @@
 -- Which tokens are a file, and where tokens that are none stop to be one.
-use Rattle.std.specs.Prelude.{ℕ, ◌≤◌, ◌<◌, Bool, true, false, List, [], ◌∷◌, ◌++◌, ◌≡◌, length, take, All, slice_index_or}
+use Rattle.std.specs.Prelude.{ℕ, ◌≤◌, ◌<◌, Bool, true, false, List, [], ◌∷◌, ◌++◌, ◌≡◌, length, take, All, slice_index_or, Option, Some, None}
 use Rattle.ae_lex.specs.declared.kinds.Token.{Token}
-use Rattle.ae_lex.specs.declared.kinds.LexFault.{LexFault}
-use Rattle.ae_lex.specs.declared.kinds.LexFault.TheVariants as lex_fault
 use Rattle.ae_syntax.specs.declared.decls.Decl.{Decl}
 use Rattle.ae_syntax.specs.declared.decls.File.{File}
 use Rattle.ae_syntax.specs.declared.faults.SyntaxFault.{SyntaxFault}
@@ -11,10 +9,11 @@ use Rattle.ae_syntax.specs.Kinds.{is_outside}
 use Rattle.ae_syntax.specs.Parts.{decls}
 use Rattle.ae_syntax.specs.Grammar.{Is, file}
 use Rattle.ae_syntax.specs.Depth.{depths}
+use Rattle.ae_syntax.specs.declared.cursor.TheConstants.{DEPTH_LIMIT}
 
 -- no token is deeper than the limit
 abbrev pub AreShallow : List ℕ → Type 0
-AreShallow ds = All (λ d. d ≤ 1000) ds
+AreShallow ds = All (λ d. d ≤ DEPTH_LIMIT) ds
 
 -- the tokens are this file, by the grammar, and none of them is too deep
 pub record IsParsed (tokens : List Token) (f : File) : Type 0 where
@@ -45,7 +44,7 @@ pub record IsTooDeep (before : List Token) (t : Token) : Type 0 where
   pub declared : List Decl
   pub is : Is file (before ++ t ∷ more) (decls declared)
   pub shallow : AreShallow (take (length before) (depths is 0))
-  pub deep : 1000 < slice_index_or (depths is 0) (length before) 0
+  pub deep : DEPTH_LIMIT < slice_index_or (depths is 0) (length before) 0
 
 -- where what comes next stands in the text: the next token's first byte, or the text's end
 abbrev pub place : List ℕ → List Token → ℕ
@@ -82,16 +81,9 @@ IsSyntaxFault text tokens (fault.OutsideProfile at) = StopsAt text tokens true a
 IsSyntaxFault text tokens (fault.TooDeep at) = SinksAt tokens at
 IsSyntaxFault text tokens fault.Memory = ⊥
 
--- ---- the places of faults
-abbrev pub fault_place : SyntaxFault → ℕ
-fault_place (fault.Unexpected at) = at
-fault_place (fault.OutsideProfile at) = at
-fault_place (fault.TooDeep at) = at
-fault_place fault.Memory = 0
-
-abbrev pub lex_fault_place : LexFault → ℕ
-lex_fault_place (lex_fault.BadByte at) = at
-lex_fault_place (lex_fault.OpenComment at) = at
-lex_fault_place (lex_fault.WideLiteral at) = at
-lex_fault_place (lex_fault.OutsideProfile at) = at
-lex_fault_place lex_fault.Memory = 0
+-- the byte at which a fault stands; want of memory stands at none
+abbrev pub fault_place : SyntaxFault → Option ℕ
+fault_place (fault.Unexpected at) = Some at
+fault_place (fault.OutsideProfile at) = Some at
+fault_place (fault.TooDeep at) = Some at
+fault_place fault.Memory = None

@@ -8,7 +8,7 @@ use Rattle.ae_lex.specs.declared.kinds.Sign.{Sign}
 use Rattle.ae_lex.specs.declared.kinds.Sign.TheVariants as sign
 use Rattle.ae_syntax.specs.declared.spans.Span.{Span}
 use Rattle.ae_syntax.specs.declared.types.WrittenType.{WrittenType}
-use Rattle.ae_syntax.specs.declared.types.TypeForm as type_form
+use Rattle.ae_syntax.specs.declared.types.TypeKind as type_kind
 use Rattle.ae_syntax.specs.declared.exprs.BinaryOp.{BinaryOp}
 use Rattle.ae_syntax.specs.declared.exprs.BinaryOp.TheVariants as op
 use Rattle.ae_syntax.specs.declared.exprs.Quantifier.{Quantifier}
@@ -36,30 +36,30 @@ IsIdent t = t.kind ≡ kind.Ident
 abbrev pub IsTypeVar : Token → Type 0
 IsTypeVar t = t.kind ≡ kind.TypeVar
 
--- what is repeated in braces, with the sign that parts it
-pub data Row : Type 0 where
+-- the items of which one or more follow each other, parted by a sign
+pub data Items : Type 0 where
   -- identifiers, with commas
-  of_names : Row
+  of_names : Items
   -- constructors, with bars
-  of_constructors : Row
+  of_constructors : Items
   -- type variables, with commas
-  of_vars : Row
+  of_vars : Items
   -- types, with commas
-  of_types : Row
+  of_types : Items
   -- fields, with semicolons
-  of_fields : Row
+  of_fields : Items
   -- formal parameters, with commas
-  of_formals : Row
+  of_formals : Items
   -- groups of variables, with commas
-  of_groups : Row
+  of_groups : Items
   -- expressions, with commas
-  of_exprs : Row
+  of_exprs : Items
   -- triggers, with bars
-  of_triggers : Row
+  of_triggers : Items
   -- values of fields, with semicolons
-  of_settings : Row
+  of_settings : Items
 
-abbrev pub separator : Row → Sign
+abbrev pub separator : Items → Sign
 separator of_constructors = sign.Bar
 separator of_fields = sign.Semicolon
 separator of_triggers = sign.Bar
@@ -77,13 +77,13 @@ pub data Level : Type 0 where
   -- an identifier with a type, and with a value
   typed_id set_id : Level
   a_result a_type : Level
-  expr orE orC andE andC notE notC open_form : Level
+  expr orE orC andE andC notE notC open_expr : Level
   a_group a_trigger : Level
   rel sum prod unary post atom : Level
   -- one or more, parted by a sign
-  some : Row → Level
+  some : Items → Level
 
-abbrev pub element : Row → Level
+abbrev pub element : Items → Level
 element of_names = id
 element of_constructors = id
 element of_vars = var
@@ -100,8 +100,8 @@ pub data Is : Level → List Token → Part → Type 0 where
   file_none : Is file [] (decls [])
   file_decl : {ds : List Decl} {d : Decl} (u w : List Token) → Is file u (decls ds) → Is a_decl w (decl d) → Is file (u ++ w) (decls (ds ++ d ∷ []))
   -- one or more, parted by a sign
-  some_one : {p : Part} {w : List Token} (r : Row) → Is (element r) w p → Is (some r) w (alone p)
-  some_more : {ps p : Part} (r : Row) (u w : List Token) (t : Token) → Is (some r) u ps → IsSign (separator r) t → Is (element r) w p → Is (some r) (u ++ t ∷ w) (and_then ps p)
+  some_one : {p : Part} {w : List Token} (r : Items) → Is (element r) w p → Is (some r) w (alone p)
+  some_more : {ps p : Part} (r : Items) (u w : List Token) (t : Token) → Is (some r) u ps → IsSign (separator r) t → Is (element r) w p → Is (some r) (u ++ t ∷ w) (and_then ps p)
   -- decl
   decl_type : {ps : List Span} (w : List Token) (t n : Token) → IsWord word.Type_ t → Is params w (names ps) → IsIdent n → Is a_decl (t ∷ w ++ n ∷ []) (decl (abstract_type t ps n))
   decl_record : {ps : List Span} {fs : List TypedName} (u w : List Token) (t n e o c : Token) → IsWord word.Type_ t → Is params u (names ps) → IsIdent n → IsSign sign.Equal e → IsSign sign.OpenBrace o → Is (some of_fields) w (typeds fs) → IsSign sign.CloseBrace c → Is a_decl (t ∷ u ++ n ∷ e ∷ o ∷ w ++ c ∷ []) (decl (record_type t ps n fs c))
@@ -130,11 +130,11 @@ pub data Is : Level → List Token → Part → Type 0 where
   result_type : {s : WrittenType} {w : List Token} → Is a_type w (sort s) → Is a_result w (result (a_sort s))
   result_prop : (t : Token) → IsWord word.Prop t → Is a_result (t ∷ []) (result (prop_at t))
   -- type
-  type_int : (t : Token) → IsWord word.Int t → Is a_type (t ∷ []) (sort (written (span t) type_form.Int))
-  type_real : (t : Token) → IsWord word.Real t → Is a_type (t ∷ []) (sort (written (span t) type_form.Real))
-  type_bool : (t : Token) → IsWord word.Bool t → Is a_type (t ∷ []) (sort (written (span t) type_form.Bool))
-  type_unit : (t : Token) → IsWord word.Unit t → Is a_type (t ∷ []) (sort (written (span t) type_form.Unit))
-  type_var : (t : Token) → IsTypeVar t → Is a_type (t ∷ []) (sort (written (span t) type_form.Var))
+  type_int : (t : Token) → IsWord word.Int t → Is a_type (t ∷ []) (sort (written (span t) type_kind.Int))
+  type_real : (t : Token) → IsWord word.Real t → Is a_type (t ∷ []) (sort (written (span t) type_kind.Real))
+  type_bool : (t : Token) → IsWord word.Bool t → Is a_type (t ∷ []) (sort (written (span t) type_kind.Bool))
+  type_unit : (t : Token) → IsWord word.Unit t → Is a_type (t ∷ []) (sort (written (span t) type_kind.Unit))
+  type_var : (t : Token) → IsTypeVar t → Is a_type (t ∷ []) (sort (written (span t) type_kind.Var))
   type_name : (n : Token) → IsIdent n → Is a_type (n ∷ []) (sort (named_after (span n) [] n))
   type_postfix : {s : WrittenType} (u : List Token) (n : Token) → Is a_type u (sort s) → IsIdent n → Is a_type (u ++ n ∷ []) (sort (named_after (type_span s) (s ∷ []) n))
   type_brackets : {s : WrittenType} {ss : List WrittenType} (u w : List Token) (o m c n : Token) → IsSign sign.OpenParen o → Is a_type u (sort s) → IsSign sign.Comma m → Is (some of_types) w (sorts ss) → IsSign sign.CloseParen c → IsIdent n → Is a_type (o ∷ u ++ m ∷ w ++ c ∷ n ∷ []) (sort (named_after (span o) (s ∷ ss) n))
@@ -150,14 +150,14 @@ pub data Is : Level → List Token → Part → Type 0 where
   andC_and : {a b : Expr} (u w : List Token) (t : Token) → Is andC u (tree a) → IsWord word.And t → Is notC w (tree b) → Is andC (u ++ t ∷ w) (tree (binary op.And a b))
   andC_notC : {e : Expr} {w : List Token} → Is notC w (tree e) → Is andC w (tree e)
   notE_not : {e : Expr} (w : List Token) (t : Token) → IsWord word.Not t → Is notE w (tree e) → Is notE (t ∷ w) (tree (negation t e))
-  notE_open : {e : Expr} {w : List Token} → Is open_form w (tree e) → Is notE w (tree e)
+  notE_open : {e : Expr} {w : List Token} → Is open_expr w (tree e) → Is notE w (tree e)
   notE_rel : {e : Expr} {w : List Token} → Is rel w (tree e) → Is notE w (tree e)
   notC_not : {e : Expr} (w : List Token) (t : Token) → IsWord word.Not t → Is notC w (tree e) → Is notC (t ∷ w) (tree (negation t e))
   notC_rel : {e : Expr} {w : List Token} → Is rel w (tree e) → Is notC w (tree e)
   -- open
-  open_quantified : {gs : List Group} {ts : List Trigger} {e : Expr} (u v w : List Token) (t d : Token) (q : Quantifier) → quantifies t.kind ≡ Some q → Is (some of_groups) u (groups gs) → Is in_squares v (triggers ts) → IsSign sign.Dot d → Is expr w (tree e) → Is open_form (t ∷ u ++ v ++ d ∷ w) (tree (quantified t q gs ts e))
-  open_let : {a b : Expr} (u w : List Token) (t n e i : Token) → IsWord word.Let t → IsIdent n → IsSign sign.Equal e → Is expr u (tree a) → IsWord word.In i → Is expr w (tree b) → Is open_form (t ∷ n ∷ e ∷ u ++ i ∷ w) (tree (let_in t n a b))
-  open_if : {c a b : Expr} (u v w : List Token) (t h l : Token) → IsWord word.If t → Is expr u (tree c) → IsWord word.Then h → Is expr v (tree a) → IsWord word.Else l → Is expr w (tree b) → Is open_form (t ∷ u ++ h ∷ v ++ l ∷ w) (tree (conditional t c a b))
+  open_quantified : {gs : List Group} {ts : List Trigger} {e : Expr} (u v w : List Token) (t d : Token) (q : Quantifier) → quantifies t.kind ≡ Some q → Is (some of_groups) u (groups gs) → Is in_squares v (triggers ts) → IsSign sign.Dot d → Is expr w (tree e) → Is open_expr (t ∷ u ++ v ++ d ∷ w) (tree (quantified t q gs ts e))
+  open_let : {a b : Expr} (u w : List Token) (t n e i : Token) → IsWord word.Let t → IsIdent n → IsSign sign.Equal e → Is expr u (tree a) → IsWord word.In i → Is expr w (tree b) → Is open_expr (t ∷ n ∷ e ∷ u ++ i ∷ w) (tree (let_in t n a b))
+  open_if : {c a b : Expr} (u v w : List Token) (t h l : Token) → IsWord word.If t → Is expr u (tree c) → IsWord word.Then h → Is expr v (tree a) → IsWord word.Else l → Is expr w (tree b) → Is open_expr (t ∷ u ++ h ∷ v ++ l ∷ w) (tree (conditional t c a b))
   -- group and triggers
   group_type : {ns : List Span} {s : WrittenType} (u w : List Token) (c : Token) → Is (some of_names) u (names ns) → IsSign sign.Colon c → Is a_type w (sort s) → Is a_group (u ++ c ∷ w) (group (group_of ns s))
   squares_none : Is in_squares [] (triggers [])
@@ -188,6 +188,6 @@ pub data Is : Level → List Token → Part → Type 0 where
   atom_update : {e : Expr} {ss : List Setting} (u w : List Token) (o h c : Token) → IsSign sign.OpenBrace o → Is post u (tree e) → IsWord word.With h → Is (some of_settings) w (settings ss) → IsSign sign.CloseBrace c → Is atom (o ∷ u ++ h ∷ w ++ c ∷ []) (tree (update_of o e ss c))
   id_value : {e : Expr} (w : List Token) (n q : Token) → IsIdent n → IsSign sign.Equal q → Is expr w (tree e) → Is set_id (n ∷ q ∷ w) (setting (setting_of n e))
 
--- these are the declarations of the tokens of a file
-abbrev pub IsParsed : List Token → List Decl → Type 0
-IsParsed w ds = Is file w (decls ds)
+-- the tokens are a file with these declarations, however deep they are
+abbrev pub IsFileOfTokens : List Token → List Decl → Type 0
+IsFileOfTokens w ds = Is file w (decls ds)

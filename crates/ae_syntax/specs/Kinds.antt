@@ -1,10 +1,8 @@
--- Kinds of tokens: which are the same, and what an operator, a numeral or a word stands for.
-use Rattle.std.specs.Prelude.{ℕ, Bool, true, false, nat_eq, Option, Some, None}
+-- Kinds of tokens: what an operator, a numeral or a word stands for.
+use Rattle.std.specs.Prelude.{Bool, true, false, Option, Some, None}
 use Rattle.ae_lex.specs.declared.kinds.TokenKind.{TokenKind}
 use Rattle.ae_lex.specs.declared.kinds.TokenKind.TheVariants as kind
-use Rattle.ae_lex.specs.declared.kinds.Reserved.{Reserved}
 use Rattle.ae_lex.specs.declared.kinds.Reserved.TheVariants as word
-use Rattle.ae_lex.specs.declared.kinds.Sign.{Sign}
 use Rattle.ae_lex.specs.declared.kinds.Sign.TheVariants as sign
 use Rattle.ae_syntax.specs.declared.exprs.BinaryOp.{BinaryOp}
 use Rattle.ae_syntax.specs.declared.exprs.BinaryOp.TheVariants as op
@@ -49,81 +47,6 @@ abbrev pub numeral : TokenKind → Option Number
 numeral (kind.Whole n) = Some (number.Whole n)
 numeral (kind.Decimal top bottom) = Some (number.Decimal top bottom)
 numeral _ = None
-
--- ---- which kinds are the same: words and signs by their numbers; numerals aren't compared
-abbrev pub word_number : Reserved → ℕ
-word_number word.Ac = 0
-word_number word.And = 1
-word_number word.Axiom = 2
-word_number word.Bool = 3
-word_number word.Bitv = 4
-word_number word.CaseSplit = 5
-word_number word.Check = 6
-word_number word.CheckSat = 7
-word_number word.Cut = 8
-word_number word.Distinct = 9
-word_number word.Else = 10
-word_number word.End = 11
-word_number word.Exists = 12
-word_number word.Extends = 13
-word_number word.False = 14
-word_number word.Forall = 15
-word_number word.Function = 16
-word_number word.Goal = 17
-word_number word.If = 18
-word_number word.In = 19
-word_number word.Int = 20
-word_number word.Let = 21
-word_number word.Logic = 22
-word_number word.Match = 23
-word_number word.Not = 24
-word_number word.Of = 25
-word_number word.Or = 26
-word_number word.Predicate = 27
-word_number word.Prop = 28
-word_number word.Real = 29
-word_number word.Rewriting = 30
-word_number word.Then = 31
-word_number word.Theory = 32
-word_number word.True = 33
-word_number word.Type_ = 34
-word_number word.Unit = 35
-word_number word.Void = 36
-word_number word.With = 37
-word_number word.Xor = 38
-
-abbrev pub sign_number : Sign → ℕ
-sign_number sign.Arrow = 50
-sign_number sign.Iff = 51
-sign_number sign.NotEqual = 52
-sign_number sign.AtMost = 53
-sign_number sign.AtLeast = 54
-sign_number sign.Less = 55
-sign_number sign.Greater = 56
-sign_number sign.Equal = 57
-sign_number sign.Plus = 58
-sign_number sign.Minus = 59
-sign_number sign.Star = 60
-sign_number sign.Slash = 61
-sign_number sign.Percent = 62
-sign_number sign.OpenParen = 63
-sign_number sign.CloseParen = 64
-sign_number sign.OpenBrace = 65
-sign_number sign.CloseBrace = 66
-sign_number sign.OpenBracket = 67
-sign_number sign.CloseBracket = 68
-sign_number sign.Comma = 69
-sign_number sign.Colon = 70
-sign_number sign.Semicolon = 71
-sign_number sign.Dot = 72
-sign_number sign.Bar = 73
-
-abbrev pub same : TokenKind → TokenKind → Bool
-same kind.Ident kind.Ident = true
-same kind.TypeVar kind.TypeVar = true
-same (kind.Reserved r) (kind.Reserved q) = nat_eq (word_number r) (word_number q)
-same (kind.Sign s) (kind.Sign r) = nat_eq (sign_number s) (sign_number r)
-same _ _ = false
 
 -- the words that the language has and this profile leaves out
 abbrev pub is_outside : TokenKind → Bool

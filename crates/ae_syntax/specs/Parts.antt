@@ -3,20 +3,20 @@ use Rattle.std.specs.Prelude.{Bool, List, [], ◌∷◌, ◌++◌, Some, None}
 use Rattle.ae_lex.specs.declared.kinds.Token.{Token}
 use Rattle.ae_syntax.specs.declared.spans.Span.{Span}
 use Rattle.ae_syntax.specs.declared.types.WrittenType.{WrittenType, out-WrittenType, roll-WrittenType}
-use Rattle.ae_syntax.specs.declared.types.TypeForm as type_form
+use Rattle.ae_syntax.specs.declared.types.TypeKind as type_kind
 use Rattle.ae_syntax.specs.declared.exprs.BinaryOp.{BinaryOp}
 use Rattle.ae_syntax.specs.declared.exprs.Quantifier.{Quantifier}
 use Rattle.ae_syntax.specs.declared.exprs.Number.{Number}
 use Rattle.ae_syntax.specs.declared.exprs.Expr.{Expr, out-Expr, roll-Expr}
-use Rattle.ae_syntax.specs.declared.exprs.Form as form
+use Rattle.ae_syntax.specs.declared.exprs.ExprKind as expr_kind
 use Rattle.ae_syntax.specs.declared.exprs.Group.{Group}
 use Rattle.ae_syntax.specs.declared.exprs.Trigger.{Trigger, roll-Trigger}
 use Rattle.ae_syntax.specs.declared.exprs.Setting.{Setting, roll-Setting}
 use Rattle.ae_syntax.specs.declared.decls.TypedName.{TypedName}
 use Rattle.ae_syntax.specs.declared.decls.SymbolResult.{SymbolResult}
 use Rattle.ae_syntax.specs.declared.decls.Decl.{Decl}
-use Rattle.ae_syntax.specs.declared.decls.DeclForm.{DeclForm}
-use Rattle.ae_syntax.specs.declared.decls.DeclForm.TheVariants as decl_form
+use Rattle.ae_syntax.specs.declared.decls.DeclKind.{DeclKind}
+use Rattle.ae_syntax.specs.declared.decls.DeclKind.TheVariants as decl_kind
 
 -- ---- places
 abbrev pub span : Token → Span
@@ -45,64 +45,64 @@ terms_span [] = record { from = 0; to = 0 }
 terms_span (e ∷ es) = cover (span_of e) (last_term_or (span_of e) es)
 
 -- ---- expressions
-abbrev pub expression : Span → form.Form → Expr
-expression s f = roll-Expr (record { span = s; form = f })
+abbrev pub expression : Span → expr_kind.ExprKind → Expr
+expression s f = roll-Expr (record { span = s; kind = f })
 
 abbrev pub binary : BinaryOp → Expr → Expr → Expr
-binary o a b = expression (cover (span_of a) (span_of b)) (form.Binary o a b)
+binary o a b = expression (cover (span_of a) (span_of b)) (expr_kind.Binary o a b)
 
 -- a word or sign before an expression
 abbrev pub negation : Token → Expr → Expr
-negation t e = expression (cover (span t) (span_of e)) (form.Not e)
+negation t e = expression (cover (span t) (span_of e)) (expr_kind.Not e)
 
 abbrev pub negative : Token → Expr → Expr
-negative t e = expression (cover (span t) (span_of e)) (form.Negative e)
+negative t e = expression (cover (span t) (span_of e)) (expr_kind.Negative e)
 
 abbrev pub quantified : Token → Quantifier → List Group → List Trigger → Expr → Expr
-quantified t q gs ts e = expression (cover (span t) (span_of e)) (form.Quantified q gs ts e)
+quantified t q gs ts e = expression (cover (span t) (span_of e)) (expr_kind.Quantified q gs ts e)
 
 abbrev pub let_in : Token → Token → Expr → Expr → Expr
-let_in t n a b = expression (cover (span t) (span_of b)) (form.Let (span n) a b)
+let_in t n a b = expression (cover (span t) (span_of b)) (expr_kind.Let (span n) a b)
 
 abbrev pub conditional : Token → Expr → Expr → Expr → Expr
-conditional t c a b = expression (cover (span t) (span_of b)) (form.If c a b)
+conditional t c a b = expression (cover (span t) (span_of b)) (expr_kind.If c a b)
 
 abbrev pub field_of : Expr → Token → Expr
-field_of e n = expression (cover (span_of e) (span n)) (form.Field e (span n))
+field_of e n = expression (cover (span_of e) (span n)) (expr_kind.Field e (span n))
 
 -- atoms
 abbrev pub bare : Token → Expr
-bare n = expression (span n) (form.Apply (span n) [])
+bare n = expression (span n) (expr_kind.Apply (span n) [])
 
 abbrev pub applied : Token → List Expr → Token → Expr
-applied n es c = expression (cover (span n) (span c)) (form.Apply (span n) es)
+applied n es c = expression (cover (span n) (span c)) (expr_kind.Apply (span n) es)
 
 abbrev pub number_at : Token → Number → Expr
-number_at t n = expression (span t) (form.Numeral n)
+number_at t n = expression (span t) (expr_kind.Numeral n)
 
 abbrev pub true_at : Token → Expr
-true_at t = expression (span t) form.True
+true_at t = expression (span t) expr_kind.True
 
 abbrev pub false_at : Token → Expr
-false_at t = expression (span t) form.False
+false_at t = expression (span t) expr_kind.False
 
 abbrev pub void_at : Token → Expr
-void_at t = expression (span t) form.Void
+void_at t = expression (span t) expr_kind.Void
 
 abbrev pub bracketed : Token → Expr → Token → Expr
-bracketed o e c = expression (cover (span o) (span c)) (form.Bracketed e)
+bracketed o e c = expression (cover (span o) (span c)) (expr_kind.Bracketed e)
 
 abbrev pub ascribed : Token → Expr → WrittenType → Token → Expr
-ascribed o e s c = expression (cover (span o) (span c)) (form.Ascribed e s)
+ascribed o e s c = expression (cover (span o) (span c)) (expr_kind.Ascribed e s)
 
 abbrev pub distinct_of : Token → List Expr → Token → Expr
-distinct_of t es c = expression (cover (span t) (span c)) (form.Distinct es)
+distinct_of t es c = expression (cover (span t) (span c)) (expr_kind.Distinct es)
 
 abbrev pub record_of : Token → List Setting → Token → Expr
-record_of o ss c = expression (cover (span o) (span c)) (form.Record ss)
+record_of o ss c = expression (cover (span o) (span c)) (expr_kind.Record ss)
 
 abbrev pub update_of : Token → Expr → List Setting → Token → Expr
-update_of o e ss c = expression (cover (span o) (span c)) (form.Update e ss)
+update_of o e ss c = expression (cover (span o) (span c)) (expr_kind.Update e ss)
 
 abbrev pub setting_of : Token → Expr → Setting
 setting_of n e = roll-Setting (record { span = cover (span n) (span_of e); name = span n; value = e })
@@ -111,12 +111,12 @@ abbrev pub trigger_of : List Expr → Trigger
 trigger_of es = roll-Trigger (record { span = terms_span es; terms = es })
 
 -- ---- types
-abbrev pub written : Span → type_form.TypeForm → WrittenType
-written s f = roll-WrittenType (record { span = s; form = f })
+abbrev pub written : Span → type_kind.TypeKind → WrittenType
+written s f = roll-WrittenType (record { span = s; kind = f })
 
 -- a type's name after the types in a span
 abbrev pub named_after : Span → List WrittenType → Token → WrittenType
-named_after s ts n = written (cover s (span n)) (type_form.Named (span n) ts)
+named_after s ts n = written (cover s (span n)) (type_kind.Named (span n) ts)
 
 -- ---- declarations
 abbrev pub typed_name : Token → WrittenType → TypedName
@@ -135,32 +135,32 @@ a_sort s = record { span = type_span s; sort = Some s }
 abbrev pub prop_at : Token → SymbolResult
 prop_at t = record { span = span t; sort = None }
 
-abbrev pub declaration : Span → DeclForm → Decl
-declaration s f = record { span = s; form = f }
+abbrev pub declaration : Span → DeclKind → Decl
+declaration s f = record { span = s; kind = f }
 
 abbrev pub abstract_type : Token → List Span → Token → Decl
-abstract_type t ps n = declaration (cover (span t) (span n)) (decl_form.Type ps (span n) [])
+abstract_type t ps n = declaration (cover (span t) (span n)) (decl_kind.Type ps (span n) [])
 
 abbrev pub record_type : Token → List Span → Token → List TypedName → Token → Decl
-record_type t ps n fs c = declaration (cover (span t) (span c)) (decl_form.Type ps (span n) fs)
+record_type t ps n fs c = declaration (cover (span t) (span c)) (decl_kind.Type ps (span n) fs)
 
 abbrev pub enumeration : Token → Token → List Span → Decl
-enumeration t n cs = declaration (cover (span t) (last_or (span t) cs)) (decl_form.Enumeration (span n) cs)
+enumeration t n cs = declaration (cover (span t) (last_or (span t) cs)) (decl_kind.Enumeration (span n) cs)
 
 abbrev pub logic_of : Token → Bool → List Span → List WrittenType → SymbolResult → Decl
-logic_of t ac ns ss r = declaration (cover (span t) r.span) (decl_form.Logic ac ns ss r)
+logic_of t ac ns ss r = declaration (cover (span t) r.span) (decl_kind.Logic ac ns ss r)
 
 abbrev pub function_of : Token → Token → List TypedName → WrittenType → Expr → Decl
-function_of t n fs s e = declaration (cover (span t) (span_of e)) (decl_form.Function (span n) fs s e)
+function_of t n fs s e = declaration (cover (span t) (span_of e)) (decl_kind.Function (span n) fs s e)
 
 abbrev pub predicate_of : Token → Token → List TypedName → Expr → Decl
-predicate_of t n fs e = declaration (cover (span t) (span_of e)) (decl_form.Predicate (span n) fs e)
+predicate_of t n fs e = declaration (cover (span t) (span_of e)) (decl_kind.Predicate (span n) fs e)
 
 abbrev pub axiom_of : Token → Token → Expr → Decl
-axiom_of t n e = declaration (cover (span t) (span_of e)) (decl_form.Axiom (span n) e)
+axiom_of t n e = declaration (cover (span t) (span_of e)) (decl_kind.Axiom (span n) e)
 
 abbrev pub goal_of : Token → Token → Expr → Decl
-goal_of t n e = declaration (cover (span t) (span_of e)) (decl_form.Goal (span n) e)
+goal_of t n e = declaration (cover (span t) (span_of e)) (decl_kind.Goal (span n) e)
 
 -- ---- parts
 -- what tokens are: a token of its own, a tree, or a list of these

@@ -4,8 +4,9 @@ ghost use Rattle.std.specs.Prelude.{◌≡◌, ◌≢◌, suc, ◌≤◌, ◌<�
 ghost use Rattle.std.specs.Bool.{MatchBool};
 ghost use Rattle.ae_lex.specs.declared.kinds.TokenKind.TheVariants as kind;
 ghost use Rattle.ae_syntax.specs.declared.faults.Refusal.TheVariants.{Wrong, Deep};
-ghost use Rattle.ae_syntax.specs.Reading.{IsAt, Stands, Lacks};
-ghost use Rattle.ae_syntax.specs.Kinds.{arrow, relation, additive, multiplicative, quantifies, same, word_number, sign_number};
+ghost use Rattle.ae_syntax.specs.Inner.Reading.{IsAt, Stands, Lacks};
+ghost use Rattle.ae_syntax.specs.Kinds.{arrow, relation, additive, multiplicative, quantifies};
+ghost use Rattle.ae_syntax.specs.Inner.SameKinds.{same};
 
 use crate::exprs::{BinaryOp, Quantifier};
 use crate::faults::Refusal;
@@ -27,19 +28,6 @@ pub fn next(tokens: &[Token], at: usize) -> Option<Token>
     }
 }
 
-// A number for each word, and for each sign.
-fn word_number(word: Reserved) -> u8
-    ensures { result ≡ word_number word }
-{
-    word as u8
-}
-
-fn sign_number(sign: Sign) -> u8
-    ensures { result ≡ sign_number sign }
-{
-    50 + sign as u8
-}
-
 /// Whether two kinds are the same word or sign, or both identifiers or type variables.
 pub fn same(a: TokenKind, b: TokenKind) -> bool
     ensures { result ≡ same a b }
@@ -47,8 +35,8 @@ pub fn same(a: TokenKind, b: TokenKind) -> bool
     match (a, b) {
         (TokenKind::Ident, TokenKind::Ident) => true,
         (TokenKind::TypeVar, TokenKind::TypeVar) => true,
-        (TokenKind::Reserved(a), TokenKind::Reserved(b)) => word_number(a) == word_number(b),
-        (TokenKind::Sign(a), TokenKind::Sign(b)) => sign_number(a) == sign_number(b),
+        (TokenKind::Reserved(a), TokenKind::Reserved(b)) => a == b,
+        (TokenKind::Sign(a), TokenKind::Sign(b)) => a == b,
         _ => false,
     }
 }
@@ -136,9 +124,9 @@ pub fn is_sign(token: Token, sign: Sign) -> bool
 /// A depth and one more, if the token there may have it.
 pub fn deeper(depth: usize, at: usize) -> Result<usize, Refusal>
     ensures more { IfOk result (λ n. n ≡ suc depth) }
-    ensures room { IfOk result (λ n. n ≤ 1000) }
+    ensures room { IfOk result (λ n. n ≤ DEPTH_LIMIT) }
     ensures deep { IfErr result (λ e. e ≡ Deep at) }
-    ensures full { IfErr result (λ e. 1000 < suc depth) }
+    ensures full { IfErr result (λ e. DEPTH_LIMIT < suc depth) }
 {
     if depth < DEPTH_LIMIT {
         Ok(depth + 1)

@@ -3,7 +3,7 @@
 ghost use Rattle.std.specs.Prelude.{◌≡◌};
 ghost use Rattle.ae_syntax.specs.Parts as part;
 
-use crate::decls::{Decl, DeclForm, SymbolResult, TypedName};
+use crate::decls::{Decl, DeclKind, SymbolResult, TypedName};
 use crate::exprs::Expr;
 use crate::nodes::{cover, span};
 use crate::spans::{List, Span};
@@ -46,14 +46,14 @@ pub fn prop_result(word: Token) -> SymbolResult
 pub fn abstract_type(alloc: Global, word: Token, params: List<Span>, name: Token) -> Decl
     ensures { result ≡ part.abstract_type word params name }
 {
-    let form = DeclForm::Type {
+    let kind = DeclKind::Type {
         params,
         name: span(name),
         fields: List::new(alloc),
     };
     Decl {
         span: cover(span(word), span(name)),
-        form,
+        kind,
     }
 }
 
@@ -67,14 +67,14 @@ pub fn record_type(
 ) -> Decl
     ensures { result ≡ part.record_type word params name fields close }
 {
-    let form = DeclForm::Type {
+    let kind = DeclKind::Type {
         params,
         name: span(name),
         fields,
     };
     Decl {
         span: cover(span(word), span(close)),
-        form,
+        kind,
     }
 }
 
@@ -93,13 +93,13 @@ pub fn enumeration(word: Token, name: Token, constructors: List<Span>) -> Decl
     ensures { result ≡ part.enumeration word name constructors }
 {
     let end = last_or(span(word), constructors.as_slice());
-    let form = DeclForm::Enumeration {
+    let kind = DeclKind::Enumeration {
         name: span(name),
         constructors,
     };
     Decl {
         span: cover(span(word), end),
-        form,
+        kind,
     }
 }
 
@@ -114,13 +114,13 @@ pub fn logic_of(
     ensures { result ≡ part.logic_of word ac names args result_sort }
 {
     let place = cover(span(word), result_sort.span);
-    let form = DeclForm::Logic {
+    let kind = DeclKind::Logic {
         ac,
         names,
         args,
         result: result_sort,
     };
-    Decl { span: place, form }
+    Decl { span: place, kind }
 }
 
 /// A defined function.
@@ -134,13 +134,13 @@ pub fn function_of(
     ensures { result ≡ part.function_of word name formals sort body }
 {
     let place = cover(span(word), body.span);
-    let form = DeclForm::Function {
+    let kind = DeclKind::Function {
         name: span(name),
         formals,
         result: sort,
         body,
     };
-    Decl { span: place, form }
+    Decl { span: place, kind }
 }
 
 /// A defined predicate.
@@ -148,12 +148,12 @@ pub fn predicate_of(word: Token, name: Token, formals: List<TypedName>, body: Ex
     ensures { result ≡ part.predicate_of word name formals body }
 {
     let place = cover(span(word), body.span);
-    let form = DeclForm::Predicate {
+    let kind = DeclKind::Predicate {
         name: span(name),
         formals,
         body,
     };
-    Decl { span: place, form }
+    Decl { span: place, kind }
 }
 
 /// An axiom.
@@ -161,11 +161,11 @@ pub fn axiom_of(word: Token, name: Token, body: Expr) -> Decl
     ensures { result ≡ part.axiom_of word name body }
 {
     let place = cover(span(word), body.span);
-    let form = DeclForm::Axiom {
+    let kind = DeclKind::Axiom {
         name: span(name),
         body,
     };
-    Decl { span: place, form }
+    Decl { span: place, kind }
 }
 
 /// A goal.
@@ -173,9 +173,9 @@ pub fn goal_of(word: Token, name: Token, body: Expr) -> Decl
     ensures { result ≡ part.goal_of word name body }
 {
     let place = cover(span(word), body.span);
-    let form = DeclForm::Goal {
+    let kind = DeclKind::Goal {
         name: span(name),
         body,
     };
-    Decl { span: place, form }
+    Decl { span: place, kind }
 }

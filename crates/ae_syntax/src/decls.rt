@@ -23,12 +23,12 @@ pub struct SymbolResult {
 #[derive(Drop)]
 pub struct Decl {
     pub span: Span,
-    pub form: DeclForm,
+    pub kind: DeclKind,
 }
 
 /// What a declaration is.
 #[derive(Drop)]
-pub enum DeclForm {
+pub enum DeclKind {
     /// A type with its parameters and, if it is a record type, its fields; else none.
     Type {
         params: List<Span>,

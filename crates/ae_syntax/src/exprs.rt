@@ -57,13 +57,13 @@ pub enum Number {
 #[cycle(expr)]
 pub struct Expr {
     pub span: Span,
-    pub form: Boxed<Form>,
+    pub kind: Boxed<ExprKind>,
 }
 
 /// What an expression is.
 #[derive(Drop)]
 #[cycle(expr)]
-pub enum Form {
+pub enum ExprKind {
     /// Two expressions and the operator between them.
     Binary {
         op: BinaryOp,

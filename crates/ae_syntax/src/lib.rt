@@ -22,7 +22,7 @@
 //! - Trees hold no text: a name is its place, a [`spans::Span`] of the text's bytes. A node's place goes
 //!   from its first token to its last one.
 //! - Round brackets are a node of their own, so that a tree shows where the text has them.
-//! - A name without brackets after it is [`exprs::Form::Apply`] with no arguments; `f()` is no expression.
+//! - A name without brackets after it is [`exprs::ExprKind::Apply`] with no arguments; `f()` is no expression.
 //! - A type declared without a definition has no fields; a record type has one or more.
 //! - `predicate p() = ..` and `predicate p = ..` are the same but for their places.
 //! - `=` after the one name behind a `{` tells a record from a record whose fields are changed.
@@ -45,11 +45,12 @@ mod nodes;
 mod parser;
 mod read_decls;
 mod read_exprs;
-mod read_rows;
+mod read_items;
 mod read_types;
 pub mod spans;
 pub mod types;
 
+pub use cursor::DEPTH_LIMIT;
 pub use decls::File;
 pub use faults::SyntaxFault;
 pub use file_laws::{faults_within, one_answer};

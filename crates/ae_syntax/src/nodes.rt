@@ -3,9 +3,9 @@
 ghost use Rattle.std.specs.Prelude.{◌≡◌, IfOk, Some, None};
 ghost use Rattle.ae_syntax.specs.Parts as part;
 
-use crate::exprs::{BinaryOp, Expr, Form, Group, Quantifier, Setting, Trigger};
+use crate::exprs::{BinaryOp, Expr, ExprKind, Group, Quantifier, Setting, Trigger};
 use crate::spans::{Boxed, List, Span};
-use crate::types::{TypeForm, WrittenType};
+use crate::types::{TypeKind, WrittenType};
 use ae_lex::Token;
 use std::alloc::{AllocError, Global};
 
@@ -30,11 +30,11 @@ pub fn cover(first: Span, last: Span) -> Span
 }
 
 /// An expression at a place.
-pub fn expression(alloc: Global, span: Span, form: Form) -> Result<Expr, AllocError>
-    ensures { IfOk result (λ e. e ≡ part.expression span form) }
+pub fn expression(alloc: Global, span: Span, kind: ExprKind) -> Result<Expr, AllocError>
+    ensures { IfOk result (λ e. e ≡ part.expression span kind) }
 {
-    let form = Boxed::new(alloc, form)?;
-    Ok(Expr { span, form })
+    let kind = Boxed::new(alloc, kind)?;
+    Ok(Expr { span, kind })
 }
 
 /// Two expressions and the operator between them.
@@ -42,7 +42,7 @@ pub fn binary(alloc: Global, op: BinaryOp, left: Expr, right: Expr) -> Result<Ex
     ensures { IfOk result (λ e. e ≡ part.binary op left right) }
 {
     let place = cover(left.span, right.span);
-    expression(alloc, place, Form::Binary { op, left, right })
+    expression(alloc, place, ExprKind::Binary { op, left, right })
 }
 
 /// `not` before an expression.
@@ -50,7 +50,7 @@ pub fn negation(alloc: Global, word: Token, body: Expr) -> Result<Expr, AllocErr
     ensures { IfOk result (λ e. e ≡ part.negation word body) }
 {
     let place = cover(span(word), body.span);
-    expression(alloc, place, Form::Not(body))
+    expression(alloc, place, ExprKind::Not(body))
 }
 
 /// `-` before an expression.
@@ -58,7 +58,7 @@ pub fn negative(alloc: Global, minus: Token, body: Expr) -> Result<Expr, AllocEr
     ensures { IfOk result (λ e. e ≡ part.negative minus body) }
 {
     let place = cover(span(minus), body.span);
-    expression(alloc, place, Form::Negative(body))
+    expression(alloc, place, ExprKind::Negative(body))
 }
 
 /// A quantifier with its groups of variables, its triggers and its body.
@@ -73,13 +73,13 @@ pub fn quantified(
     ensures { IfOk result (λ e. e ≡ part.quantified word quantifier groups triggers body) }
 {
     let place = cover(span(word), body.span);
-    let form = Form::Quantified {
+    let kind = ExprKind::Quantified {
         quantifier,
         groups,
         triggers,
         body,
     };
-    expression(alloc, place, form)
+    expression(alloc, place, kind)
 }
 
 /// `let name = value in body`.
@@ -94,7 +94,7 @@ pub fn let_in(
 {
     let place = cover(span(word), body.span);
     let name = span(name);
-    expression(alloc, place, Form::Let { name, value, body })
+    expression(alloc, place, ExprKind::Let { name, value, body })
 }
 
 /// `if condition then positive else negative`.
@@ -108,12 +108,12 @@ pub fn conditional(
     ensures { IfOk result (λ e. e ≡ part.conditional word condition positive negative) }
 {
     let place = cover(span(word), negative.span);
-    let form = Form::If {
+    let kind = ExprKind::If {
         condition,
         positive,
         negative,
     };
-    expression(alloc, place, form)
+    expression(alloc, place, kind)
 }
 
 /// A field of a record.
@@ -122,7 +122,7 @@ pub fn field_of(alloc: Global, base: Expr, field: Token) -> Result<Expr, AllocEr
 {
     let place = cover(base.span, span(field));
     let field = span(field);
-    expression(alloc, place, Form::Field { base, field })
+    expression(alloc, place, ExprKind::Field { base, field })
 }
 
 /// A name without arguments.
@@ -131,7 +131,7 @@ pub fn bare(alloc: Global, name: Token) -> Result<Expr, AllocError>
 {
     let name = span(name);
     let args = List::new(alloc);
-    expression(alloc, name, Form::Apply { name, args })
+    expression(alloc, name, ExprKind::Apply { name, args })
 }
 
 /// A name with its arguments.
@@ -145,7 +145,7 @@ pub fn applied(
 {
     let place = cover(span(name), span(close));
     let name = span(name);
-    expression(alloc, place, Form::Apply { name, args })
+    expression(alloc, place, ExprKind::Apply { name, args })
 }
 
 /// An expression in round brackets.
@@ -153,7 +153,7 @@ pub fn bracketed(alloc: Global, opener: Token, body: Expr, close: Token) -> Resu
     ensures { IfOk result (λ e. e ≡ part.bracketed opener body close) }
 {
     let place = cover(span(opener), span(close));
-    expression(alloc, place, Form::Bracketed(body))
+    expression(alloc, place, ExprKind::Bracketed(body))
 }
 
 /// An expression with its sort, in round brackets.
@@ -167,7 +167,7 @@ pub fn ascribed(
     ensures { IfOk result (λ e. e ≡ part.ascribed opener body sort close) }
 {
     let place = cover(span(opener), span(close));
-    expression(alloc, place, Form::Ascribed { body, sort })
+    expression(alloc, place, ExprKind::Ascribed { body, sort })
 }
 
 /// A whole `distinct`.
@@ -180,7 +180,7 @@ pub fn distinct_of(
     ensures { IfOk result (λ e. e ≡ part.distinct_of word terms close) }
 {
     let place = cover(span(word), span(close));
-    expression(alloc, place, Form::Distinct(terms))
+    expression(alloc, place, ExprKind::Distinct(terms))
 }
 
 /// A record with its fields.
@@ -193,7 +193,7 @@ pub fn record_of(
     ensures { IfOk result (λ e. e ≡ part.record_of opener settings close) }
 {
     let place = cover(span(opener), span(close));
-    expression(alloc, place, Form::Record(settings))
+    expression(alloc, place, ExprKind::Record(settings))
 }
 
 /// A record with some fields changed.
@@ -207,7 +207,7 @@ pub fn update_of(
     ensures { IfOk result (λ e. e ≡ part.update_of opener base settings close) }
 {
     let place = cover(span(opener), span(close));
-    expression(alloc, place, Form::Update { base, settings })
+    expression(alloc, place, ExprKind::Update { base, settings })
 }
 
 /// A field's name with its value.
@@ -279,7 +279,7 @@ pub fn named_after(first: Span, args: List<WrittenType>, name: Token) -> Written
 {
     WrittenType {
         span: cover(first, span(name)),
-        form: TypeForm::Named {
+        kind: TypeKind::Named {
             name: span(name),
             args,
         },

@@ -4,7 +4,7 @@ ghost use Rattle.std.specs.Prelude.{◌≡◌, ◌≢◌, ◌≤◌, ◌-◌, dr
 ghost use Rattle.ae_syntax.specs.declared.faults.SyntaxFault.TheVariants as outcome;
 ghost use Rattle.ae_syntax.specs.Files as files;
 ghost use Rattle.ae_syntax.specs.Kinds as kinds;
-ghost use Rattle.ae_syntax.specs.ReadingDecls.{FaultOf, FileRead, IsPlaced};
+ghost use Rattle.ae_syntax.specs.Inner.ReadingDecls.{FaultOf, FileRead, IsPlaced};
 
 use crate::cursor::next;
 use crate::decls::{Decl, File};

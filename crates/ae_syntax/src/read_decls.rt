@@ -3,11 +3,12 @@
 ghost use Rattle.std.specs.Prelude.{◌≡◌, ◌≤◌, ◌+◌, ◌-◌, [], ◌∷◌, ◌++◌, None, IfSome, IfNone, length};
 ghost use Rattle.ae_lex.specs.declared.kinds.TokenKind.TheVariants as kind;
 ghost use Rattle.ae_lex.specs.declared.kinds.Sign.TheVariants as sign;
+ghost use Rattle.ae_syntax.specs.declared.cursor.TheConstants.{DEPTH_LIMIT};
 ghost use Rattle.ae_syntax.specs.Grammar as grammar;
-ghost use Rattle.ae_syntax.specs.Machine as machine;
+ghost use Rattle.ae_syntax.specs.Inner.Machine as machine;
 ghost use Rattle.ae_syntax.specs.Parts as part;
-ghost use Rattle.ae_syntax.specs.Reading.{Answered, IsAt, Lacks};
-ghost use Rattle.ae_syntax.specs.ReadingDecls.{DeclRead, Turns, TypedsRead};
+ghost use Rattle.ae_syntax.specs.Inner.Reading.{Answered, IsAt, Lacks};
+ghost use Rattle.ae_syntax.specs.Inner.ReadingDecls.{DeclRead, Turns, TypedsRead};
 
 use crate::cursor::{stands_sign, stands_word, take, take_sign, take_word};
 use crate::decl_nodes::{
@@ -19,7 +20,7 @@ use crate::exprs::Expr;
 use crate::faults::Refusal;
 use crate::nodes::span;
 use crate::read_exprs::read_expr;
-use crate::read_rows::read_row;
+use crate::read_items::read_item_list;
 use crate::read_types::{more_types, read_type};
 use crate::spans::{List, Span};
 use crate::types::WrittenType;
@@ -34,7 +35,7 @@ fn read_typed(
     depth: usize,
 ) -> Result<(TypedName, usize), Refusal>
     requires within { at ≤ length tokens.now }
-    requires shallow { depth ≤ 1000 }
+    requires shallow { depth ≤ DEPTH_LIMIT }
     ensures { Answered (λ n. part.typed n) (machine.typed_wants depth) [] tokens.now 8 at result }
 {
     let name = take(tokens, at, TokenKind::Ident)?;
@@ -79,7 +80,7 @@ fn read_params(alloc: Global, tokens: &[Token], at: usize) -> Result<(List<Span>
     take_sign(tokens, at, Sign::OpenParen)?;
     let first = take(tokens, at + 1, TokenKind::TypeVar)?;
     take_sign(tokens, at + 2, Sign::Comma)?;
-    let (others, to) = read_row(alloc, tokens, at + 3, TokenKind::TypeVar, Sign::Comma)?;
+    let (others, to) = read_item_list(alloc, tokens, at + 3, TokenKind::TypeVar, Sign::Comma)?;
     take_sign(tokens, to, Sign::CloseParen)?;
     found.push(span(first))?;
     found.append(others)?;
@@ -121,7 +122,7 @@ fn read_plain_type(
     if let Ok(_open) = take_sign(tokens, at + 1, Sign::OpenBrace) {
         return read_fields(alloc, first, params, name, tokens, at + 2);
     }
-    let (constructors, to) = read_row(alloc, tokens, at + 1, TokenKind::Ident, Sign::Bar)?;
+    let (constructors, to) = read_item_list(alloc, tokens, at + 1, TokenKind::Ident, Sign::Bar)?;
     Ok((enumeration(first, name, constructors), to))
 }
 
@@ -230,9 +231,9 @@ fn read_symbols(
     at: usize,
 ) -> Result<(Decl, usize), Refusal>
     requires within { at ≤ length tokens.now }
-    ensures { Answered (λ d. part.decl d) (machine.row_wants grammar.of_names 0 ++ machine.past sign.Colon 0 ∷ machine.logic_sorts ∷ []) (part.flag ac ∷ part.token first ∷ []) tokens.now 8 at result }
+    ensures { Answered (λ d. part.decl d) (machine.items_wants grammar.of_names 0 ++ machine.past sign.Colon 0 ∷ machine.logic_sorts ∷ []) (part.flag ac ∷ part.token first ∷ []) tokens.now 8 at result }
 {
-    let (names, to) = read_row(alloc, tokens, at, TokenKind::Ident, Sign::Comma)?;
+    let (names, to) = read_item_list(alloc, tokens, at, TokenKind::Ident, Sign::Comma)?;
     take_sign(tokens, to, Sign::Colon)?;
     read_sorts(alloc, first, ac, names, tokens, to + 1)
 }

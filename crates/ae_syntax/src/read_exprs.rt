@@ -8,17 +8,19 @@ ghost use Rattle.ae_lex.specs.declared.kinds.Token.{Token};
 ghost use Rattle.ae_lex.specs.declared.kinds.TokenKind.TheVariants as kind;
 ghost use Rattle.ae_lex.specs.declared.kinds.Reserved.TheVariants as word;
 ghost use Rattle.ae_lex.specs.declared.kinds.Sign.TheVariants as sign;
-ghost use Rattle.ae_syntax.specs.Kinds.{same, quantifies};
+ghost use Rattle.ae_syntax.specs.declared.cursor.TheConstants.{DEPTH_LIMIT};
+ghost use Rattle.ae_syntax.specs.Kinds.{quantifies};
+ghost use Rattle.ae_syntax.specs.Inner.SameKinds.{same};
 ghost use Rattle.ae_syntax.specs.Parts.{token, tree, trees, setting, settings, trigger, triggers, group, groups, names};
-ghost use Rattle.ae_syntax.specs.Grammar.{Row, of_settings, of_exprs, of_triggers, of_groups};
-ghost use Rattle.ae_syntax.specs.Machine.{an_expr, an_and, an_not, a_rel, a_sum, a_prod, a_unary, a_post, an_atom, more_arrow, more_or, more_and, more_rel, more_sum, more_prod, more_post, call, triggers_or_dot, row_wants, element_wants, constant};
-ghost use Rattle.ae_syntax.specs.Reading.{Answered, ConstantAnswered, placed, AreNames, IsAt, Sets, SetsNone, grip, distinct_wants, ascribed_wants, record_wants, change_wants};
+ghost use Rattle.ae_syntax.specs.Grammar.{Items, of_settings, of_exprs, of_triggers, of_groups};
+ghost use Rattle.ae_syntax.specs.Inner.Machine.{an_expr, an_and, an_not, a_rel, a_sum, a_prod, a_unary, a_post, an_atom, more_arrow, more_or, more_and, more_rel, more_sum, more_prod, more_post, call, triggers_or_dot, items_wants, element_wants, constant};
+ghost use Rattle.ae_syntax.specs.Inner.Reading.{Answered, ConstantAnswered, placed, AreNames, IsAt, Sets, SetsNone, grip, distinct_wants, ascribed_wants, record_wants, change_wants};
 
 use crate::cursor::{
     additive, arrow, deeper, is_sign, is_word, multiplicative, next, quantifies, relation, same,
     stands, stands_sign, stands_word, take, take_sign, take_word,
 };
-use crate::exprs::{BinaryOp, Expr, Form, Group, Number, Quantifier, Setting, Trigger};
+use crate::exprs::{BinaryOp, Expr, ExprKind, Group, Number, Quantifier, Setting, Trigger};
 use crate::faults::Refusal;
 use crate::nodes::{
     applied, ascribed, bare, binary, bracketed, conditional, distinct_of, expression, field_of,
@@ -39,7 +41,7 @@ pub fn read_expr(
     depth: usize,
 ) -> Result<(Expr, usize), Refusal>
     requires within { at ≤ length tokens.now }
-    requires shallow { depth ≤ 1000 }
+    requires shallow { depth ≤ DEPTH_LIMIT }
     ensures { Answered (λ p. tree p) (an_expr depth ∷ []) [] tokens.now 1 at result }
 {
     let (left, to) = read_not(alloc, tokens, at, depth)?;
@@ -57,7 +59,7 @@ fn more_arrow(
     depth: usize,
 ) -> Result<(Expr, usize), Refusal>
     requires within { at ≤ length tokens.now }
-    requires shallow { depth ≤ 1000 }
+    requires shallow { depth ≤ DEPTH_LIMIT }
     requires weak { grip (drop at tokens.now) < 2 }
     ensures { Answered (λ p. tree p) (more_arrow depth ∷ []) (tree left ∷ []) tokens.now 1 at result }
 {
@@ -82,7 +84,7 @@ fn more_or(
     depth: usize,
 ) -> Result<(Expr, usize), Refusal>
     requires within { at ≤ length tokens.now }
-    requires shallow { depth ≤ 1000 }
+    requires shallow { depth ≤ DEPTH_LIMIT }
     requires weak { grip (drop at tokens.now) < 3 }
     ensures { Answered (λ p. tree p) (more_or depth ∷ []) (tree left ∷ []) tokens.now 2 at result }
 {
@@ -103,7 +105,7 @@ fn read_and(
     depth: usize,
 ) -> Result<(Expr, usize), Refusal>
     requires within { at ≤ length tokens.now }
-    requires shallow { depth ≤ 1000 }
+    requires shallow { depth ≤ DEPTH_LIMIT }
     ensures { Answered (λ p. tree p) (an_and depth ∷ []) [] tokens.now 3 at result }
 {
     let (left, to) = read_not(alloc, tokens, at, depth)?;
@@ -119,7 +121,7 @@ fn more_and(
     depth: usize,
 ) -> Result<(Expr, usize), Refusal>
     requires within { at ≤ length tokens.now }
-    requires shallow { depth ≤ 1000 }
+    requires shallow { depth ≤ DEPTH_LIMIT }
     requires weak { grip (drop at tokens.now) < 4 }
     ensures { Answered (λ p. tree p) (more_and depth ∷ []) (tree left ∷ []) tokens.now 3 at result }
 {
@@ -140,7 +142,7 @@ fn read_not(
     depth: usize,
 ) -> Result<(Expr, usize), Refusal>
     requires within { at ≤ length tokens.now }
-    requires shallow { depth ≤ 1000 }
+    requires shallow { depth ≤ DEPTH_LIMIT }
     ensures { Answered (λ p. tree p) (an_not depth ∷ []) [] tokens.now 4 at result }
 {
     let Some(first) = next(tokens, at) else {
@@ -170,7 +172,7 @@ fn read_negation(
     depth: usize,
 ) -> Result<(Expr, usize), Refusal>
     requires within { at ≤ length tokens.now }
-    requires shallow { depth ≤ 1000 }
+    requires shallow { depth ≤ DEPTH_LIMIT }
     requires here { IsAt tokens.now at first }
     requires word { same first.kind (kind.Reserved word.Not) ≡ true }
     ensures { Answered (λ p. tree p) (an_not depth ∷ []) [] tokens.now 4 at result }
@@ -192,7 +194,7 @@ fn read_block(
     depth: usize,
 ) -> Result<(Expr, usize), Refusal>
     requires within { at ≤ length tokens.now }
-    requires shallow { depth ≤ 1000 }
+    requires shallow { depth ≤ DEPTH_LIMIT }
     requires here { IsAt tokens.now at first }
     requires word { quantifies first.kind ≡ Some quantifier }
     ensures { Answered (λ p. tree p) (an_not depth ∷ []) [] tokens.now 1 at result }
@@ -213,8 +215,8 @@ pub fn read_names(
     separator: Sign,
 ) -> Result<(List<Span>, usize), Refusal>
     requires within { at ≤ length tokens.now }
-    ensures { (row : Row) (d : ℕ) → AreNames row separator → d ≤ 1000
-        → Answered (λ p. names p) (row_wants row d) [] tokens.now 8 at result }
+    ensures { (items : Items) (d : ℕ) → AreNames items separator → d ≤ DEPTH_LIMIT
+        → Answered (λ p. names p) (items_wants items d) [] tokens.now 8 at result }
 {
     let mut found = List::new(alloc);
     let first = take(tokens, at, TokenKind::Ident)?;
@@ -236,7 +238,7 @@ fn read_group(
     depth: usize,
 ) -> Result<(Group, usize), Refusal>
     requires within { at ≤ length tokens.now }
-    requires shallow { depth ≤ 1000 }
+    requires shallow { depth ≤ DEPTH_LIMIT }
     ensures { Answered (λ p. group p) (element_wants of_groups depth) [] tokens.now 8 at result }
 {
     let (names, to) = read_names(alloc, tokens, at, Sign::Comma)?;
@@ -253,8 +255,8 @@ fn read_groups(
     depth: usize,
 ) -> Result<(List<Group>, usize), Refusal>
     requires within { at ≤ length tokens.now }
-    requires shallow { depth ≤ 1000 }
-    ensures { Answered (λ p. groups p) (row_wants of_groups depth) [] tokens.now 8 at result }
+    requires shallow { depth ≤ DEPTH_LIMIT }
+    ensures { Answered (λ p. groups p) (items_wants of_groups depth) [] tokens.now 8 at result }
 {
     let mut found = List::new(alloc);
     let (first, to) = read_group(alloc, tokens, at, depth)?;
@@ -277,7 +279,7 @@ fn read_triggers(
     depth: usize,
 ) -> Result<(List<Trigger>, usize), Refusal>
     requires within { at ≤ length tokens.now }
-    requires shallow { depth ≤ 1000 }
+    requires shallow { depth ≤ DEPTH_LIMIT }
     ensures { Answered (λ p. triggers p) (triggers_or_dot depth ∷ []) [] tokens.now 8 at result }
 {
     if stands_sign(tokens, at, Sign::Dot) {
@@ -285,7 +287,7 @@ fn read_triggers(
     }
     take_sign(tokens, at, Sign::OpenBracket)?;
     let inner = deeper(depth, at)?;
-    let (found, to) = read_trigger_row(alloc, tokens, at + 1, inner)?;
+    let (found, to) = read_trigger_items(alloc, tokens, at + 1, inner)?;
     take_sign(tokens, to, Sign::CloseBracket)?;
     take_sign(tokens, to + 1, Sign::Dot)?;
     Ok((found, to + 2))
@@ -293,15 +295,15 @@ fn read_triggers(
 
 // Triggers parted by bars.
 #[cycle(expression)]
-fn read_trigger_row(
+fn read_trigger_items(
     alloc: Global,
     tokens: &[Token],
     at: usize,
     depth: usize,
 ) -> Result<(List<Trigger>, usize), Refusal>
     requires within { at ≤ length tokens.now }
-    requires shallow { depth ≤ 1000 }
-    ensures { Answered (λ p. triggers p) (row_wants of_triggers depth) [] tokens.now 1 at result }
+    requires shallow { depth ≤ DEPTH_LIMIT }
+    ensures { Answered (λ p. triggers p) (items_wants of_triggers depth) [] tokens.now 1 at result }
 {
     let mut found = List::new(alloc);
     let (first, to) = read_trigger(alloc, tokens, at, depth)?;
@@ -323,7 +325,7 @@ fn read_trigger(
     depth: usize,
 ) -> Result<(Trigger, usize), Refusal>
     requires within { at ≤ length tokens.now }
-    requires shallow { depth ≤ 1000 }
+    requires shallow { depth ≤ DEPTH_LIMIT }
     ensures { Answered (λ p. trigger p) (element_wants of_triggers depth) [] tokens.now 1 at result }
 {
     let (terms, to) = read_terms(alloc, tokens, at, depth)?;
@@ -339,7 +341,7 @@ fn read_let(
     depth: usize,
 ) -> Result<(Expr, usize), Refusal>
     requires within { at ≤ length tokens.now }
-    requires shallow { depth ≤ 1000 }
+    requires shallow { depth ≤ DEPTH_LIMIT }
     requires here { IsAt tokens.now at first }
     requires word { same first.kind (kind.Reserved word.Let) ≡ true }
     ensures { Answered (λ p. tree p) (an_not depth ∷ []) [] tokens.now 1 at result }
@@ -363,7 +365,7 @@ fn read_if(
     depth: usize,
 ) -> Result<(Expr, usize), Refusal>
     requires within { at ≤ length tokens.now }
-    requires shallow { depth ≤ 1000 }
+    requires shallow { depth ≤ DEPTH_LIMIT }
     requires here { IsAt tokens.now at first }
     requires word { same first.kind (kind.Reserved word.If) ≡ true }
     ensures { Answered (λ p. tree p) (an_not depth ∷ []) [] tokens.now 1 at result }
@@ -386,7 +388,7 @@ fn read_rel(
     depth: usize,
 ) -> Result<(Expr, usize), Refusal>
     requires within { at ≤ length tokens.now }
-    requires shallow { depth ≤ 1000 }
+    requires shallow { depth ≤ DEPTH_LIMIT }
     ensures { Answered (λ p. tree p) (a_rel depth ∷ []) [] tokens.now 4 at result }
 {
     let (left, to) = read_unary(alloc, tokens, at, depth)?;
@@ -404,7 +406,7 @@ fn more_rel(
     depth: usize,
 ) -> Result<(Expr, usize), Refusal>
     requires within { at ≤ length tokens.now }
-    requires shallow { depth ≤ 1000 }
+    requires shallow { depth ≤ DEPTH_LIMIT }
     requires weak { grip (drop at tokens.now) < 5 }
     ensures { Answered (λ p. tree p) (more_rel depth ∷ []) (tree left ∷ []) tokens.now 4 at result }
 {
@@ -427,7 +429,7 @@ fn read_sum(
     depth: usize,
 ) -> Result<(Expr, usize), Refusal>
     requires within { at ≤ length tokens.now }
-    requires shallow { depth ≤ 1000 }
+    requires shallow { depth ≤ DEPTH_LIMIT }
     ensures { Answered (λ p. tree p) (a_sum depth ∷ []) [] tokens.now 5 at result }
 {
     let (left, to) = read_unary(alloc, tokens, at, depth)?;
@@ -444,7 +446,7 @@ fn more_sum(
     depth: usize,
 ) -> Result<(Expr, usize), Refusal>
     requires within { at ≤ length tokens.now }
-    requires shallow { depth ≤ 1000 }
+    requires shallow { depth ≤ DEPTH_LIMIT }
     requires weak { grip (drop at tokens.now) < 6 }
     ensures { Answered (λ p. tree p) (more_sum depth ∷ []) (tree left ∷ []) tokens.now 5 at result }
 {
@@ -468,7 +470,7 @@ fn read_prod(
     depth: usize,
 ) -> Result<(Expr, usize), Refusal>
     requires within { at ≤ length tokens.now }
-    requires shallow { depth ≤ 1000 }
+    requires shallow { depth ≤ DEPTH_LIMIT }
     ensures { Answered (λ p. tree p) (a_prod depth ∷ []) [] tokens.now 6 at result }
 {
     let (left, to) = read_unary(alloc, tokens, at, depth)?;
@@ -484,7 +486,7 @@ fn more_prod(
     depth: usize,
 ) -> Result<(Expr, usize), Refusal>
     requires within { at ≤ length tokens.now }
-    requires shallow { depth ≤ 1000 }
+    requires shallow { depth ≤ DEPTH_LIMIT }
     requires weak { grip (drop at tokens.now) < 7 }
     ensures { Answered (λ p. tree p) (more_prod depth ∷ []) (tree left ∷ []) tokens.now 6 at result }
 {
@@ -508,7 +510,7 @@ fn read_unary(
     depth: usize,
 ) -> Result<(Expr, usize), Refusal>
     requires within { at ≤ length tokens.now }
-    requires shallow { depth ≤ 1000 }
+    requires shallow { depth ≤ DEPTH_LIMIT }
     ensures { Answered (λ p. tree p) (a_unary depth ∷ []) [] tokens.now 7 at result }
 {
     let Some(first) = next(tokens, at) else {
@@ -530,7 +532,7 @@ fn read_negative(
     depth: usize,
 ) -> Result<(Expr, usize), Refusal>
     requires within { at ≤ length tokens.now }
-    requires shallow { depth ≤ 1000 }
+    requires shallow { depth ≤ DEPTH_LIMIT }
     requires here { IsAt tokens.now at first }
     requires sign { same first.kind (kind.Sign sign.Minus) ≡ true }
     ensures { Answered (λ p. tree p) (a_unary depth ∷ []) [] tokens.now 7 at result }
@@ -549,7 +551,7 @@ fn read_post(
     depth: usize,
 ) -> Result<(Expr, usize), Refusal>
     requires within { at ≤ length tokens.now }
-    requires shallow { depth ≤ 1000 }
+    requires shallow { depth ≤ DEPTH_LIMIT }
     ensures { Answered (λ p. tree p) (a_post depth ∷ []) [] tokens.now 7 at result }
 {
     let (left, to) = read_atom(alloc, tokens, at, depth)?;
@@ -565,7 +567,7 @@ fn more_post(
     depth: usize,
 ) -> Result<(Expr, usize), Refusal>
     requires within { at ≤ length tokens.now }
-    requires shallow { depth ≤ 1000 }
+    requires shallow { depth ≤ DEPTH_LIMIT }
     ensures { Answered (λ p. tree p) (more_post depth ∷ []) (tree left ∷ []) tokens.now 7 at result }
 {
     if !stands_sign(tokens, at, Sign::Dot) {
@@ -578,17 +580,17 @@ fn more_post(
 }
 
 // An atom that is one token.
-fn constant(kind: TokenKind) -> Option<Form>
+fn constant(kind: TokenKind) -> Option<ExprKind>
     ensures { (t : Token) → constant t kind ≡ placed t result }
 {
     match kind {
-        TokenKind::Whole(value) => Some(Form::Numeral(Number::Whole(value))),
+        TokenKind::Whole(value) => Some(ExprKind::Numeral(Number::Whole(value))),
         TokenKind::Decimal { top, bottom } => {
-            Some(Form::Numeral(Number::Decimal { top, bottom }))
+            Some(ExprKind::Numeral(Number::Decimal { top, bottom }))
         }
-        TokenKind::Reserved(Reserved::True) => Some(Form::True),
-        TokenKind::Reserved(Reserved::False) => Some(Form::False),
-        TokenKind::Reserved(Reserved::Void) => Some(Form::Void),
+        TokenKind::Reserved(Reserved::True) => Some(ExprKind::True),
+        TokenKind::Reserved(Reserved::False) => Some(ExprKind::False),
+        TokenKind::Reserved(Reserved::Void) => Some(ExprKind::Void),
         _ => None,
     }
 }
@@ -596,10 +598,10 @@ fn constant(kind: TokenKind) -> Option<Form>
 fn read_constant(alloc: Global, first: Token, at: usize) -> Result<Expr, Refusal>
     ensures { ConstantAnswered first at result }
 {
-    let Some(form) = constant(first.kind) else {
+    let Some(kind) = constant(first.kind) else {
         return Err(Refusal::Wrong { at });
     };
-    let atom = expression(alloc, span(first), form)?;
+    let atom = expression(alloc, span(first), kind)?;
     Ok(atom)
 }
 
@@ -611,7 +613,7 @@ fn read_atom(
     depth: usize,
 ) -> Result<(Expr, usize), Refusal>
     requires within { at ≤ length tokens.now }
-    requires shallow { depth ≤ 1000 }
+    requires shallow { depth ≤ DEPTH_LIMIT }
     ensures { Answered (λ p. tree p) (an_atom depth ∷ []) [] tokens.now 8 at result }
 {
     let Some(first) = next(tokens, at) else {
@@ -643,7 +645,7 @@ fn read_call(
     depth: usize,
 ) -> Result<(Expr, usize), Refusal>
     requires within { at ≤ length tokens.now }
-    requires shallow { depth ≤ 1000 }
+    requires shallow { depth ≤ DEPTH_LIMIT }
     ensures { Answered (λ p. tree p) (call depth ∷ []) (token name ∷ []) tokens.now 8 at result }
 {
     if !stands_sign(tokens, at, Sign::OpenParen) {
@@ -666,8 +668,8 @@ fn read_terms(
     depth: usize,
 ) -> Result<(List<Expr>, usize), Refusal>
     requires within { at ≤ length tokens.now }
-    requires shallow { depth ≤ 1000 }
-    ensures { Answered (λ p. trees p) (row_wants of_exprs depth) [] tokens.now 1 at result }
+    requires shallow { depth ≤ DEPTH_LIMIT }
+    ensures { Answered (λ p. trees p) (items_wants of_exprs depth) [] tokens.now 1 at result }
 {
     let mut found = List::new(alloc);
     let (first, to) = read_expr(alloc, tokens, at, depth)?;
@@ -691,7 +693,7 @@ fn read_brackets(
     depth: usize,
 ) -> Result<(Expr, usize), Refusal>
     requires within { at ≤ length tokens.now }
-    requires shallow { depth ≤ 1000 }
+    requires shallow { depth ≤ DEPTH_LIMIT }
     requires here { IsAt tokens.now at opener }
     requires sign { same opener.kind (kind.Sign sign.OpenParen) ≡ true }
     ensures { Answered (λ p. tree p) (an_atom depth ∷ []) [] tokens.now 8 at result }
@@ -716,8 +718,8 @@ fn read_ascribed(
     depth: usize,
 ) -> Result<(Expr, usize), Refusal>
     requires within { at < length tokens.now }
-    requires shallow { depth ≤ 1000 }
-    ensures { (d : ℕ) → d ≤ 1000
+    requires shallow { depth ≤ DEPTH_LIMIT }
+    ensures { (d : ℕ) → d ≤ DEPTH_LIMIT
         → Answered (λ p. tree p) (ascribed_wants depth d) (tree body ∷ token opener ∷ []) tokens.now 8 (at + 1) result }
 {
     let (sort, to) = read_type(alloc, tokens, at + 1, depth)?;
@@ -735,7 +737,7 @@ fn read_distinct(
     depth: usize,
 ) -> Result<(Expr, usize), Refusal>
     requires within { at ≤ length tokens.now }
-    requires shallow { depth ≤ 1000 }
+    requires shallow { depth ≤ DEPTH_LIMIT }
     ensures { Answered (λ p. tree p) (distinct_wants depth) (token first ∷ []) tokens.now 8 at result }
 {
     take_sign(tokens, at, Sign::OpenParen)?;
@@ -756,7 +758,7 @@ fn read_braces(
     depth: usize,
 ) -> Result<(Expr, usize), Refusal>
     requires within { at ≤ length tokens.now }
-    requires shallow { depth ≤ 1000 }
+    requires shallow { depth ≤ DEPTH_LIMIT }
     requires here { IsAt tokens.now at opener }
     requires sign { same opener.kind (kind.Sign sign.OpenBrace) ≡ true }
     ensures { Answered (λ p. tree p) (an_atom depth ∷ []) [] tokens.now 8 at result }
@@ -786,8 +788,8 @@ fn read_record(
     depth: usize,
 ) -> Result<(Expr, usize), Refusal>
     requires within { at ≤ length tokens.now }
-    requires shallow { depth ≤ 1000 }
-    ensures { (d : ℕ) → d ≤ 1000 → Answered (λ p. tree p) (record_wants depth d) (token opener ∷ []) tokens.now 8 at result }
+    requires shallow { depth ≤ DEPTH_LIMIT }
+    ensures { (d : ℕ) → d ≤ DEPTH_LIMIT → Answered (λ p. tree p) (record_wants depth d) (token opener ∷ []) tokens.now 8 at result }
 {
     let (settings, to) = read_settings(alloc, tokens, at, depth)?;
     let close = take_sign(tokens, to, Sign::CloseBrace)?;
@@ -805,8 +807,8 @@ fn read_update(
     depth: usize,
 ) -> Result<(Expr, usize), Refusal>
     requires within { at ≤ length tokens.now }
-    requires shallow { depth ≤ 1000 }
-    ensures { (d : ℕ) → d ≤ 1000 → Answered (λ p. tree p) (change_wants depth d) (token opener ∷ []) tokens.now 8 at result }
+    requires shallow { depth ≤ DEPTH_LIMIT }
+    ensures { (d : ℕ) → d ≤ DEPTH_LIMIT → Answered (λ p. tree p) (change_wants depth d) (token opener ∷ []) tokens.now 8 at result }
 {
     let (base, to) = read_post(alloc, tokens, at, depth)?;
     take_word(tokens, to, Reserved::With)?;
@@ -825,8 +827,8 @@ fn read_settings(
     depth: usize,
 ) -> Result<(List<Setting>, usize), Refusal>
     requires within { at ≤ length tokens.now }
-    requires shallow { depth ≤ 1000 }
-    ensures { Answered (λ p. settings p) (row_wants of_settings depth) [] tokens.now 1 at result }
+    requires shallow { depth ≤ DEPTH_LIMIT }
+    ensures { Answered (λ p. settings p) (items_wants of_settings depth) [] tokens.now 1 at result }
 {
     let mut found = List::new(alloc);
     let (first, to) = read_setting(alloc, tokens, at, depth)?;
@@ -848,7 +850,7 @@ fn read_setting(
     depth: usize,
 ) -> Result<(Setting, usize), Refusal>
     requires within { at ≤ length tokens.now }
-    requires shallow { depth ≤ 1000 }
+    requires shallow { depth ≤ DEPTH_LIMIT }
     ensures { Answered (λ p. setting p) (element_wants of_settings depth) [] tokens.now 1 at result }
 {
     let name = take(tokens, at, TokenKind::Ident)?;

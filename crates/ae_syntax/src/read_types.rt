@@ -3,17 +3,18 @@
 ghost use Rattle.std.specs.Prelude.{◌≡◌, ◌≤◌, ◌-◌, [], ◌∷◌, true, length, None};
 ghost use Rattle.ae_lex.specs.declared.kinds.Sign.TheVariants as sign;
 ghost use Rattle.ae_lex.specs.declared.kinds.TokenKind.TheVariants as kind;
-ghost use Rattle.ae_syntax.specs.Kinds.{same};
-ghost use Rattle.ae_syntax.specs.Machine as machine;
+ghost use Rattle.ae_syntax.specs.declared.cursor.TheConstants.{DEPTH_LIMIT};
+ghost use Rattle.ae_syntax.specs.Inner.SameKinds.{same};
+ghost use Rattle.ae_syntax.specs.Inner.Machine as machine;
 ghost use Rattle.ae_syntax.specs.Parts as part;
-ghost use Rattle.ae_syntax.specs.Reading.{Answered, IsAt};
-ghost use Rattle.ae_syntax.specs.ReadingDecls.{MoreSorts};
+ghost use Rattle.ae_syntax.specs.Inner.Reading.{Answered, IsAt};
+ghost use Rattle.ae_syntax.specs.Inner.ReadingDecls.{MoreSorts};
 
 use crate::cursor::{deeper, is_sign, next, stands_sign, take, take_sign};
 use crate::faults::Refusal;
 use crate::nodes::{named_after, span};
 use crate::spans::List;
-use crate::types::{TypeForm, WrittenType};
+use crate::types::{TypeKind, WrittenType};
 use ae_lex::{Reserved, Sign, Token, TokenKind};
 use std::alloc::Global;
 
@@ -21,18 +22,18 @@ use std::alloc::Global;
 fn base_type(alloc: Global, token: Token) -> Option<WrittenType>
     ensures { result ≡ machine.base_type token token.kind }
 {
-    let form = match token.kind {
-        TokenKind::Reserved(Reserved::Int) => TypeForm::Int,
-        TokenKind::Reserved(Reserved::Real) => TypeForm::Real,
-        TokenKind::Reserved(Reserved::Bool) => TypeForm::Bool,
-        TokenKind::Reserved(Reserved::Unit) => TypeForm::Unit,
-        TokenKind::TypeVar => TypeForm::Var,
+    let kind = match token.kind {
+        TokenKind::Reserved(Reserved::Int) => TypeKind::Int,
+        TokenKind::Reserved(Reserved::Real) => TypeKind::Real,
+        TokenKind::Reserved(Reserved::Bool) => TypeKind::Bool,
+        TokenKind::Reserved(Reserved::Unit) => TypeKind::Unit,
+        TokenKind::TypeVar => TypeKind::Var,
         TokenKind::Ident => return Some(named_after(span(token), List::new(alloc), token)),
         _ => return None,
     };
     Some(WrittenType {
         span: span(token),
-        form,
+        kind,
     })
 }
 
@@ -45,7 +46,7 @@ fn more_type(
     depth: usize,
 ) -> Result<(WrittenType, usize), Refusal>
     requires within { at ≤ length tokens.now }
-    requires shallow { depth ≤ 1000 }
+    requires shallow { depth ≤ DEPTH_LIMIT }
     ensures { Answered (λ s. part.sort s) (machine.more_type depth ∷ []) (part.sort left ∷ []) tokens.now 8 at result }
 {
     let Ok(name) = take(tokens, at, TokenKind::Ident) else {
@@ -67,7 +68,7 @@ pub fn read_type(
     depth: usize,
 ) -> Result<(WrittenType, usize), Refusal>
     requires within { at ≤ length tokens.now }
-    requires shallow { depth ≤ 1000 }
+    requires shallow { depth ≤ DEPTH_LIMIT }
     ensures { Answered (λ s. part.sort s) (machine.a_type depth ∷ []) [] tokens.now 8 at result }
 {
     let Some(first) = next(tokens, at) else {
@@ -92,7 +93,7 @@ fn bracket_sorts(
     depth: usize,
 ) -> Result<(WrittenType, usize), Refusal>
     requires within { at ≤ length tokens.now }
-    requires shallow { depth ≤ 1000 }
+    requires shallow { depth ≤ DEPTH_LIMIT }
     requires here { IsAt tokens.now at «open» }
     requires kind { same «open».kind (kind.Sign sign.OpenParen) ≡ true }
     requires base { machine.base_type «open» «open».kind ≡ None }
@@ -127,7 +128,7 @@ pub fn more_types(
     depth: usize,
 ) -> Result<(List<WrittenType>, usize), Refusal>
     requires within { at ≤ length tokens.now }
-    requires shallow { depth ≤ 1000 }
+    requires shallow { depth ≤ DEPTH_LIMIT }
     ensures { MoreSorts before depth tokens.now at result }
 {
     let mut found = before;

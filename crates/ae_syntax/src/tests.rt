@@ -1,11 +1,11 @@
 //! The grammar by example: how a text is grouped, and where one is refused.
 
-use crate::decls::{Decl, DeclForm};
-use crate::exprs::{BinaryOp, Expr, Form, Number, Quantifier};
+use crate::decls::{Decl, DeclKind};
+use crate::exprs::{BinaryOp, Expr, ExprKind, Number, Quantifier};
 use crate::faults::SyntaxFault;
 use crate::parser::parse;
 use crate::spans::Span;
-use crate::types::{TypeForm, WrittenType};
+use crate::types::{TypeKind, WrittenType};
 use std::alloc::{AllocError, Global};
 use std::test::Fail;
 
@@ -36,8 +36,8 @@ fn put_types(text: &[u8], sorts: &[WrittenType], out: &mut Vec<u8>) -> Result<()
 // A type's name after its types in square brackets.
 #[cycle(sorts)]
 fn put_type(text: &[u8], sort: &WrittenType, out: &mut Vec<u8>) -> Result<(), AllocError> {
-    match &sort.form {
-        TypeForm::Named { name, args } => {
+    match &sort.kind {
+        TypeKind::Named { name, args } => {
             put(out, b"[")?;
             put_types(text, args.as_slice(), out)?;
             put(out, bytes_of(text, *name))?;
@@ -77,11 +77,11 @@ fn put_exprs(text: &[u8], exprs: &[Expr], out: &mut Vec<u8>) -> Result<(), Alloc
     Ok(())
 }
 
-// An expression with square brackets round each form that has parts, its word or sign first.
+// An expression with square brackets round each kind that has parts, its word or sign first.
 #[cycle(exprs)]
 fn put_expr(text: &[u8], expr: &Expr, out: &mut Vec<u8>) -> Result<(), AllocError> {
-    match expr.form.get() {
-        Form::Binary { op, left, right } => {
+    match expr.kind.get() {
+        ExprKind::Binary { op, left, right } => {
             put(out, b"[")?;
             put_expr(text, left, out)?;
             put(out, b" ")?;
@@ -90,17 +90,17 @@ fn put_expr(text: &[u8], expr: &Expr, out: &mut Vec<u8>) -> Result<(), AllocErro
             put_expr(text, right, out)?;
             put(out, b"]")
         }
-        Form::Not(body) => {
+        ExprKind::Not(body) => {
             put(out, b"[not ")?;
             put_expr(text, body, out)?;
             put(out, b"]")
         }
-        Form::Negative(body) => {
+        ExprKind::Negative(body) => {
             put(out, b"[- ")?;
             put_expr(text, body, out)?;
             put(out, b"]")
         }
-        Form::Quantified {
+        ExprKind::Quantified {
             quantifier,
             groups,
             triggers,
@@ -126,7 +126,7 @@ fn put_expr(text: &[u8], expr: &Expr, out: &mut Vec<u8>) -> Result<(), AllocErro
             put_expr(text, body, out)?;
             put(out, b"]")
         }
-        Form::Let { name, value, body } => {
+        ExprKind::Let { name, value, body } => {
             put(out, b"[let ")?;
             put(out, bytes_of(text, *name))?;
             put(out, b" ")?;
@@ -135,7 +135,7 @@ fn put_expr(text: &[u8], expr: &Expr, out: &mut Vec<u8>) -> Result<(), AllocErro
             put_expr(text, body, out)?;
             put(out, b"]")
         }
-        Form::If {
+        ExprKind::If {
             condition,
             positive,
             negative,
@@ -148,14 +148,14 @@ fn put_expr(text: &[u8], expr: &Expr, out: &mut Vec<u8>) -> Result<(), AllocErro
             put_expr(text, negative, out)?;
             put(out, b"]")
         }
-        Form::Field { base, field } => {
+        ExprKind::Field { base, field } => {
             put(out, b"[")?;
             put_expr(text, base, out)?;
             put(out, b".")?;
             put(out, bytes_of(text, *field))?;
             put(out, b"]")
         }
-        Form::Apply { name, args } => {
+        ExprKind::Apply { name, args } => {
             put(out, bytes_of(text, *name))?;
             if args.is_empty() {
                 return Ok(());
@@ -164,24 +164,24 @@ fn put_expr(text: &[u8], expr: &Expr, out: &mut Vec<u8>) -> Result<(), AllocErro
             put_exprs(text, args.as_slice(), out)?;
             put(out, b"]")
         }
-        Form::Bracketed(body) => {
+        ExprKind::Bracketed(body) => {
             put(out, b"(")?;
             put_expr(text, body, out)?;
             put(out, b")")
         }
-        Form::Ascribed { body, sort } => {
+        ExprKind::Ascribed { body, sort } => {
             put(out, b"(")?;
             put_expr(text, body, out)?;
             put(out, b":")?;
             put_type(text, sort, out)?;
             put(out, b")")
         }
-        Form::Distinct(terms) => {
+        ExprKind::Distinct(terms) => {
             put(out, b"[distinct")?;
             put_exprs(text, terms.as_slice(), out)?;
             put(out, b"]")
         }
-        Form::Record(settings) => {
+        ExprKind::Record(settings) => {
             put(out, b"{")?;
             for setting in settings.as_slice() {
                 put(out, b" ")?;
@@ -191,7 +191,7 @@ fn put_expr(text: &[u8], expr: &Expr, out: &mut Vec<u8>) -> Result<(), AllocErro
             }
             put(out, b"}")
         }
-        Form::Update { base, settings } => {
+        ExprKind::Update { base, settings } => {
             put(out, b"{")?;
             put_expr(text, base, out)?;
             put(out, b" with")?;
@@ -227,13 +227,13 @@ fn grouped(alloc: Global, text: &[u8]) -> Result<Vec<u8>, Fail> {
         Ok(file) => match file.decls.as_slice() {
             [
                 Decl {
-                    form: DeclForm::Goal { body, .. },
+                    kind: DeclKind::Goal { body, .. },
                     ..
                 },
             ] => put_expr(text, body, &mut out)?,
             [
                 Decl {
-                    form: DeclForm::Logic { result, .. },
+                    kind: DeclKind::Logic { result, .. },
                     ..
                 },
             ] => match &result.sort {
@@ -471,7 +471,7 @@ fn depth(rt: HostRuntime) -> Result<(), Fail> {
     // What is declared, what stands before, in the middle and after, and the place of the first token
     // of depth 1,001.
     let declared: &[u8] = b"type t\nlogic a, b, c, d, e : t\n";
-    let table: [(&[u8], &[u8], &[u8], &[u8], &[u8]); 10] = [
+    let table: [(&[u8], &[u8], &[u8], &[u8], &[u8]); 13] = [
         (declared, b"(", b"a = a", b")", b"too deep 1040"),
         (b"", b"(", b"a = a", b")", b"too deep 1009"),
         (b"", b"not ", b"a", b"", b"too deep 4009"),
@@ -482,6 +482,9 @@ fn depth(rt: HostRuntime) -> Result<(), Fail> {
         (b"", b"", b"a", b".x", b"too deep 2010"),
         (b"", b"let x = a in ", b"x", b"", b"too deep 13009"),
         (b"", b"forall x : t. ", b"x", b"", b"too deep 14009"),
+        (b"", b"f(", b"a", b")", b"too deep 2010"),
+        (b"", b"distinct(", b"a", b")", b"too deep 9017"),
+        (b"", b"{x=", b"a", b"}", b"too deep 3009"),
     ];
     for (declared, before, middle, after, wanted) in table {
         let text = nested(rt.alloc(), declared, before, 1001, middle, after)?;

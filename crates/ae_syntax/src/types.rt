@@ -7,13 +7,13 @@ use crate::spans::{List, Span};
 #[cycle(written_type)]
 pub struct WrittenType {
     pub span: Span,
-    pub form: TypeForm,
+    pub kind: TypeKind,
 }
 
 /// What a written type is.
 #[derive(Drop)]
 #[cycle(written_type)]
-pub enum TypeForm {
+pub enum TypeKind {
     Int,
     Real,
     Bool,

@@ -8,6 +8,7 @@ invariant-loop-chunk g l = record {
   taken : Consumes (g.S.Source.left l.fn.source) (g.S.Source.left l.source) l.bytes.items;
   later : g.S.Source.faults l.fn.source ≤ g.S.Source.faults l.source;
   turns : g.S.Source.calls l.source ≤ g.S.Source.calls l.fn.source + length l.bytes.items;
+  idle : g.S.Source.idle l.source ≤ g.S.Source.idle l.fn.source;
 }
 
 abbrev pub decreases-loop-chunk : goal.decreases-loop-chunk

@@ -1,6 +1,6 @@
 use Rattle.std.proofs.Common.{◌≡◌, ◌+◌, ◌∙◌, sym, subst, drop, arith}
 use Rattle.ae_lex.specs.Lexis.{is_inner, is_letter}
-use Rattle.ae_lex.specs.Pieces.{HasRun}
+use Rattle.ae_lex.specs.Inner.Pieces.{HasRun}
 use Rattle.ae_lex.proofs.Parts.{stops_at, stops_none}
 use Rattle.ae_lex.proofs.Pieces.{type_var_stands, quote_stands}
 use Rattle.ae_lex.proofs.lexer.type_var.Goals as goal

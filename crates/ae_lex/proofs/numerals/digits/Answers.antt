@@ -1,6 +1,6 @@
 use Rattle.std.proofs.Common.{subst, sym, ◌∙◌, ◌∷◌, []}
 use Rattle.ae_lex.specs.Lexis.{is_digit, value}
-use Rattle.ae_lex.specs.Pieces.{IsValue}
+use Rattle.ae_lex.specs.Inner.Pieces.{IsValue}
 use Rattle.ae_lex.proofs.Parts.{run_none, run_step, value-append}
 use Rattle.ae_lex.proofs.numerals.digits.Goals as goal
 

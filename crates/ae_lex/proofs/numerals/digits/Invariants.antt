@@ -1,6 +1,6 @@
 use Rattle.std.proofs.Common.{ℕ, ◌-◌, length}
 use Rattle.ae_lex.specs.Lexis.{is_digit, value}
-use Rattle.ae_lex.specs.Pieces.{IsValue}
+use Rattle.ae_lex.specs.Inner.Pieces.{IsValue}
 use Rattle.ae_lex.proofs.Parts.{InRun}
 use Rattle.ae_lex.proofs.numerals.digits.Given as goal
 

@@ -1,5 +1,5 @@
 use Rattle.std.proofs.Common.{◌≡◌, ◌^◌, arith, subst}
-use Rattle.ae_lex.specs.Pieces.{IsValue}
+use Rattle.ae_lex.specs.Inner.Pieces.{IsValue}
 use Rattle.ae_lex.proofs.NumeralFacts.{ten_some}
 use Rattle.ae_lex.proofs.numerals.power_of_ten.Goals as goal
 

@@ -1,4 +1,4 @@
-use Rattle.ae_syntax.proofs.ComposedDecls.{last_place}
+use Rattle.ae_syntax.proofs.ParserMeetsMachine.Decls.{last_place}
 use Rattle.ae_syntax.proofs.decl_nodes.last_or.Goals as goal
 
 pub returns-in-len1-up : goal.returns-in-len1-up

@@ -1,5 +1,5 @@
 use Rattle.std.proofs.lemmas.Result.{err_from_is_err_and}
-use Rattle.ae_syntax.proofs.ComposedDecls.{file_start, file_step, file_fails, file_done}
+use Rattle.ae_syntax.proofs.ParserMeetsMachine.Decls.{file_start, file_step, file_fails, file_done}
 use Rattle.ae_syntax.proofs.parser.read_file.Goals as goal
 
 pub loop-first-init : goal.loop-first-init

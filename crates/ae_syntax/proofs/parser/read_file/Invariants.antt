@@ -1,5 +1,5 @@
 use Rattle.std.proofs.Common.{◌-◌, length}
-use Rattle.ae_syntax.proofs.ComposedDecls.{FileSoFar}
+use Rattle.ae_syntax.proofs.ParserMeetsMachine.Decls.{FileSoFar}
 use Rattle.ae_syntax.proofs.parser.read_file.Given as goal
 
 abbrev pub invariant-loop-first : goal.invariant-loop-first

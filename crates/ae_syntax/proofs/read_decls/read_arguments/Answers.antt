@@ -2,9 +2,9 @@ use Rattle.std.proofs.Common.{ap, refl, arith, [], ◌∷◌}
 use Rattle.std.proofs.lemmas.Result.{err_from_is_err_and}
 use Rattle.ae_lex.specs.declared.kinds.Sign.TheVariants as sign
 use Rattle.ae_syntax.specs.Grammar as grammar
-use Rattle.ae_syntax.specs.Machine as machine
+use Rattle.ae_syntax.specs.Inner.Machine as machine
 use Rattle.ae_syntax.specs.Parts as part
-use Rattle.ae_syntax.proofs.ComposedDecls.{halts_answer, start, then_pass, stop_pass, then_sorts, stop_sorts, relays_as}
+use Rattle.ae_syntax.proofs.ParserMeetsMachine.Decls.{halts_answer, start, then_pass, stop_pass, then_sorts, stop_sorts, relays_as}
 use Rattle.ae_syntax.proofs.read_decls.read_arguments.Goals as goal
 
 pub returns-in_err-all : goal.returns-in_err-all

@@ -1,8 +1,8 @@
 use Rattle.std.proofs.Common.{ap, ◌∙◌, [], ◌∷◌}
 use Rattle.ae_lex.specs.declared.kinds.TokenKind.TheVariants as kind
 use Rattle.ae_lex.specs.declared.kinds.Sign.TheVariants as sign
-use Rattle.ae_syntax.specs.Machine as machine
-use Rattle.ae_syntax.proofs.ComposedDecls.{declared, undeclared, no_word}
+use Rattle.ae_syntax.specs.Inner.Machine as machine
+use Rattle.ae_syntax.proofs.ParserMeetsMachine.Decls.{declared, undeclared, no_word}
 use Rattle.ae_syntax.proofs.read_decls.read_decl.Goals as goal
 
 pub returns-in-Type_ : goal.returns-in-Type_

@@ -1,5 +1,5 @@
 use Rattle.ae_syntax.specs.Parts as part
-use Rattle.ae_syntax.proofs.ComposedDecls.{relays, ac_stands, ac_lacks}
+use Rattle.ae_syntax.proofs.ParserMeetsMachine.Decls.{relays, ac_stands, ac_lacks}
 use Rattle.ae_syntax.proofs.read_decls.read_logic.Goals as goal
 
 pub returns-then-stands_word : goal.returns-then-stands_word

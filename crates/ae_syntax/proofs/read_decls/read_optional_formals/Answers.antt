@@ -1,7 +1,7 @@
 use Rattle.std.proofs.Common.{ap, arith}
 use Rattle.std.proofs.lemmas.Result.{err_from_is_err_and}
 use Rattle.ae_syntax.specs.Parts as part
-use Rattle.ae_syntax.proofs.ComposedDecls.{leads_done, halts_answer, then_pass, stop_pass, then_read, stop_read, finish, bare_head, open_head, no_head}
+use Rattle.ae_syntax.proofs.ParserMeetsMachine.Decls.{leads_done, halts_answer, then_pass, stop_pass, then_read, stop_read, finish, bare_head, open_head, no_head}
 use Rattle.ae_syntax.proofs.read_decls.read_optional_formals.Goals as goal
 
 pub returns-then-stands_sign : goal.returns-then-stands_sign

@@ -1,8 +1,8 @@
 use Rattle.std.proofs.Common.{ap, refl, [], ◌∷◌}
 use Rattle.std.proofs.lemmas.Result.{err_from_is_err_and}
-use Rattle.ae_syntax.specs.Machine as machine
+use Rattle.ae_syntax.specs.Inner.Machine as machine
 use Rattle.ae_syntax.specs.Parts as part
-use Rattle.ae_syntax.proofs.ComposedDecls.{halts_answer, start, then_read, stop_read, then_make, finish}
+use Rattle.ae_syntax.proofs.ParserMeetsMachine.Decls.{halts_answer, start, then_read, stop_read, then_make, finish}
 use Rattle.ae_syntax.proofs.read_decls.read_range.Goals as goal
 
 pub returns-in_err-range : goal.returns-in_err-range

@@ -1,7 +1,7 @@
 use Rattle.std.proofs.Common.{ap, refl, [], ◌∷◌}
 use Rattle.std.proofs.lemmas.Result.{err_from_is_err_and}
 use Rattle.ae_syntax.specs.Parts as part
-use Rattle.ae_syntax.proofs.ComposedDecls.{halts_answer, then_read, stop_read, then_make, finish, prop_result, type_result}
+use Rattle.ae_syntax.proofs.ParserMeetsMachine.Decls.{halts_answer, then_read, stop_read, then_make, finish, prop_result, type_result}
 use Rattle.ae_syntax.proofs.read_decls.read_result.Goals as goal
 
 pub returns-in-Ok : goal.returns-in-Ok

@@ -1,7 +1,7 @@
 use Rattle.std.proofs.Common.{ap, refl, arith, [], ◌∷◌, ◌+◌}
 use Rattle.std.proofs.lemmas.Result.{err_from_is_err_and}
 use Rattle.ae_syntax.specs.Parts as part
-use Rattle.ae_syntax.proofs.ComposedDecls.{halts_answer, halts_before, relays, at_place, then_keep, stop_keep, then_pass, stop_pass, finish, relays_as, plain_head, end_ends, end_goes_on, leads_beside}
+use Rattle.ae_syntax.proofs.ParserMeetsMachine.Decls.{halts_answer, halts_before, relays, at_place, then_keep, stop_keep, then_pass, stop_pass, finish, relays_as, plain_head, end_ends, end_goes_on, leads_beside}
 use Rattle.ae_syntax.proofs.read_decls.read_type_decl.Goals as goal
 
 pub returns-in-Ok : goal.returns-in-Ok

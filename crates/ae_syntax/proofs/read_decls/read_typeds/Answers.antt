@@ -1,6 +1,6 @@
 use Rattle.std.proofs.Common.{ap, ◌∙◌, [], ◌∷◌, ◌++◌}
 use Rattle.std.proofs.lemmas.Result.{err_from_is_err_and}
-use Rattle.ae_syntax.proofs.ComposedDecls.{typeds_start, typeds_none, typeds_step, typeds_fail, typeds_end}
+use Rattle.ae_syntax.proofs.ParserMeetsMachine.Decls.{typeds_start, typeds_none, typeds_step, typeds_fail, typeds_end}
 use Rattle.ae_syntax.proofs.read_decls.read_typeds.Goals as goal
 
 pub returns-in_err-first : goal.returns-in_err-first

@@ -1,5 +1,5 @@
 use Rattle.std.proofs.Common.{◌-◌, length}
-use Rattle.ae_syntax.proofs.ComposedDecls.{TypedsSoFar}
+use Rattle.ae_syntax.proofs.ParserMeetsMachine.Decls.{TypedsSoFar}
 use Rattle.ae_syntax.proofs.read_decls.read_typeds.Given as goal
 
 abbrev pub invariant-loop-alloc : goal.invariant-loop-alloc

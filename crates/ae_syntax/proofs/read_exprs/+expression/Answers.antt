@@ -7,16 +7,16 @@ use Rattle.ae_lex.specs.declared.kinds.Reserved.TheVariants as word
 use Rattle.ae_lex.specs.declared.kinds.Sign.TheVariants as sign
 use Rattle.ae_syntax.specs.Kinds.{arrow, relation, additive, multiplicative}
 use Rattle.ae_syntax.specs.Parts.{token, tree, trees, setting, settings, trigger, triggers, groups, let_in, conditional, setting_of, applied, distinct_of, bracketed, trigger_of, quantified, record_of, update_of}
-use Rattle.ae_syntax.specs.Machine.{join, make, an_expr, an_and, an_not, a_sum, a_prod, a_unary, a_post, an_atom, more_arrow, more_or, more_and, more_rel, more_sum, more_prod, more_post, negate, oppose, keep, pass, bind_name, choose, set, the_sign, the_word, let_wants, if_wants, block_wants, row_wants, element_wants, call, bracket_end, begin, more, call_it, all_differ, match_terms, a_type, triggers_or_dot, quantify, group_names, quantified_by, build, change, brace}
-use Rattle.ae_syntax.proofs.ComposedSteps.{then_reads, fails_on, relay, start, moved, done, then_makes, then_keeps, then_passes, lacks_keep, lacks_pass}
-use Rattle.ae_syntax.proofs.ComposedLevels.{past_rel, opened, opened_deep, small_grip}
-use Rattle.ae_syntax.proofs.ComposedExprs.{expr_0, and_0, rel_0, sum_0, prod_0, post_0, takes_or, takes_and, takes_arrow, takes_rel, takes_sum, takes_prod, chain_deep, chain_fails, chain_again, chain_once, or_ends, and_ends, arrow_ends, rel_ends, sum_ends, prod_ends, none_at_end, none_here}
+use Rattle.ae_syntax.specs.Inner.Machine.{join, make, an_expr, an_and, an_not, a_sum, a_prod, a_unary, a_post, an_atom, more_arrow, more_or, more_and, more_rel, more_sum, more_prod, more_post, negate, oppose, keep, pass, bind_name, choose, set, the_sign, the_word, let_wants, if_wants, block_wants, items_wants, element_wants, call, bracket_end, begin, more, call_it, all_differ, match_terms, a_type, triggers_or_dot, quantify, group_names, quantified_by, build, change, brace}
+use Rattle.ae_syntax.proofs.ParserMeetsMachine.Steps.{then_reads, fails_on, relay, start, moved, done, then_makes, then_keeps, then_passes, lacks_keep, lacks_pass}
+use Rattle.ae_syntax.proofs.ParserMeetsMachine.Levels.{past_rel, opened, opened_deep, small_grip}
+use Rattle.ae_syntax.proofs.ParserMeetsMachine.Exprs.{expr_0, and_0, rel_0, sum_0, prod_0, post_0, takes_or, takes_and, takes_arrow, takes_rel, takes_sum, takes_prod, chain_deep, chain_fails, chain_again, chain_once, or_ends, and_ends, arrow_ends, rel_ends, sum_ends, prod_ends, none_at_end, none_here}
 use Rattle.ae_syntax.specs.Grammar.{of_exprs, of_settings, of_triggers, of_groups, of_names}
-use Rattle.ae_syntax.proofs.ComposedForms.{begins_not, begins_minus, begin_deep, not_done, not_fails, minus_done, minus_fails, opens_let, opens_if, opens_block, row_first, row_first_fails, row_more, row_more_fails, row_ends, made, begin_1, begins_name, begins_distinct, begins_paren, begins_brace}
-use Rattle.ae_syntax.specs.Reading.{distinct_wants, record_wants, change_wants}
-use Rattle.ae_syntax.proofs.ComposedAtoms.{at_end, not_0, unary_0, constant_done, constant_fails, call_ends, call_deep, call_1, distinct_deep, distinct_1, then_colon, then_closes, no_close}
-use Rattle.ae_syntax.proofs.ComposedRows.{dot_done, no_squares, squares_deep, squares_1}
-use Rattle.ae_syntax.proofs.ComposedBraces.{record_0, change_0}
+use Rattle.ae_syntax.proofs.ParserMeetsMachine.OpenExprs.{begins_not, begins_minus, begin_deep, not_done, not_fails, minus_done, minus_fails, opens_let, opens_if, opens_block, items_first, items_first_fails, items_more, items_more_fails, items_ends, made, begin_1, begins_name, begins_distinct, begins_paren, begins_brace}
+use Rattle.ae_syntax.specs.Inner.Reading.{distinct_wants, record_wants, change_wants}
+use Rattle.ae_syntax.proofs.ParserMeetsMachine.Atoms.{at_end, not_0, unary_0, constant_done, constant_fails, call_ends, call_deep, call_1, distinct_deep, distinct_1, then_colon, then_closes, no_close}
+use Rattle.ae_syntax.proofs.ParserMeetsMachine.Items.{dot_done, no_squares, squares_deep, squares_1}
+use Rattle.ae_syntax.proofs.ParserMeetsMachine.Braces.{record_0, change_0}
 use Rattle.ae_syntax.proofs.read_exprs.+expression.Goals as goal
 
 pub read_expr-returns-in_err-left : goal.read_expr-returns-in_err-left
@@ -127,26 +127,26 @@ read_triggers-returns-in_err-take_sign-3 t c = let p = err_from_is_err_and c.fro
 pub read_triggers-returns : goal.read_triggers-returns
 read_triggers-returns t c = done (moved (c.in_ok-found.to + 2) (omega arith) (then_passes _ (then_passes _ (then_reads (an_expr c.in_ok-inner.inner ∷ make begin ∷ more of_exprs c.in_ok-inner.inner ∷ make match_terms ∷ make begin ∷ more of_triggers c.in_ok-inner.inner ∷ []) (pass (the_sign sign.CloseBracket) c.args.depth ∷ pass (the_sign sign.Dot) c.args.depth ∷ []) [] [] (squares_1 c.args.tokens.now c.args.at c.args.depth c.in_ok-inner.inner _ c.requires.within c.in_ok-take_sign.ensures.is c.in_ok-take_sign.ensures.kind c.in_ok-inner.ensures.more c.in_ok-inner.ensures.room) c.in_ok-found.ensures) c.in_ok-take_sign-2.ensures.is c.in_ok-take_sign-2.ensures.kind c.requires.shallow) c.in_ok-take_sign-3.ensures.is c.in_ok-take_sign-3.ensures.kind c.requires.shallow)) (small_grip _)
 
-pub read_trigger_row-returns-in_err-first : goal.read_trigger_row-returns-in_err-first
-read_trigger_row-returns-in_err-first t c = let p = err_from_is_err_and c.from_residual.result c.from_residual.ensures.1 in rw (p.1, p.2) (row_first_fails (λ p. triggers p) (λ p. trigger p) of_triggers c.args.tokens.now c.args.at c.args.depth 1 1 c.in_err-first.field-0.0 c.requires.within c.in_err-first.ensures)
+pub read_trigger_items-returns-in_err-first : goal.read_trigger_items-returns-in_err-first
+read_trigger_items-returns-in_err-first t c = let p = err_from_is_err_and c.from_residual.result c.from_residual.ensures.1 in rw (p.1, p.2) (items_first_fails (λ p. triggers p) (λ p. trigger p) of_triggers c.args.tokens.now c.args.at c.args.depth 1 1 c.in_err-first.field-0.0 c.requires.within c.in_err-first.ensures)
 
-pub read_trigger_row-loop-alloc-init : goal.read_trigger_row-loop-alloc-init
-read_trigger_row-loop-alloc-init t c = record { runs = row_first of_triggers c.args.tokens.now c.args.at c.args.depth c.in_ok-first.to 1 (trigger c.in_ok-first.first) _ c.requires.within c.in_ok-first.ensures (ap (λ z. triggers z) (c.in_ok-push.ensures.ok ∙ ap (λ z. z ++ c.in_ok-first.first ∷ []) c.new-found.ensures)); weak = (let g = c.in_ok-first.ensures in g.weak) }
+pub read_trigger_items-loop-alloc-init : goal.read_trigger_items-loop-alloc-init
+read_trigger_items-loop-alloc-init t c = record { runs = items_first of_triggers c.args.tokens.now c.args.at c.args.depth c.in_ok-first.to 1 (trigger c.in_ok-first.first) _ c.requires.within c.in_ok-first.ensures (ap (λ z. triggers z) (c.in_ok-push.ensures.ok ∙ ap (λ z. z ++ c.in_ok-first.first ∷ []) c.new-found.ensures)); weak = (let g = c.in_ok-first.ensures in g.weak) }
 
-pub read_trigger_row-returns-in_err-trigger : goal.read_trigger_row-returns-in_err-trigger
-read_trigger_row-returns-in_err-trigger t c = let p = err_from_is_err_and c.from_residual-in_err-trigger.result c.from_residual-in_err-trigger.ensures.1 in rw (p.1, p.2) (row_more_fails (λ p. triggers p) (λ p. trigger p) of_triggers c.args.tokens.now c.args.at c.loop-alloc.end c.args.depth 1 1 (triggers c.loop-alloc.found) c.in_err-trigger.field-0.0 (let i = c.loop-alloc.invariant in i.runs) c.loop-alloc-test.ensures c.requires.shallow c.in_err-trigger.ensures)
+pub read_trigger_items-returns-in_err-trigger : goal.read_trigger_items-returns-in_err-trigger
+read_trigger_items-returns-in_err-trigger t c = let p = err_from_is_err_and c.from_residual-in_err-trigger.result c.from_residual-in_err-trigger.ensures.1 in rw (p.1, p.2) (items_more_fails (λ p. triggers p) (λ p. trigger p) of_triggers c.args.tokens.now c.args.at c.loop-alloc.end c.args.depth 1 1 (triggers c.loop-alloc.found) c.in_err-trigger.field-0.0 (let i = c.loop-alloc.invariant in i.runs) c.loop-alloc-test.ensures c.requires.shallow c.in_err-trigger.ensures)
 
-pub read_trigger_row-loop-alloc-preserved : goal.read_trigger_row-loop-alloc-preserved
-read_trigger_row-loop-alloc-preserved t c = let i = c.loop-alloc.invariant in record { runs = row_more of_triggers c.args.tokens.now c.args.at c.loop-alloc.end c.args.depth c.in_ok-trigger.to 1 (triggers c.loop-alloc.found) (trigger c.in_ok-trigger.trigger) _ i.runs c.loop-alloc-test.ensures c.requires.shallow c.in_ok-trigger.ensures (ap (λ z. triggers z) c.in_ok-push-2.ensures.ok); weak = (let g = c.in_ok-trigger.ensures in g.weak) }
+pub read_trigger_items-loop-alloc-preserved : goal.read_trigger_items-loop-alloc-preserved
+read_trigger_items-loop-alloc-preserved t c = let i = c.loop-alloc.invariant in record { runs = items_more of_triggers c.args.tokens.now c.args.at c.loop-alloc.end c.args.depth c.in_ok-trigger.to 1 (triggers c.loop-alloc.found) (trigger c.in_ok-trigger.trigger) _ i.runs c.loop-alloc-test.ensures c.requires.shallow c.in_ok-trigger.ensures (ap (λ z. triggers z) c.in_ok-push-2.ensures.ok); weak = (let g = c.in_ok-trigger.ensures in g.weak) }
 
-pub read_trigger_row-returns : goal.read_trigger_row-returns
-read_trigger_row-returns t c = let i = c.loop-alloc.invariant in row_ends of_triggers c.args.tokens.now c.args.at c.loop-alloc.end c.args.depth 1 (triggers c.loop-alloc.found) i.runs c.loop-alloc-test.ensures i.weak
+pub read_trigger_items-returns : goal.read_trigger_items-returns
+read_trigger_items-returns t c = let i = c.loop-alloc.invariant in items_ends of_triggers c.args.tokens.now c.args.at c.loop-alloc.end c.args.depth 1 (triggers c.loop-alloc.found) i.runs c.loop-alloc-test.ensures i.weak
 
 pub read_trigger-returns-in_err-terms : goal.read_trigger-returns-in_err-terms
-read_trigger-returns-in_err-terms t c = let p = err_from_is_err_and c.from_residual.result c.from_residual.ensures.1 in rw (p.1, p.2) (fails_on (λ p. trigger p) (λ p. trees p) 1 1 (row_wants of_exprs c.args.depth) (make match_terms ∷ []) [] [] c.in_err-terms.field-0.0 (start c.args.tokens.now (element_wants of_triggers c.args.depth) [] c.args.at c.requires.within) c.in_err-terms.ensures)
+read_trigger-returns-in_err-terms t c = let p = err_from_is_err_and c.from_residual.result c.from_residual.ensures.1 in rw (p.1, p.2) (fails_on (λ p. trigger p) (λ p. trees p) 1 1 (items_wants of_exprs c.args.depth) (make match_terms ∷ []) [] [] c.in_err-terms.field-0.0 (start c.args.tokens.now (element_wants of_triggers c.args.depth) [] c.args.at c.requires.within) c.in_err-terms.ensures)
 
 pub read_trigger-returns : goal.read_trigger-returns
-read_trigger-returns t c = let g = c.in_ok-terms.ensures in rw c.trigger_of.ensures (done (then_makes (trigger (trigger_of c.in_ok-terms.terms) ∷ []) (then_reads (row_wants of_exprs c.args.depth) (make match_terms ∷ []) [] [] (start c.args.tokens.now (element_wants of_triggers c.args.depth) [] c.args.at c.requires.within) g) (λ v. refl)) g.weak)
+read_trigger-returns t c = let g = c.in_ok-terms.ensures in rw c.trigger_of.ensures (done (then_makes (trigger (trigger_of c.in_ok-terms.terms) ∷ []) (then_reads (items_wants of_exprs c.args.depth) (make match_terms ∷ []) [] [] (start c.args.tokens.now (element_wants of_triggers c.args.depth) [] c.args.at c.requires.within) g) (λ v. refl)) g.weak)
 
 pub read_let-returns-in_err-inner : goal.read_let-returns-in_err-inner
 read_let-returns-in_err-inner t c = let p = err_from_is_err_and c.from_residual.result c.from_residual.ensures.1 in rw (p.1, p.2) (opened_deep (λ p. tree p) c.args.tokens.now (an_not c.args.depth) c.args.at (suc c.args.depth) c.args.first (let_wants (suc c.args.depth)) c.in_err-inner.field-0.0 c.requires.here c.in_err-inner.ensures.full (opens_let c.args.depth (suc c.args.depth) c.args.first c.requires.word refl) c.in_err-inner.ensures.deep)
@@ -314,19 +314,19 @@ pub read_call-returns : goal.read_call-returns
 read_call-returns t c = made 8 (applied c.args.name c.in_ok-args.args c.in_ok-close.close) _ (then_keeps c.in_ok-close.close (then_reads (an_expr c.in_ok-inner.inner ∷ make begin ∷ more of_exprs c.in_ok-inner.inner ∷ []) (keep (the_sign sign.CloseParen) c.args.depth ∷ make call_it ∷ []) [] (token c.args.name ∷ []) (call_1 c.args.tokens.now c.args.at c.args.depth c.in_ok-inner.inner c.args.name c.requires.within c.if-not-stands_sign.ensures c.in_ok-inner.ensures.more c.in_ok-inner.ensures.room) c.in_ok-args.ensures) c.in_ok-close.ensures.is c.in_ok-close.ensures.kind c.requires.shallow) (λ v. refl) c.in_ok-call.ensures (small_grip _)
 
 pub read_terms-returns-in_err-first : goal.read_terms-returns-in_err-first
-read_terms-returns-in_err-first t c = let p = err_from_is_err_and c.from_residual.result c.from_residual.ensures.1 in rw (p.1, p.2) (row_first_fails (λ p. trees p) (λ p. tree p) of_exprs c.args.tokens.now c.args.at c.args.depth 1 1 c.in_err-first.field-0.0 c.requires.within c.in_err-first.ensures)
+read_terms-returns-in_err-first t c = let p = err_from_is_err_and c.from_residual.result c.from_residual.ensures.1 in rw (p.1, p.2) (items_first_fails (λ p. trees p) (λ p. tree p) of_exprs c.args.tokens.now c.args.at c.args.depth 1 1 c.in_err-first.field-0.0 c.requires.within c.in_err-first.ensures)
 
 pub read_terms-loop-alloc-init : goal.read_terms-loop-alloc-init
-read_terms-loop-alloc-init t c = record { runs = row_first of_exprs c.args.tokens.now c.args.at c.args.depth c.in_ok-first.to 1 (tree c.in_ok-first.first) _ c.requires.within c.in_ok-first.ensures (ap (λ z. trees z) (c.in_ok-push.ensures.ok ∙ ap (λ z. z ++ c.in_ok-first.first ∷ []) c.new-found.ensures)); weak = (let g = c.in_ok-first.ensures in g.weak) }
+read_terms-loop-alloc-init t c = record { runs = items_first of_exprs c.args.tokens.now c.args.at c.args.depth c.in_ok-first.to 1 (tree c.in_ok-first.first) _ c.requires.within c.in_ok-first.ensures (ap (λ z. trees z) (c.in_ok-push.ensures.ok ∙ ap (λ z. z ++ c.in_ok-first.first ∷ []) c.new-found.ensures)); weak = (let g = c.in_ok-first.ensures in g.weak) }
 
 pub read_terms-returns-in_err-term : goal.read_terms-returns-in_err-term
-read_terms-returns-in_err-term t c = let p = err_from_is_err_and c.from_residual-in_err-term.result c.from_residual-in_err-term.ensures.1 in rw (p.1, p.2) (row_more_fails (λ p. trees p) (λ p. tree p) of_exprs c.args.tokens.now c.args.at c.loop-alloc.end c.args.depth 1 1 (trees c.loop-alloc.found) c.in_err-term.field-0.0 (let i = c.loop-alloc.invariant in i.runs) c.loop-alloc-test.ensures c.requires.shallow c.in_err-term.ensures)
+read_terms-returns-in_err-term t c = let p = err_from_is_err_and c.from_residual-in_err-term.result c.from_residual-in_err-term.ensures.1 in rw (p.1, p.2) (items_more_fails (λ p. trees p) (λ p. tree p) of_exprs c.args.tokens.now c.args.at c.loop-alloc.end c.args.depth 1 1 (trees c.loop-alloc.found) c.in_err-term.field-0.0 (let i = c.loop-alloc.invariant in i.runs) c.loop-alloc-test.ensures c.requires.shallow c.in_err-term.ensures)
 
 pub read_terms-loop-alloc-preserved : goal.read_terms-loop-alloc-preserved
-read_terms-loop-alloc-preserved t c = let i = c.loop-alloc.invariant in record { runs = row_more of_exprs c.args.tokens.now c.args.at c.loop-alloc.end c.args.depth c.in_ok-term.to 1 (trees c.loop-alloc.found) (tree c.in_ok-term.term) _ i.runs c.loop-alloc-test.ensures c.requires.shallow c.in_ok-term.ensures (ap (λ z. trees z) c.in_ok-push-2.ensures.ok); weak = (let g = c.in_ok-term.ensures in g.weak) }
+read_terms-loop-alloc-preserved t c = let i = c.loop-alloc.invariant in record { runs = items_more of_exprs c.args.tokens.now c.args.at c.loop-alloc.end c.args.depth c.in_ok-term.to 1 (trees c.loop-alloc.found) (tree c.in_ok-term.term) _ i.runs c.loop-alloc-test.ensures c.requires.shallow c.in_ok-term.ensures (ap (λ z. trees z) c.in_ok-push-2.ensures.ok); weak = (let g = c.in_ok-term.ensures in g.weak) }
 
 pub read_terms-returns : goal.read_terms-returns
-read_terms-returns t c = let i = c.loop-alloc.invariant in row_ends of_exprs c.args.tokens.now c.args.at c.loop-alloc.end c.args.depth 1 (trees c.loop-alloc.found) i.runs c.loop-alloc-test.ensures i.weak
+read_terms-returns t c = let i = c.loop-alloc.invariant in items_ends of_exprs c.args.tokens.now c.args.at c.loop-alloc.end c.args.depth 1 (trees c.loop-alloc.found) i.runs c.loop-alloc-test.ensures i.weak
 
 pub read_brackets-returns-in_err-inner : goal.read_brackets-returns-in_err-inner
 read_brackets-returns-in_err-inner t c = let p = err_from_is_err_and c.from_residual.result c.from_residual.ensures.1 in rw (p.1, p.2) (begin_deep (λ p. tree p) (an_atom c.args.depth) (suc c.args.depth) (an_expr (suc c.args.depth) ∷ bracket_end c.args.depth ∷ []) c.args.tokens.now c.args.at 8 c.args.opener c.in_err-inner.field-0.0 (begins_paren c.args.tokens.now c.args.at c.args.depth (suc c.args.depth) c.args.opener c.requires.here c.requires.sign refl) c.in_err-inner.ensures.full c.in_err-inner.ensures.deep)
@@ -392,19 +392,19 @@ pub read_update-returns : goal.read_update-returns
 read_update-returns t c = λ m l. made 8 (update_of c.args.opener c.in_ok-base.base c.in_ok-settings.settings c.in_ok-close.close) _ (then_keeps c.in_ok-close.close (then_reads (keep kind.Ident c.args.depth ∷ pass (the_sign sign.Equal) c.args.depth ∷ an_expr c.args.depth ∷ make set ∷ make begin ∷ more of_settings c.args.depth ∷ []) (keep (the_sign sign.CloseBrace) m ∷ make change ∷ []) [] (tree c.in_ok-base.base ∷ token c.args.opener ∷ []) (then_passes _ (then_reads (a_post c.args.depth ∷ []) (pass (the_word word.With) c.args.depth ∷ keep kind.Ident c.args.depth ∷ pass (the_sign sign.Equal) c.args.depth ∷ an_expr c.args.depth ∷ make set ∷ make begin ∷ more of_settings c.args.depth ∷ keep (the_sign sign.CloseBrace) m ∷ make change ∷ []) [] (token c.args.opener ∷ []) (start c.args.tokens.now (change_wants c.args.depth m) (token c.args.opener ∷ []) c.args.at c.requires.within) c.in_ok-base.ensures) c.in_ok-take_word.ensures.is c.in_ok-take_word.ensures.kind c.requires.shallow) c.in_ok-settings.ensures) c.in_ok-close.ensures.is c.in_ok-close.ensures.kind l) (λ v. refl) c.in_ok-changed.ensures (small_grip _)
 
 pub read_settings-returns-in_err-first : goal.read_settings-returns-in_err-first
-read_settings-returns-in_err-first t c = let p = err_from_is_err_and c.from_residual.result c.from_residual.ensures.1 in rw (p.1, p.2) (row_first_fails (λ p. settings p) (λ p. setting p) of_settings c.args.tokens.now c.args.at c.args.depth 1 1 c.in_err-first.field-0.0 c.requires.within c.in_err-first.ensures)
+read_settings-returns-in_err-first t c = let p = err_from_is_err_and c.from_residual.result c.from_residual.ensures.1 in rw (p.1, p.2) (items_first_fails (λ p. settings p) (λ p. setting p) of_settings c.args.tokens.now c.args.at c.args.depth 1 1 c.in_err-first.field-0.0 c.requires.within c.in_err-first.ensures)
 
 pub read_settings-loop-alloc-init : goal.read_settings-loop-alloc-init
-read_settings-loop-alloc-init t c = record { runs = row_first of_settings c.args.tokens.now c.args.at c.args.depth c.in_ok-first.to 1 (setting c.in_ok-first.first) _ c.requires.within c.in_ok-first.ensures (ap (λ z. settings z) (c.in_ok-push.ensures.ok ∙ ap (λ z. z ++ c.in_ok-first.first ∷ []) c.new-found.ensures)); weak = (let g = c.in_ok-first.ensures in g.weak) }
+read_settings-loop-alloc-init t c = record { runs = items_first of_settings c.args.tokens.now c.args.at c.args.depth c.in_ok-first.to 1 (setting c.in_ok-first.first) _ c.requires.within c.in_ok-first.ensures (ap (λ z. settings z) (c.in_ok-push.ensures.ok ∙ ap (λ z. z ++ c.in_ok-first.first ∷ []) c.new-found.ensures)); weak = (let g = c.in_ok-first.ensures in g.weak) }
 
 pub read_settings-returns-in_err-setting : goal.read_settings-returns-in_err-setting
-read_settings-returns-in_err-setting t c = let p = err_from_is_err_and c.from_residual-in_err-setting.result c.from_residual-in_err-setting.ensures.1 in rw (p.1, p.2) (row_more_fails (λ p. settings p) (λ p. setting p) of_settings c.args.tokens.now c.args.at c.loop-alloc.end c.args.depth 1 1 (settings c.loop-alloc.found) c.in_err-setting.field-0.0 (let i = c.loop-alloc.invariant in i.runs) c.loop-alloc-test.ensures c.requires.shallow c.in_err-setting.ensures)
+read_settings-returns-in_err-setting t c = let p = err_from_is_err_and c.from_residual-in_err-setting.result c.from_residual-in_err-setting.ensures.1 in rw (p.1, p.2) (items_more_fails (λ p. settings p) (λ p. setting p) of_settings c.args.tokens.now c.args.at c.loop-alloc.end c.args.depth 1 1 (settings c.loop-alloc.found) c.in_err-setting.field-0.0 (let i = c.loop-alloc.invariant in i.runs) c.loop-alloc-test.ensures c.requires.shallow c.in_err-setting.ensures)
 
 pub read_settings-loop-alloc-preserved : goal.read_settings-loop-alloc-preserved
-read_settings-loop-alloc-preserved t c = let i = c.loop-alloc.invariant in record { runs = row_more of_settings c.args.tokens.now c.args.at c.loop-alloc.end c.args.depth c.in_ok-setting.to 1 (settings c.loop-alloc.found) (setting c.in_ok-setting.setting) _ i.runs c.loop-alloc-test.ensures c.requires.shallow c.in_ok-setting.ensures (ap (λ z. settings z) c.in_ok-push-2.ensures.ok); weak = (let g = c.in_ok-setting.ensures in g.weak) }
+read_settings-loop-alloc-preserved t c = let i = c.loop-alloc.invariant in record { runs = items_more of_settings c.args.tokens.now c.args.at c.loop-alloc.end c.args.depth c.in_ok-setting.to 1 (settings c.loop-alloc.found) (setting c.in_ok-setting.setting) _ i.runs c.loop-alloc-test.ensures c.requires.shallow c.in_ok-setting.ensures (ap (λ z. settings z) c.in_ok-push-2.ensures.ok); weak = (let g = c.in_ok-setting.ensures in g.weak) }
 
 pub read_settings-returns : goal.read_settings-returns
-read_settings-returns t c = let i = c.loop-alloc.invariant in row_ends of_settings c.args.tokens.now c.args.at c.loop-alloc.end c.args.depth 1 (settings c.loop-alloc.found) i.runs c.loop-alloc-test.ensures i.weak
+read_settings-returns t c = let i = c.loop-alloc.invariant in items_ends of_settings c.args.tokens.now c.args.at c.loop-alloc.end c.args.depth 1 (settings c.loop-alloc.found) i.runs c.loop-alloc-test.ensures i.weak
 
 pub read_setting-returns-in_err-name : goal.read_setting-returns-in_err-name
 read_setting-returns-in_err-name t c = let p = err_from_is_err_and c.from_residual.result c.from_residual.ensures.1 in rw (p.1, p.2) (lacks_keep (λ p. setting p) 1 c.in_err-name.field-0.0 (start c.args.tokens.now (element_wants of_settings c.args.depth) [] c.args.at c.requires.within) c.in_err-name.ensures.lacks c.in_err-name.ensures.wrong)

@@ -1,10 +1,10 @@
 -- A call goes on in the tokens, or down in the levels.
 use Rattle.std.proofs.Common.{◌+◌, ◌-◌, ◌*◌, ◌<◌, length, drop, [], ◌∷◌}
 use Rattle.ae_syntax.specs.Grammar.{of_exprs, of_settings, of_triggers}
-use Rattle.ae_syntax.specs.Machine.{row_wants, more}
+use Rattle.ae_syntax.specs.Inner.Machine.{items_wants, more}
 use Rattle.ae_syntax.specs.Parts.{trees, settings, triggers}
-use Rattle.ae_syntax.specs.Reading.{grip}
-use Rattle.ae_syntax.proofs.ComposedSteps.{Reaches}
+use Rattle.ae_syntax.specs.Inner.Reading.{grip}
+use Rattle.ae_syntax.proofs.ParserMeetsMachine.Steps.{Reaches}
 use Rattle.ae_syntax.proofs.read_exprs.+expression.Given as goal
 
 abbrev pub decreases-read_expr : goal.decreases-read_expr
@@ -34,8 +34,8 @@ decreases-read_block l = (length l.tokens.now - l.at) * 16 + 0
 abbrev pub decreases-read_triggers : goal.decreases-read_triggers
 decreases-read_triggers l = (length l.tokens.now - l.at) * 16 + 0
 
-abbrev pub decreases-read_trigger_row : goal.decreases-read_trigger_row
-decreases-read_trigger_row l = (length l.tokens.now - l.at) * 16 + 8
+abbrev pub decreases-read_trigger_items : goal.decreases-read_trigger_items
+decreases-read_trigger_items l = (length l.tokens.now - l.at) * 16 + 8
 
 abbrev pub decreases-read_trigger : goal.decreases-read_trigger
 decreases-read_trigger l = (length l.tokens.now - l.at) * 16 + 7
@@ -103,20 +103,20 @@ decreases-read_settings l = (length l.tokens.now - l.at) * 16 + 1
 abbrev pub decreases-read_setting : goal.decreases-read_setting
 decreases-read_setting l = (length l.tokens.now - l.at) * 16 + 0
 
-abbrev pub invariant-read_trigger_row-loop-alloc : goal.invariant-read_trigger_row-loop-alloc
-invariant-read_trigger_row-loop-alloc l = record { runs : Reaches l.tokens (row_wants of_triggers l.fn.depth) [] l.fn.at (more of_triggers l.fn.depth ∷ []) (triggers l.found ∷ []) l.end; weak : grip (drop l.end l.tokens) < 1 }
+abbrev pub invariant-read_trigger_items-loop-alloc : goal.invariant-read_trigger_items-loop-alloc
+invariant-read_trigger_items-loop-alloc l = record { runs : Reaches l.tokens (items_wants of_triggers l.fn.depth) [] l.fn.at (more of_triggers l.fn.depth ∷ []) (triggers l.found ∷ []) l.end; weak : grip (drop l.end l.tokens) < 1 }
 
-abbrev pub decreases-read_trigger_row-loop-alloc : goal.decreases-read_trigger_row-loop-alloc
-decreases-read_trigger_row-loop-alloc l = length l.tokens - l.end
+abbrev pub decreases-read_trigger_items-loop-alloc : goal.decreases-read_trigger_items-loop-alloc
+decreases-read_trigger_items-loop-alloc l = length l.tokens - l.end
 
 abbrev pub invariant-read_terms-loop-alloc : goal.invariant-read_terms-loop-alloc
-invariant-read_terms-loop-alloc l = record { runs : Reaches l.tokens (row_wants of_exprs l.fn.depth) [] l.fn.at (more of_exprs l.fn.depth ∷ []) (trees l.found ∷ []) l.end; weak : grip (drop l.end l.tokens) < 1 }
+invariant-read_terms-loop-alloc l = record { runs : Reaches l.tokens (items_wants of_exprs l.fn.depth) [] l.fn.at (more of_exprs l.fn.depth ∷ []) (trees l.found ∷ []) l.end; weak : grip (drop l.end l.tokens) < 1 }
 
 abbrev pub decreases-read_terms-loop-alloc : goal.decreases-read_terms-loop-alloc
 decreases-read_terms-loop-alloc l = length l.tokens - l.end
 
 abbrev pub invariant-read_settings-loop-alloc : goal.invariant-read_settings-loop-alloc
-invariant-read_settings-loop-alloc l = record { runs : Reaches l.tokens (row_wants of_settings l.fn.depth) [] l.fn.at (more of_settings l.fn.depth ∷ []) (settings l.found ∷ []) l.end; weak : grip (drop l.end l.tokens) < 1 }
+invariant-read_settings-loop-alloc l = record { runs : Reaches l.tokens (items_wants of_settings l.fn.depth) [] l.fn.at (more of_settings l.fn.depth ∷ []) (settings l.found ∷ []) l.end; weak : grip (drop l.end l.tokens) < 1 }
 
 abbrev pub decreases-read_settings-loop-alloc : goal.decreases-read_settings-loop-alloc
 decreases-read_settings-loop-alloc l = length l.tokens - l.end

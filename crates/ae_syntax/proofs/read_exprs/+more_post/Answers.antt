@@ -2,10 +2,10 @@ use Rattle.std.proofs.Common.{suc, [], ◌∷◌, refl}
 use Rattle.std.proofs.lemmas.Result.{err_from_is_err_and}
 use Rattle.ae_lex.specs.declared.kinds.TokenKind.TheVariants as kind
 use Rattle.ae_syntax.specs.Parts.{tree}
-use Rattle.ae_syntax.specs.Machine.{make, more_post, keep, take_field}
-use Rattle.ae_syntax.proofs.ComposedSteps.{relay, lacks_keep}
-use Rattle.ae_syntax.proofs.ComposedExprs.{chain_deep}
-use Rattle.ae_syntax.proofs.ComposedRows.{takes_post, post_ends, post_1, post_2}
+use Rattle.ae_syntax.specs.Inner.Machine.{make, more_post, keep, take_field}
+use Rattle.ae_syntax.proofs.ParserMeetsMachine.Steps.{relay, lacks_keep}
+use Rattle.ae_syntax.proofs.ParserMeetsMachine.Exprs.{chain_deep}
+use Rattle.ae_syntax.proofs.ParserMeetsMachine.Items.{takes_post, post_ends, post_1, post_2}
 use Rattle.ae_syntax.proofs.read_exprs.+more_post.Goals as goal
 
 pub returns-then-not-stands_sign : goal.returns-then-not-stands_sign

@@ -2,11 +2,11 @@ use Rattle.std.proofs.Common.{◌+◌, [], ◌∷◌, refl, arith}
 use Rattle.std.proofs.lemmas.Result.{err_from_is_err_and}
 use Rattle.ae_lex.specs.declared.kinds.Sign.TheVariants as sign
 use Rattle.ae_syntax.specs.Parts.{token, tree, sort, ascribed}
-use Rattle.ae_syntax.specs.Machine.{make, keep, the_sign, a_type, ascribe}
-use Rattle.ae_syntax.proofs.ComposedSteps.{then_reads, fails_on, start, then_keeps, lacks_keep}
-use Rattle.ae_syntax.proofs.ComposedForms.{made}
-use Rattle.ae_syntax.proofs.ComposedLevels.{small_grip}
-use Rattle.ae_syntax.specs.Reading.{ascribed_wants}
+use Rattle.ae_syntax.specs.Inner.Machine.{make, keep, the_sign, a_type, ascribe}
+use Rattle.ae_syntax.proofs.ParserMeetsMachine.Steps.{then_reads, fails_on, start, then_keeps, lacks_keep}
+use Rattle.ae_syntax.proofs.ParserMeetsMachine.OpenExprs.{made}
+use Rattle.ae_syntax.proofs.ParserMeetsMachine.Levels.{small_grip}
+use Rattle.ae_syntax.specs.Inner.Reading.{ascribed_wants}
 use Rattle.ae_syntax.proofs.read_exprs.read_ascribed.Goals as goal
 
 pub returns-in_err-sort : goal.returns-in_err-sort

@@ -1,6 +1,6 @@
 use Rattle.std.proofs.Common.{◌+◌, [], ◌∷◌, ◌++◌, ap, ◌∙◌, arith}
 use Rattle.std.proofs.lemmas.Result.{err_from_is_err_and}
-use Rattle.ae_syntax.proofs.ComposedRows.{names_fail, names_first, names_more, names_more_fail, names_end}
+use Rattle.ae_syntax.proofs.ParserMeetsMachine.Items.{names_fail, names_first, names_more, names_more_fail, names_end}
 use Rattle.ae_syntax.proofs.read_exprs.read_names.Goals as goal
 
 pub returns-in_err-first : goal.returns-in_err-first

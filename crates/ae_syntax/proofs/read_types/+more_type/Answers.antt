@@ -1,7 +1,7 @@
 use Rattle.std.proofs.Common.{ap, ◌∙◌, [], ◌∷◌, ◌++◌}
 use Rattle.std.proofs.lemmas.Result.{err_from_is_err_and}
 use Rattle.ae_syntax.specs.Parts.{named_after}
-use Rattle.ae_syntax.proofs.ComposedDecls.{type_ends, type_sinks, type_goes_on}
+use Rattle.ae_syntax.proofs.ParserMeetsMachine.Decls.{type_ends, type_sinks, type_goes_on}
 use Rattle.ae_syntax.proofs.read_types.+more_type.Goals as goal
 
 pub returns-in_default : goal.returns-in_default

@@ -1,7 +1,7 @@
 use Rattle.std.proofs.Common.{ap, ◌∙◌, sym, refl, arith, [], ◌∷◌, ◌++◌}
 use Rattle.std.proofs.lemmas.Result.{err_from_is_err_and}
 use Rattle.ae_syntax.specs.Parts.{token, sort, sorts, span, named_after}
-use Rattle.ae_syntax.proofs.ComposedDecls.{type_missing, base_reads, no_type, open_bracket, bracket_sinks, sorts_start, sorts_step, sorts_end, sorts_fail, then_sorts, stop_sorts, then_keep, stop_keep, then_pass, stop_pass, then_read, stop_read, then_make, halts_answer, relays_as}
+use Rattle.ae_syntax.proofs.ParserMeetsMachine.Decls.{type_missing, base_reads, no_type, open_bracket, bracket_sinks, sorts_start, sorts_step, sorts_end, sorts_fail, then_sorts, stop_sorts, then_keep, stop_keep, then_pass, stop_pass, then_read, stop_read, then_make, halts_answer, relays_as}
 use Rattle.ae_syntax.proofs.read_types.+sort.Goals as goal
 
 pub bracket_sorts-returns-in_err-inner : goal.bracket_sorts-returns-in_err-inner

@@ -1,7 +1,7 @@
 use Rattle.std.proofs.Common.{[], ◌∷◌, ◌-◌, ◌*◌, ◌+◌, length}
 use Rattle.ae_syntax.specs.Grammar.{of_types}
-use Rattle.ae_syntax.specs.Machine.{more}
-use Rattle.ae_syntax.specs.ReadingDecls.{SortsGoOn}
+use Rattle.ae_syntax.specs.Inner.Machine.{more}
+use Rattle.ae_syntax.specs.Inner.ReadingDecls.{SortsGoOn}
 use Rattle.ae_syntax.proofs.read_types.+sort.Given as goal
 
 abbrev pub decreases-bracket_sorts : goal.decreases-bracket_sorts

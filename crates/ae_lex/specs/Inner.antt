@@ -1,0 +1,2 @@
+-- What the lexer's parts answer.
+pub mod Pieces
