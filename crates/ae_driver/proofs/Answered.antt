@@ -37,12 +37,7 @@ use Rattle.ae_report.specs.declared.refusal.Refusal.{Refusal}
 use Rattle.ae_lex.proofs.Unique.{one_list, never_both as never_both_in_lexis}
 use Rattle.ae_syntax.proofs.FileLaws.{one_tree, never_both}
 use Rattle.ae_syntax.specs.declared.decls.File.{File}
-use Rattle.ae_syntax.specs.Files.{IsParsed, fault_place, lex_fault_place}
-use Rattle.ae_lex.specs.declared.kinds.LexFault.{LexFault}
-use Rattle.ae_lex.specs.declared.kinds.LexFault.TheVariants as lex
-use Rattle.ae_syntax.specs.declared.faults.SyntaxFault.{SyntaxFault}
-use Rattle.ae_syntax.specs.declared.faults.SyntaxFault.TheVariants as syntax
-use Rattle.ae_report.specs.Lines.{IsWithin, lex_refused_at, syntax_refused_at}
+use Rattle.ae_syntax.specs.Files.{IsParsed}
 use Rattle.ae_driver.specs.FirstTexts.{IsFirstTextOf}
 use Rattle.ae_driver.specs.declared.program.TheConstants.{INPUT_LIMIT}
 use Rattle.ae_driver.specs.declared.program.Status.{Status}
@@ -238,19 +233,6 @@ refusal_ends text why a c status.Usage r e = absurd e
 
 pub nothing_written : (text : List ℕ) (a : Written) → TextEnds text a a status.Memory
 nothing_written text a = ([], inl refl, gets_nothing a)
-
-pub lexis_place : (text : List ℕ) (f : LexFault) → lex_fault_place f ≤ length text → IsWithin text (lex_refused_at f)
-lexis_place text (lex.BadByte at) le = le
-lexis_place text (lex.OpenComment at) le = le
-lexis_place text (lex.WideLiteral at) le = le
-lexis_place text (lex.OutsideProfile at) le = le
-lexis_place text lex.Memory le = tt
-
-pub syntax_place : (text : List ℕ) (f : SyntaxFault) → fault_place f ≤ length text → IsWithin text (syntax_refused_at f)
-syntax_place text (syntax.Unexpected at) le = le
-syntax_place text (syntax.TooDeep at) le = le
-syntax_place text (syntax.OutsideProfile at) le = le
-syntax_place text syntax.Memory le = tt
 
 -- a first text isn't refused
 file_one : (text : List ℕ) (f g : File) → IsFileOf text f → IsFileOf text g → f ≡ g

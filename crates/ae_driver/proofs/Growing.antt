@@ -12,7 +12,7 @@ use Rattle.std.proofs.lemmas.List.{get_or-set_other, length-set}
 use Rattle.std.proofs.lemmas.Grind.{get_or-set_at}
 use Rattle.ae_rules.specs.Clauses.{is_true, is_false}
 use Rattle.ae_rules.specs.Lines.{Fact, equal, states, Stated, Allowed}
-use Rattle.ae_rules.proofs.Written.{all_append}
+use Rattle.ae_rules.proofs.Written.{all_append, stated_before}
 use Rattle.ae_core.specs.declared.formulas.Lit.{Lit}
 use Rattle.ae_core.specs.declared.proofs.EqLine.{EqLine}
 use Rattle.ae_base.specs.Options.{◌>>=◌}
@@ -24,7 +24,6 @@ use Rattle.ae_driver.specs.Inner.Search.{Known, At, Holds, HoldsBy, Grows, IsVal
 use Rattle.ae_base.proofs.AllOf.{all_push}
 use Rattle.ae_base.proofs.ListFacts.{get_append, get_seam}
 use Rattle.ae_base.proofs.Options.{never_some}
-use Rattle.ae_rules.proofs.Written.{stated_before}
 
 -- ---- one more line
 pub push : (n : ℕ) (hyps : List Lit) (lines : List EqLine) (l : EqLine) → IsDerivation n hyps lines → OfConstants n l → Allowed no_signature hyps lines l → IsDerivation n hyps (lines ++ l ∷ [])

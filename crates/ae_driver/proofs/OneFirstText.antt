@@ -6,16 +6,16 @@ use Rattle.std.specs.List.{AllPairs}
 use Rattle.ae_lex.proofs.Unique.{one_list}
 use Rattle.ae_syntax.specs.declared.spans.Span.{Span}
 use Rattle.ae_syntax.specs.declared.decls.Decl.{Decl}
-use Rattle.ae_syntax.specs.declared.decls.DeclForm.{DeclForm}
-use Rattle.ae_syntax.specs.declared.decls.DeclForm.TheVariants as decl
+use Rattle.ae_syntax.specs.declared.decls.DeclKind.{DeclKind}
+use Rattle.ae_syntax.specs.declared.decls.DeclKind.TheVariants as decl
 use Rattle.ae_syntax.specs.declared.decls.File.{File}
 use Rattle.ae_syntax.specs.declared.exprs.BinaryOp.TheVariants as op
 use Rattle.ae_syntax.specs.declared.exprs.Expr.{Expr}
-use Rattle.ae_syntax.specs.declared.exprs.Form as form
-use Rattle.ae_syntax.specs.declared.exprs.Form.{out-Form}
-use Rattle.ae_syntax.specs.declared.exprs.Form.TheVariants.{outs-Apply}
-use Rattle.ae_syntax.specs.declared.exprs.Form.TheOpen as layer
-use Rattle.ae_syntax.specs.declared.exprs.Form.TheOpen.{Form-F}
+use Rattle.ae_syntax.specs.declared.exprs.ExprKind as expr
+use Rattle.ae_syntax.specs.declared.exprs.ExprKind.{out-ExprKind}
+use Rattle.ae_syntax.specs.declared.exprs.ExprKind.TheVariants.{outs-Apply}
+use Rattle.ae_syntax.specs.declared.exprs.ExprKind.TheOpen as layer
+use Rattle.ae_syntax.specs.declared.exprs.ExprKind.TheOpen.{ExprKind-F}
 use Rattle.ae_syntax.specs.Files.{IsParsed}
 use Rattle.ae_syntax.proofs.FileLaws.{one_tree}
 use Rattle.ae_driver.specs.declared.first_text.Equation.{Equation}
@@ -27,15 +27,15 @@ use Rattle.ae_driver.proofs.Reading.{some_same, binary_left, binary_right, not_b
 use Rattle.ae_base.proofs.ListFacts.{cons_same}
 
 -- ---- the places of names
-applied_in : {A B C D : Type 0} → Form-F A B C D → Option Span
+applied_in : {A B C D : Type 0} → ExprKind-F A B C D → Option Span
 applied_in (layer.Apply s es) = Some s
 applied_in _ = None
 
-same_applied : (s t : Span) → form.Apply s [] ≡ form.Apply t [] → s ≡ t
+same_applied : (s t : Span) → expr.Apply s [] ≡ expr.Apply t [] → s ≡ t
 unfolding applied_in
-same_applied s t e = some_same s t (sym (ap applied_in (outs-Apply s [])) ∙ ap (λ f. applied_in (out-Form f)) e ∙ ap applied_in (outs-Apply t []))
+same_applied s t e = some_same s t (sym (ap applied_in (outs-Apply s [])) ∙ ap (λ f. applied_in (out-ExprKind f)) e ∙ ap applied_in (outs-Apply t []))
 
-goal_span_in : DeclForm → Option Span
+goal_span_in : DeclKind → Option Span
 goal_span_in (decl.Goal s b) = Some s
 goal_span_in _ = None
 

@@ -8,19 +8,19 @@ use Rattle.ae_syntax.specs.declared.spans.Span.{Span}
 use Rattle.ae_syntax.specs.declared.decls.Decl.{Decl}
 use Rattle.ae_syntax.specs.declared.decls.SymbolResult.{SymbolResult}
 use Rattle.ae_syntax.specs.declared.types.WrittenType.{WrittenType}
-use Rattle.ae_syntax.specs.declared.decls.DeclForm.{DeclForm}
-use Rattle.ae_syntax.specs.declared.decls.DeclForm.TheVariants as decl
+use Rattle.ae_syntax.specs.declared.decls.DeclKind.{DeclKind}
+use Rattle.ae_syntax.specs.declared.decls.DeclKind.TheVariants as decl
 use Rattle.ae_syntax.specs.declared.decls.TypedName.{TypedName}
 use Rattle.ae_syntax.specs.declared.decls.File.{File}
 use Rattle.ae_driver.specs.declared.first_text.FirstText.{FirstText}
 use Rattle.ae_syntax.specs.declared.exprs.BinaryOp.{BinaryOp}
 use Rattle.ae_syntax.specs.declared.exprs.BinaryOp.TheVariants as op
 use Rattle.ae_syntax.specs.declared.exprs.Expr.{Expr}
-use Rattle.ae_syntax.specs.declared.exprs.Form as form
-use Rattle.ae_syntax.specs.declared.exprs.Form.{out-Form}
-use Rattle.ae_syntax.specs.declared.exprs.Form.TheVariants.{outs-Binary}
-use Rattle.ae_syntax.specs.declared.exprs.Form.TheOpen as layer
-use Rattle.ae_syntax.specs.declared.exprs.Form.TheOpen.{Form-F}
+use Rattle.ae_syntax.specs.declared.exprs.ExprKind as expr
+use Rattle.ae_syntax.specs.declared.exprs.ExprKind.{out-ExprKind}
+use Rattle.ae_syntax.specs.declared.exprs.ExprKind.TheVariants.{outs-Binary}
+use Rattle.ae_syntax.specs.declared.exprs.ExprKind.TheOpen as layer
+use Rattle.ae_syntax.specs.declared.exprs.ExprKind.TheOpen.{ExprKind-F}
 use Rattle.ae_driver.specs.declared.first_text.TheConstants.{MOST_HYPOTHESES}
 use Rattle.ae_driver.specs.declared.first_text.Equation.{Equation}
 use Rattle.ae_driver.specs.declared.first_text.Chain.{Chain}
@@ -50,61 +50,61 @@ when_some None x P Q e h = absurd (never_some _ e)
 when_some (Some y) x P Q e h = subst Q (some_same y x e) h
 
 -- ---- the parts of a binary expression
-op_in : {A B C D : Type 0} → Form-F A B C D → Option BinaryOp
+op_in : {A B C D : Type 0} → ExprKind-F A B C D → Option BinaryOp
 op_in (layer.Binary o l r) = Some o
 op_in _ = None
 
-left_in : {A B C D : Type 0} → Form-F A B C D → Option B
+left_in : {A B C D : Type 0} → ExprKind-F A B C D → Option B
 left_in (layer.Binary o l r) = Some l
 left_in _ = None
 
-right_in : {A B C D : Type 0} → Form-F A B C D → Option B
+right_in : {A B C D : Type 0} → ExprKind-F A B C D → Option B
 right_in (layer.Binary o l r) = Some r
 right_in _ = None
 
-binary_op : (o p : BinaryOp) (l r m s : Expr) → form.Binary o l r ≡ form.Binary p m s → o ≡ p
+binary_op : (o p : BinaryOp) (l r m s : Expr) → expr.Binary o l r ≡ expr.Binary p m s → o ≡ p
 unfolding op_in
-binary_op o p l r m s e = some_same o p (sym (ap op_in (outs-Binary o l r)) ∙ ap (λ f. op_in (out-Form f)) e ∙ ap op_in (outs-Binary p m s))
+binary_op o p l r m s e = some_same o p (sym (ap op_in (outs-Binary o l r)) ∙ ap (λ f. op_in (out-ExprKind f)) e ∙ ap op_in (outs-Binary p m s))
 
-pub binary_left : (o p : BinaryOp) (l r m s : Expr) → form.Binary o l r ≡ form.Binary p m s → l ≡ m
+pub binary_left : (o p : BinaryOp) (l r m s : Expr) → expr.Binary o l r ≡ expr.Binary p m s → l ≡ m
 unfolding left_in
-binary_left o p l r m s e = some_same l m (sym (ap left_in (outs-Binary o l r)) ∙ ap (λ f. left_in (out-Form f)) e ∙ ap left_in (outs-Binary p m s))
+binary_left o p l r m s e = some_same l m (sym (ap left_in (outs-Binary o l r)) ∙ ap (λ f. left_in (out-ExprKind f)) e ∙ ap left_in (outs-Binary p m s))
 
-pub binary_right : (o p : BinaryOp) (l r m s : Expr) → form.Binary o l r ≡ form.Binary p m s → r ≡ s
+pub binary_right : (o p : BinaryOp) (l r m s : Expr) → expr.Binary o l r ≡ expr.Binary p m s → r ≡ s
 unfolding right_in
-binary_right o p l r m s e = some_same r s (sym (ap right_in (outs-Binary o l r)) ∙ ap (λ f. right_in (out-Form f)) e ∙ ap right_in (outs-Binary p m s))
+binary_right o p l r m s e = some_same r s (sym (ap right_in (outs-Binary o l r)) ∙ ap (λ f. right_in (out-ExprKind f)) e ∙ ap right_in (outs-Binary p m s))
 
-pub not_both : (e l r m s : Expr) → e.form ≡ form.Binary op.Equal l r → e.form ≡ form.Binary op.Implies m s → ⊥
+pub not_both : (e l r m s : Expr) → e.kind ≡ expr.Binary op.Equal l r → e.kind ≡ expr.Binary op.Implies m s → ⊥
 not_both e l r m s p q = let same = binary_op op.Equal op.Implies l r m s (sym p ∙ q) in search (rules, same)
 
 -- ---- chains
 module _ (text : List ℕ) (constants : List (List ℕ)) where
-  pub no_equation : (e : Expr) → ((l r : Expr) → e.form ≡ form.Binary op.Implies l r → ⊥) → ((q : Equation) → IsEquation text constants e q → ⊥) → (hs : List Equation) (q : Equation) → IsChain text constants e hs q → ⊥
+  pub no_equation : (e : Expr) → ((l r : Expr) → e.kind ≡ expr.Binary op.Implies l r → ⊥) → ((q : Equation) → IsEquation text constants e q → ⊥) → (hs : List Equation) (q : Equation) → IsChain text constants e hs q → ⊥
   no_equation e s n [] q c = n q c
   no_equation e s n (h ∷ hs) q (l, r, f, i, c) = s l r f
 
-  pub no_hypothesis : (e l r : Expr) → e.form ≡ form.Binary op.Implies l r → ((q : Equation) → IsEquation text constants l q → ⊥) → (hs : List Equation) (q : Equation) → IsChain text constants e hs q → ⊥
+  pub no_hypothesis : (e l r : Expr) → e.kind ≡ expr.Binary op.Implies l r → ((q : Equation) → IsEquation text constants l q → ⊥) → (hs : List Equation) (q : Equation) → IsChain text constants e hs q → ⊥
   no_hypothesis e l r f n [] q (m, s, g, i, c) = not_both e m s l r g f
   no_hypothesis e l r f n (h ∷ hs) q (m, s, g, i, c) = let same = binary_left op.Implies op.Implies l r m s (sym f ∙ g) in n h (subst (λ z. IsEquation text constants z h) (sym same) i)
 
-  pub no_rest : (e l r : Expr) → e.form ≡ form.Binary op.Implies l r → ((hs : List Equation) (q : Equation) → IsChain text constants r hs q → ⊥) → (hs : List Equation) (q : Equation) → IsChain text constants e hs q → ⊥
+  pub no_rest : (e l r : Expr) → e.kind ≡ expr.Binary op.Implies l r → ((hs : List Equation) (q : Equation) → IsChain text constants r hs q → ⊥) → (hs : List Equation) (q : Equation) → IsChain text constants e hs q → ⊥
   no_rest e l r f n [] q (m, s, g, i, c) = not_both e m s l r g f
   no_rest e l r f n (h ∷ hs) q (m, s, g, i, c) = let same = binary_right op.Implies op.Implies l r m s (sym f ∙ g) in n hs q (subst (λ z. IsChain text constants z hs q) (sym same) c)
 
-  pub no_left : (e l r : Expr) → e.form ≡ form.Binary op.Equal l r → ((k : ℕ) → IsConstantAt text constants l k → ⊥) → (q : Equation) → IsEquation text constants e q → ⊥
+  pub no_left : (e l r : Expr) → e.kind ≡ expr.Binary op.Equal l r → ((k : ℕ) → IsConstantAt text constants l k → ⊥) → (q : Equation) → IsEquation text constants e q → ⊥
   no_left e l r f n q (m, s, g, i, c) = let same = binary_left op.Equal op.Equal l r m s (sym f ∙ g) in n q.left (subst (λ z. IsConstantAt text constants z q.left) (sym same) i)
 
-  pub no_right : (e l r : Expr) → e.form ≡ form.Binary op.Equal l r → ((k : ℕ) → IsConstantAt text constants r k → ⊥) → (q : Equation) → IsEquation text constants e q → ⊥
+  pub no_right : (e l r : Expr) → e.kind ≡ expr.Binary op.Equal l r → ((k : ℕ) → IsConstantAt text constants r k → ⊥) → (q : Equation) → IsEquation text constants e q → ⊥
   no_right e l r f n q (m, s, g, i, c) = let same = binary_right op.Equal op.Equal l r m s (sym f ∙ g) in n q.right (subst (λ z. IsConstantAt text constants z q.right) (sym same) c)
 
   -- an equation that ends a chain
-  pub last_alone : (e : Expr) (hyps : List Equation) (found : Option Equation) → ((l r : Expr) → e.form ≡ form.Binary op.Implies l r → ⊥) → MatchOption found ((q : Equation) → IsEquation text constants e q → ⊥) (λ q. IsEquation text constants e q)
+  pub last_alone : (e : Expr) (hyps : List Equation) (found : Option Equation) → ((l r : Expr) → e.kind ≡ expr.Binary op.Implies l r → ⊥) → MatchOption found ((q : Equation) → IsEquation text constants e q → ⊥) (λ q. IsEquation text constants e q)
       → MatchOption {T = List Equation × Equation} (option_map (λ q. (hyps, q)) found) ((hs : List Equation) (q : Equation) → IsChain text constants e hs q → ⊥) (λ p. (hs : List Equation) × (p.0 ≡ hyps ++ hs) × IsChain text constants e hs p.1)
   last_alone e hyps None s n = no_equation e s n
   last_alone e hyps (Some q) s c = ([], sym (append-nil hyps), c)
 
   -- a chain with one more hypothesis before it
-  pub one_more : (e l r : Expr) (hyps : List Equation) (h : Equation) (found : Option (List Equation × Equation)) → e.form ≡ form.Binary op.Implies l r → IsEquation text constants l h
+  pub one_more : (e l r : Expr) (hyps : List Equation) (h : Equation) (found : Option (List Equation × Equation)) → e.kind ≡ expr.Binary op.Implies l r → IsEquation text constants l h
       → MatchOption found ((hs : List Equation) (q : Equation) → IsChain text constants r hs q → ⊥) (λ p. (hs : List Equation) × (p.0 ≡ (hyps ++ h ∷ []) ++ hs) × IsChain text constants r hs p.1)
       → MatchOption found ((hs : List Equation) (q : Equation) → IsChain text constants e hs q → ⊥) (λ p. (hs : List Equation) × (p.0 ≡ hyps ++ hs) × IsChain text constants e hs p.1)
   one_more e l r hyps h None f i n = no_rest e l r f n
@@ -126,7 +126,7 @@ none_has cs i name le before k f =
     get_past cs k name (omega (arith, le, not_less)) f
 
 -- ---- lists that are related element by element
-pub goal_read : (text : List ℕ) (constants : List (List ℕ)) (d : Decl) (s : Span) (body : Expr) (name : List ℕ) (hs : List Equation) (q : Equation) → d.form ≡ decl.Goal s body → IsNameAt text s name
+pub goal_read : (text : List ℕ) (constants : List (List ℕ)) (d : Decl) (s : Span) (body : Expr) (name : List ℕ) (hs : List Equation) (q : Equation) → d.kind ≡ decl.Goal s body → IsNameAt text s name
     → (gs : List Equation) × (hs ≡ [] ++ gs) × IsChain text constants body gs q → length hs ≤ MOST_HYPOTHESES → IsGoalDecl text constants d (record { name = name; hyps = hs; last = q })
 goal_read text constants d s body name hs q f n (gs, same, c) short = (s, body, f, n, subst (λ z. IsChain text constants body z q) (sym same) c, short)
 
@@ -138,7 +138,7 @@ chain_length text constants e (h ∷ hs) [] q p (m, s, g, j, d) (l, r, f, i, o) 
 chain_length text constants e (h ∷ hs) (g ∷ gs) q p (l, r, f, i, c) (m, s, k, j, d) =
     ap suc (chain_length text constants s hs gs q p (subst (λ z. IsChain text constants z hs q) (binary_right op.Implies op.Implies l r m s (sym f ∙ k)) c) d)
 
-goal_body_in : DeclForm → Option Expr
+goal_body_in : DeclKind → Option Expr
 goal_body_in (decl.Goal s b) = Some b
 goal_body_in _ = None
 
@@ -146,7 +146,7 @@ pub same_body : (s t : Span) (a b : Expr) → decl.Goal s a ≡ decl.Goal t b �
 unfolding goal_body_in
 same_body s t a b e = some_same a b (ap goal_body_in e)
 
-pub too_long : (text : List ℕ) (constants : List (List ℕ)) (d : Decl) (s : Span) (body : Expr) (hs : List Equation) (q : Equation) → d.form ≡ decl.Goal s body → (gs : List Equation) × (hs ≡ [] ++ gs) × IsChain text constants body gs q
+pub too_long : (text : List ℕ) (constants : List (List ℕ)) (d : Decl) (s : Span) (body : Expr) (hs : List Equation) (q : Equation) → d.kind ≡ decl.Goal s body → (gs : List Equation) × (hs ≡ [] ++ gs) × IsChain text constants body gs q
     → MOST_HYPOTHESES < length hs → (g : Chain) → IsGoalDecl text constants d g → ⊥
 too_long text constants d s body hs q f (gs, same, c) long g (t, other, h, at, e, short) =
     let there = subst (λ z. IsChain text constants z g.hyps g.last) (same_body t s other body (sym h ∙ f)) e in
@@ -197,15 +197,15 @@ same_read (x ∷ xs) (suc i) d e lt = same_read xs i d e (omega (arith, lt))
 pub read_is : {X : Type 0} (xs : List X) (i : ℕ) (d : X) → i < length xs → get_or xs i d ≡ get_or xs i (get_or xs i d)
 read_is xs i d lt = same_read xs i d (get_or xs i d) lt
 
-logic_result : DeclForm → Option SymbolResult
+logic_result : DeclKind → Option SymbolResult
 logic_result (decl.Logic a ns ss r) = Some r
 logic_result _ = None
 
-logic_names : DeclForm → Option (List Span)
+logic_names : DeclKind → Option (List Span)
 logic_names (decl.Logic a ns ss r) = Some ns
 logic_names _ = None
 
-type_span : DeclForm → Option Span
+type_span : DeclKind → Option Span
 type_span (decl.Type ps n fs) = Some n
 type_span _ = None
 
@@ -221,11 +221,11 @@ same_type : (ps qs : List Span) (n m : Span) (fs gs : List TypedName) → decl.T
 unfolding type_span
 same_type ps qs n m fs gs e = some_same n m (ap type_span e)
 
-pub no_constants : (text : List ℕ) (d : Decl) (type_name : List ℕ) (a : Bool) (ns : List Span) (ss : List WrittenType) (r : SymbolResult) → d.form ≡ decl.Logic a ns ss r → (IsResult text r type_name → ⊥) → (cs : List (List ℕ)) → IsLogicDecl text d type_name cs → ⊥
+pub no_constants : (text : List ℕ) (d : Decl) (type_name : List ℕ) (a : Bool) (ns : List Span) (ss : List WrittenType) (r : SymbolResult) → d.kind ≡ decl.Logic a ns ss r → (IsResult text r type_name → ⊥) → (cs : List (List ℕ)) → IsLogicDecl text d type_name cs → ⊥
 no_constants text d type_name a ns ss r e none cs (ms, q, f, is, all) = none (subst (λ z. IsResult text z type_name) (same_result false a ms ns [] ss q r (sym f ∙ e)) is)
 
 -- the constants of a declaration, by their names
-pub constants_read : (text : List ℕ) (d : Decl) (type_name : List ℕ) (a : Bool) (ns : List Span) (ss : List WrittenType) (r : SymbolResult) (found : Option (List (List ℕ))) → d.form ≡ decl.Logic a ns ss r → a ≡ false → ss ≡ [] → IsResult text r type_name
+pub constants_read : (text : List ℕ) (d : Decl) (type_name : List ℕ) (a : Bool) (ns : List Span) (ss : List WrittenType) (r : SymbolResult) (found : Option (List (List ℕ))) → d.kind ≡ decl.Logic a ns ss r → a ≡ false → ss ≡ [] → IsResult text r type_name
     → MatchOption found ((cs : List (List ℕ)) → Pairwise (IsNameAt text) ns cs → AllPairs ◌≢◌ cs → ⊥) (λ cs. Pairwise (IsNameAt text) ns cs × AllPairs ◌≢◌ cs)
     → MatchOption found ((cs : List (List ℕ)) → IsLogicDecl text d type_name cs → AllPairs ◌≢◌ cs → ⊥) (λ cs. IsLogicDecl text d type_name cs × AllPairs ◌≢◌ cs)
 constants_read text d type_name a ns ss r None e f g is h = λ cs l. h cs (subst (λ z. Pairwise (IsNameAt text) z cs) (same_names false a l.0 ns [] ss l.1 r (sym l.2 ∙ e)) l.4)
@@ -279,7 +279,7 @@ module _ (text : List ℕ) (file : File) (a b : Decl) (ds : List Decl) (e : file
   form_is name cs gs t l apart all =
       record { first = a; second = b; others = ds; decls = e; declares_type = t; declares_constants = l; different = apart; declares_goals = all }
 
--- ---- what follows for a form
+-- ---- the places of a first text
 module _ (text : List ℕ) (constants : List (List ℕ)) where
   equation_within : (e : Expr) (q : Equation) → IsEquation text constants e q → IsEquationOver (length constants) q
   equation_within e q (l, r, f, a, b) = ((get_read constants q.left a.1 [] a.4).1, (get_read constants q.right b.1 [] b.4).1)

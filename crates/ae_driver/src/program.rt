@@ -1,13 +1,13 @@
 //! The top call.
 
-ghost use Rattle.std.specs.Prelude.{◌≡◌, ◌≢◌, ◌⊎◌, ◌≤◌, [], length, IfOk};
+ghost use Rattle.std.specs.Prelude.{◌≡◌, ◌≢◌, ◌⊎◌, ◌≤◌, [], length, IfOk, IfSome};
 ghost use Rattle.std.specs.Io.KnownBytes.{IsAtEnd};
 ghost use Rattle.ae_io.specs.Moves.{Rose, Gets, GetsPrefix};
 ghost use Rattle.ae_lex.specs.Lexis.{IsTokenized, IsFault};
 ghost use Rattle.ae_lex.specs.declared.kinds.LexFault.TheVariants.{Memory as NoMemoryForTokens};
 ghost use Rattle.ae_syntax.specs.Files.{IsSyntaxFault};
 ghost use Rattle.ae_syntax.specs.declared.faults.SyntaxFault.TheVariants.{Memory as NoMemoryForTree};
-ghost use Rattle.ae_report.specs.Lines.{IsWithin, refused_at};
+ghost use Rattle.ae_report.specs.Lines.{refused_at};
 ghost use Rattle.ae_driver.specs.Inner.Places.{IsWellPlaced, IsGoalOver};
 ghost use Rattle.ae_driver.specs.Output.{IsFileOf, IsDone, IsOffered, IsRefusedText, IsRefusedByLength, IsOutOfMemory, IsCutOff, usage_line};
 ghost use Rattle.ae_driver.specs.Inner.Endings.{IsPartOf, PartEnds, GoalsEnd, RefusalEnds, TextEnds};
@@ -109,7 +109,7 @@ fn tell<K: Sink>(sink: &mut K, line: &[u8], status: Status) -> Status
 
 // Writes the line by which a text is refused.
 fn refuse<K: Sink>(alloc: Global, text: &[u8], refusal: &Refusal, sink: &mut K) -> Status
-    requires { IsWithin text.now (refused_at refusal.now) }
+    requires { IfSome (refused_at refusal.now) (λ at. at ≤ length text.now) }
     ensures ends { RefusalEnds text.now refusal.now (K.written sink.old) (K.written sink.new) result }
     ensures write_fault { result ≡ WriteFault → Rose (K.faults sink.old) (K.faults sink.new) }
 {

@@ -5,7 +5,7 @@ ghost use Rattle.std.specs.Prelude.{◌≡◌, ◌≢◌, ◌↔◌, ℕ, List, 
 ghost use Rattle.std.specs.List.{AllPairs};
 ghost use Rattle.ae_driver.specs.FirstTexts.{IsNameAt, IsConstantAt, IsEquation, IsChain, IsGoalDecl, IsTypeDecl, IsTypeName, IsResult, IsLogicDecl, IsFirstTextOf};
 ghost use Rattle.ae_syntax.specs.declared.exprs.Expr.{Expr};
-ghost use Rattle.ae_syntax.specs.declared.exprs.Form.{Binary};
+ghost use Rattle.ae_syntax.specs.declared.exprs.ExprKind.{Binary};
 ghost use Rattle.ae_syntax.specs.declared.decls.Decl.{Decl};
 ghost use Rattle.ae_driver.specs.declared.first_text.Equation.{Equation};
 ghost use Rattle.ae_driver.specs.declared.first_text.Chain.{Chain};
@@ -14,10 +14,10 @@ ghost use Rattle.ae_driver.specs.declared.first_text.FirstText.{FirstText};
 use crate::first_text::{Chain, Equation, FirstText, MOST_HYPOTHESES};
 use ae_base::lists::List;
 use ae_base::words::Word;
-use ae_syntax::decls::{Decl, DeclForm, File, SymbolResult};
-use ae_syntax::exprs::{BinaryOp, Expr, Form as ExprForm};
+use ae_syntax::decls::{Decl, DeclKind, File, SymbolResult};
+use ae_syntax::exprs::{BinaryOp, Expr, ExprKind};
 use ae_syntax::spans::Span;
-use ae_syntax::types::{TypeForm, WrittenType};
+use ae_syntax::types::{TypeKind, WrittenType};
 use std::alloc::{AllocError, Global};
 
 // The bytes at a place, as text.
@@ -64,8 +64,8 @@ fn place(constants: &[Word], name: &str) -> Option<usize>
 fn constant(text: &[u8], constants: &[Word], expr: &Expr) -> Option<usize>
     ensures { MatchOption result ((k : ℕ) → IsConstantAt text.now constants.now expr.now k → ⊥) (λ k. IsConstantAt text.now constants.now expr.now k) }
 {
-    match expr.form.get() {
-        ExprForm::Apply { name, args } => {
+    match expr.kind.get() {
+        ExprKind::Apply { name, args } => {
             if !args.is_empty() {
                 return None;
             }
@@ -77,10 +77,10 @@ fn constant(text: &[u8], constants: &[Word], expr: &Expr) -> Option<usize>
 
 // The two sides of an expression with this operator.
 fn sides(expr: &Expr, wanted: BinaryOp) -> Option<(&Expr, &Expr)>
-    ensures { MatchOption result ((l r : Expr) → expr.now.form ≡ Binary wanted l r → ⊥) (λ p. expr.now.form ≡ Binary wanted p.0.now p.1.now) }
+    ensures { MatchOption result ((l r : Expr) → expr.now.kind ≡ Binary wanted l r → ⊥) (λ p. expr.now.kind ≡ Binary wanted p.0.now p.1.now) }
 {
-    match expr.form.get() {
-        ExprForm::Binary { op, left, right } => {
+    match expr.kind.get() {
+        ExprKind::Binary { op, left, right } => {
             if *op != wanted {
                 return None;
             }
@@ -153,7 +153,7 @@ fn goal(
 ) -> Result<Option<Chain>, AllocError>
     ensures { IfOk result (λ found. MatchOption found ((g : Chain) → IsGoalDecl text.now constants.now decl.now g → ⊥) (λ g. IsGoalDecl text.now constants.now decl.now g)) }
 {
-    let DeclForm::Goal { name, body } = &decl.form else {
+    let DeclKind::Goal { name, body } = &decl.kind else {
         return Ok(None);
     };
     let Some(name) = name_at(alloc, text, *name)? else {
@@ -223,11 +223,11 @@ fn names(alloc: Global, text: &[u8], places: &[Span]) -> Result<Option<List<Word
 fn type_name(alloc: Global, text: &[u8], decl: &Decl) -> Result<Option<Word>, AllocError>
     ensures { IfOk result (λ found. MatchOption found ((name : List ℕ) → IsTypeDecl text.now decl.now name → ⊥) (λ name. IsTypeDecl text.now decl.now name)) }
 {
-    let DeclForm::Type {
+    let DeclKind::Type {
         params,
         name,
         fields,
-    } = &decl.form
+    } = &decl.kind
     else {
         return Ok(None);
     };
@@ -241,8 +241,8 @@ fn type_name(alloc: Global, text: &[u8], decl: &Decl) -> Result<Option<Word>, Al
 fn is_type_name(text: &[u8], sort: &WrittenType, type_name: &str) -> bool
     ensures { IsTrue result ↔ IsTypeName text.now sort.now type_name.now }
 {
-    match &sort.form {
-        TypeForm::Named { name, args } => args.is_empty() && is_at(text, *name, type_name),
+    match &sort.kind {
+        TypeKind::Named { name, args } => args.is_empty() && is_at(text, *name, type_name),
         _ => false,
     }
 }
@@ -266,12 +266,12 @@ fn constants(
 ) -> Result<Option<List<Word>>, AllocError>
     ensures { IfOk result (λ found. MatchOption found ((cs : List (List ℕ)) → IsLogicDecl text.now decl.now type_name.now cs → AllPairs ◌≢◌ cs → ⊥) (λ cs. IsLogicDecl text.now decl.now type_name.now cs × AllPairs ◌≢◌ cs)) }
 {
-    let DeclForm::Logic {
+    let DeclKind::Logic {
         ac,
         names: places,
         args,
         result: result_,
-    } = &decl.form
+    } = &decl.kind
     else {
         return Ok(None);
     };
