@@ -81,6 +81,11 @@ class File:
                 aliases[alias] = (path, new, lead, end)
                 out.append(lead + new + ' as ' + alias + end)
                 continue
+            words = [n.partition(' as ')[0].strip() for n in split_names(names)]
+            if all(moved(self.table, path + '.' + w, '.') == path + '.' + w for w in words):
+                seen.setdefault((lead, path), len(out))
+                out.append(line)
+                continue
             groups = {}
             for n in split_names(names):
                 word, _, own = n.partition(' as ')
@@ -136,6 +141,9 @@ class File:
     def rust(self):
         def grouped(m):
             lead, path, names = m[1], m[2], m[3]
+            words = [n.partition(' as ')[0].strip() for n in split_names(names)]
+            if all(moved(self.table, path + '::' + w, '::') == path + '::' + w for w in words):
+                return m[0]
             groups = {}
             for n in split_names(names):
                 word, _, own = n.partition(' as ')

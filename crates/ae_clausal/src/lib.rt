@@ -21,7 +21,7 @@ use std::alloc::{AllocError, Global};
 mod tests;
 
 /// The lines `def` of rows of a formula, in their order.
-fn lines_of(
+fn row_lines(
     alloc: Global,
     rows: &[usize],
     formula: &Formula,
@@ -38,6 +38,14 @@ fn lines_of(
     Ok(lines)
 }
 
+/// The lines of the rows that a literal calls for.
+fn lines_of(alloc: Global, lit: &Lit) -> Result<List<ClauseLine>, AllocError>
+    ensures { IfOk result (λ ls. ls ≡ defining_lines lit.now) }
+{
+    let rows = called_rows(alloc, lit)?;
+    row_lines(alloc, rows.as_slice(), &lit.formula)
+}
+
 /// The lines `def` that say what the truth of a literal means for the parts of its formula, in the order of their
 /// numbers: of a conjunction 1 and 2 where it is true, 3 where it is false; of a disjunction 6, or 4 and 5; of an
 /// equivalence 7 and 8, or 9 and 10; of an exclusive disjunction 11 and 12, or 13 and 14; of True 15 and of False 16,
@@ -49,6 +57,5 @@ pub fn defining(alloc: Global, lit: &Lit) -> Result<List<ClauseLine>, AllocError
     ensures allowed { IfOk result (λ ls. (p : Problem) (goal : ℕ) (earlier : List ClauseLine) → formula_ok p.signature lit.now.formula ≡ true →
         AllByRecursion (IsAllowed p goal earlier) ls) }
 {
-    let rows = called_rows(alloc, lit)?;
-    lines_of(alloc, rows.as_slice(), &lit.formula)
+    lines_of(alloc, lit)
 }

@@ -8,7 +8,7 @@ use Rattle.std.specs.Cmp.Lexicographic.{slice_cmp}
 use Rattle.std.proofs.lemmas.Cmp.{on_total}
 use mathlib.Core.Path.{refl, sym, ap, ◌∙◌, subst}
 use Rattle.ae_core.specs.Orders.{Tree, number, whole, ◌▸◌, tree_order, trees, none, flag, rank, sort_tree, sort_tree_step, sort_order, op_tree, head_tree, head_order, term_tree, term_tree_step, terms_tree, term_order, formula_tree, formula_tree_step, quant_tree, quant_tree_step, formula_order, quant_order}
-use Rattle.ae_core.specs.TreeOrder.{tree_total, formula_total as formulas_total}
+use Rattle.ae_core.specs.Inner.TreeOrder.{tree_total, formula_total as formulas_total}
 use Rattle.ae_core.proofs.TreeLaws.{Ranked, by_rank, lists_order, own_lists, own_trees, own_flags, then_assoc, lists_exact, exact}
 use Rattle.ae_core.proofs.Recursion.{fold_var, fold_rigid, fold_int, fold_real, fold_bool, fold_unit, fold_named, fold_bound, fold_num, fold_fresh, fold_apply, fold_true, fold_false, fold_eq, fold_lt, fold_le, fold_pred, fold_not, fold_and, fold_or, fold_xor, fold_iff, fold_all, fold_ex, fold_block}
 use Rattle.ae_core.specs.declared.terms.Sort.{Sort, Sort-F, Var, Rigid, Int, Real, Bool as BoolSort, Unit as UnitSort, Named, map-Sort, ind-Sort, fold-roll-Sort, fold_out-Sort, out-Sort, roll-Sort, roll-out-Sort}

@@ -1,13 +1,46 @@
--- What sorts put for type variables, and terms put for a block's variables, make of each variant of terms and formulas.
-use Rattle.std.specs.Prelude.{ℕ, ℤ, ◌+◌, Bool, List, map, length, ◌≡◌}
-use mathlib.Core.Path.{ap}
-use Rattle.ae_core.specs.Putting.{put_sort, instance_term, instance_term_step, instance, instance_quant, instance_step, instance_quant_step, variable_at, put_terms, put_step, put_formula_in, put_quant_in, put_formula_step, put_quant_step}
-use Rattle.ae_core.specs.declared.terms.Sort.{Sort}
+-- What sorts put for type variables, and terms put for a block's variables, make of each variant of sorts, terms and formulas.
+use Rattle.std.specs.Prelude.{ℕ, ℤ, ◌+◌, Bool, List, map, length, slice_get, ◌≡◌}
+use mathlib.Core.Path.{sym, ap, ◌∙◌}
+use Rattle.ae_core.specs.Putting.{put_sort, put_sort_step, instance_term, instance_term_step, instance, instance_quant, instance_step, instance_quant_step, variable_at, put_terms, put_step, put_formula_in, put_quant_in, put_formula_step, put_quant_step}
+use Rattle.ae_core.specs.declared.terms.Sort.{Sort, Var, Rigid, Int, Real, Bool as BoolSort, Unit as UnitSort, Named, fold-roll-Sort}
+use Rattle.ae_core.specs.declared.terms.Sort.TheOpen as sort_layer
+use Rattle.ae_core.specs.declared.terms.Sort.TheVariants.{rolls-Var, rolls-Rigid, rolls-Int as rolls-IntSort, rolls-Real as rolls-RealSort, rolls-Bool, rolls-Unit, rolls-Named}
+use Rattle.ae_base.specs.Options.{or_else}
 use Rattle.ae_core.specs.declared.terms.Head.{Head}
 use Rattle.ae_core.specs.declared.terms.Term.{Term, Bound, Num, Fresh, Apply}
 use Rattle.ae_core.specs.declared.formulas.Formula.{Formula, True, False, Eq, Lt, Le, Pred, Not, And, Or, Xor, Iff, All, Ex}
 use Rattle.ae_core.specs.declared.formulas.Quant.{Quant}
 use Rattle.ae_core.proofs.Recursion.{fold_bound, fold_num, fold_fresh, fold_apply, fold_true, fold_false, fold_eq, fold_lt, fold_le, fold_pred, fold_not, fold_and, fold_or, fold_xor, fold_iff, fold_all, fold_ex, fold_block}
+
+pub put_var : (ss : List Sort) (i : ℕ) → put_sort ss (Var i) ≡ or_else (slice_get ss i) (Var i)
+unfolding put_sort
+put_var ss i = ap (put_sort ss) (sym (rolls-Var i)) ∙ fold-roll-Sort Sort (put_sort_step ss) (sort_layer.Var i)
+
+pub put_rigid : (ss : List Sort) (i : ℕ) → put_sort ss (Rigid i) ≡ Rigid i
+unfolding put_sort
+put_rigid ss i = ap (put_sort ss) (sym (rolls-Rigid i)) ∙ fold-roll-Sort Sort (put_sort_step ss) (sort_layer.Rigid i)
+
+pub put_int : (ss : List Sort) → put_sort ss Int ≡ Int
+unfolding put_sort
+put_int ss = ap (put_sort ss) (sym (rolls-IntSort)) ∙ fold-roll-Sort Sort (put_sort_step ss) (sort_layer.Int)
+
+pub put_real : (ss : List Sort) → put_sort ss Real ≡ Real
+unfolding put_sort
+put_real ss = ap (put_sort ss) (sym (rolls-RealSort)) ∙ fold-roll-Sort Sort (put_sort_step ss) (sort_layer.Real)
+
+pub put_bool : (ss : List Sort) → put_sort ss BoolSort ≡ BoolSort
+unfolding put_sort
+put_bool ss = ap (put_sort ss) (sym (rolls-Bool)) ∙ fold-roll-Sort Sort (put_sort_step ss) (sort_layer.Bool)
+
+pub put_unit : (ss : List Sort) → put_sort ss UnitSort ≡ UnitSort
+unfolding put_sort
+put_unit ss = ap (put_sort ss) (sym (rolls-Unit)) ∙ fold-roll-Sort Sort (put_sort_step ss) (sort_layer.Unit)
+
+pub put_named : (ss : List Sort) (h : ℕ) (args : List Sort) → put_sort ss (Named h args) ≡ Named h (map (put_sort ss) args)
+unfolding put_sort
+put_named ss h args = ap (put_sort ss) (sym (rolls-Named h args)) ∙ fold-roll-Sort Sort (put_sort_step ss) (sort_layer.Named h args)
+
+pub ruleset put_sort_rules = (put_var, put_rigid, put_int, put_real, put_bool, put_unit, put_named)
 
 pub instance_bound : (ss : List Sort) (i : ℕ) → instance_term ss (Bound i) ≡ Bound i
 unfolding instance_term

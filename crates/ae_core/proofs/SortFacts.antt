@@ -1,5 +1,5 @@
 -- What is known of sorts that are the same, of numeric ones, and of the parts of a well-sorted block.
-use Rattle.std.specs.Prelude.{Bool, true, false, ◌&&◌, List, [], ◌≡◌, Option, Some, None}
+use Rattle.std.specs.Prelude.{true, false, List, [], ◌≡◌, Option, Some, None}
 use Rattle.std.specs.List.{list_all}
 use Rattle.std.proofs.Common.{refl, sym, ap, ◌∙◌, true≢false}
 use Rattle.std.proofs.lemmas.Bool.{and_parts}

@@ -1,11 +1,9 @@
 -- What is put, the sort, and whether it is well sorted: at each form of sort, term and formula.
-use Rattle.std.specs.Prelude.{ℕ, zero, suc, ◌+◌, ◌<◌, take, get_or, ℤ, Bool, true, cond, ◌&&◌, List, [], ◌∷◌, ◌++◌, ◌≡◌, map, length, Option, Some, None, slice_get}
+use Rattle.std.specs.Prelude.{ℕ, ℤ, Bool, true, cond, ◌&&◌, List, [], ◌∷◌, ◌++◌, ◌≡◌, map, length, Option}
 use Rattle.std.specs.List.{list_all}
-use Rattle.std.proofs.lemmas.List.{length-map, take_more}
-use native.Mathlib.Omega.{arith}
+use Rattle.std.proofs.lemmas.List.{length-map}
 use mathlib.Core.Path.{refl, sym, ap, ◌∙◌}
-use Rattle.ae_core.specs.Putting.{put_sort, put_sort_step}
-use Rattle.ae_base.specs.Options.{or_else, when, only, all_known, ◌>>=◌}
+use Rattle.ae_base.specs.Options.{when, only, all_known, ◌>>=◌}
 use Rattle.ae_core.specs.Sorts.{sort_ok, sort_ok_step, type_fits, sort_in, sort_step, variable_sort, numeral_ok, head_sort, same_known, same_numeric, predicate_ok, trigger_ok, formula_step, quant_step, formula_in, quant_in}
 use Rattle.ae_core.specs.declared.terms.Sort.{Sort, Var, Rigid, Int, Real, Bool as BoolSort, Unit as UnitSort, Named, fold-roll-Sort}
 use Rattle.ae_core.specs.declared.terms.Sort.TheOpen as sort_layer
@@ -23,34 +21,6 @@ use Rattle.ae_core.specs.declared.problems.Signature.{Signature}
 all_map : {A : Type 0} (f : A → Bool) (xs : List A) → list_all (λ b. b) (map f xs) ≡ list_all f xs
 all_map f [] = refl
 all_map f (x ∷ xs) = ap (λ b. f x && b) (all_map f xs)
-
-pub put_var : (ss : List Sort) (i : ℕ) → put_sort ss (Var i) ≡ or_else (slice_get ss i) (Var i)
-unfolding put_sort
-put_var ss i = ap (put_sort ss) (sym (rolls-Var i)) ∙ fold-roll-Sort Sort (put_sort_step ss) (sort_layer.Var i)
-
-pub put_rigid : (ss : List Sort) (i : ℕ) → put_sort ss (Rigid i) ≡ Rigid i
-unfolding put_sort
-put_rigid ss i = ap (put_sort ss) (sym (rolls-Rigid i)) ∙ fold-roll-Sort Sort (put_sort_step ss) (sort_layer.Rigid i)
-
-pub put_int : (ss : List Sort) → put_sort ss Int ≡ Int
-unfolding put_sort
-put_int ss = ap (put_sort ss) (sym (rolls-IntSort)) ∙ fold-roll-Sort Sort (put_sort_step ss) (sort_layer.Int)
-
-pub put_real : (ss : List Sort) → put_sort ss Real ≡ Real
-unfolding put_sort
-put_real ss = ap (put_sort ss) (sym (rolls-RealSort)) ∙ fold-roll-Sort Sort (put_sort_step ss) (sort_layer.Real)
-
-pub put_bool : (ss : List Sort) → put_sort ss BoolSort ≡ BoolSort
-unfolding put_sort
-put_bool ss = ap (put_sort ss) (sym (rolls-Bool)) ∙ fold-roll-Sort Sort (put_sort_step ss) (sort_layer.Bool)
-
-pub put_unit : (ss : List Sort) → put_sort ss UnitSort ≡ UnitSort
-unfolding put_sort
-put_unit ss = ap (put_sort ss) (sym (rolls-Unit)) ∙ fold-roll-Sort Sort (put_sort_step ss) (sort_layer.Unit)
-
-pub put_named : (ss : List Sort) (h : ℕ) (args : List Sort) → put_sort ss (Named h args) ≡ Named h (map (put_sort ss) args)
-unfolding put_sort
-put_named ss h args = ap (put_sort ss) (sym (rolls-Named h args)) ∙ fold-roll-Sort Sort (put_sort_step ss) (sort_layer.Named h args)
 
 pub ok_var : (sig : Signature) (vars rigids : ℕ → Bool) (i : ℕ) → sort_ok sig vars rigids (Var i) ≡ vars i
 unfolding sort_ok
@@ -152,8 +122,6 @@ pub quant_in_block : (sig : Signature) (may : Sort → Bool) (env : List Sort) (
 unfolding quant_in formula_in
 quant_in_block sig may env q =
     ap (quant_in sig may env) (sym (roll-out-Quant q)) ∙ ap (λ h. h env) (fold-roll-Quant (List Sort → Bool) (List Sort → Bool) (formula_step sig may) (quant_step sig may) (out-Quant q))
-
-pub ruleset put_sort_rules = (put_var, put_rigid, put_int, put_real, put_bool, put_unit, put_named)
 
 pub ruleset sort_ok_rules = (ok_var, ok_rigid, ok_int, ok_real, ok_bool, ok_unit, ok_named)
 

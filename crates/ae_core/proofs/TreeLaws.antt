@@ -9,7 +9,7 @@ use Rattle.std.proofs.Common.{length-drop}
 use Rattle.std.specs.Cmp.Lexicographic.{slice_cmp}
 use Rattle.std.proofs.lemmas.Cmp.{ranked, tied_itself}
 use mathlib.Core.Path.{refl, sym, ap, ◌∙◌}
-use Rattle.ae_core.specs.TreeOrder.{then_first, then_second, tied, tree_total}
+use Rattle.ae_core.specs.Inner.TreeOrder.{then_first, then_second, tied, tree_total}
 use Rattle.ae_core.specs.Orders.{Tree, number, whole, ◌▸◌, tree_order, trees, flag, rank}
 
 -- ---- values of different variants go by their ranks

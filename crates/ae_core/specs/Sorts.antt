@@ -5,7 +5,7 @@ use Rattle.ae_base.specs.Options.{or_else, ◌>>=◌, only, when, all_known, kno
 use Rattle.ae_base.specs.Decided.{decided}
 use Rattle.ae_core.specs.Putting.{put_sort}
 use Rattle.ae_core.specs.Decided.{Sort_discrete, Sorts_discrete}
-use Rattle.ae_core.specs.declared.terms.Sort.{Sort, Sort-F, Var, Rigid, Int, Real, Bool as BoolSort, Unit as UnitSort, Named, fold-Sort}
+use Rattle.ae_core.specs.declared.terms.Sort.{Sort, Sort-F, Int, Real, Bool as BoolSort, Unit as UnitSort, Named, fold-Sort}
 use Rattle.ae_core.specs.declared.terms.Sort.TheOpen as sort_layer
 use Rattle.ae_core.specs.declared.terms.Term.{Term, Term-F, fold-Term, out-Term}
 use Rattle.ae_core.specs.declared.terms.Term.TheOpen as layer

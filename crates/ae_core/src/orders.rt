@@ -5,7 +5,7 @@ ghost use Rattle.std.specs.Cmp.{partial_equiv_from_equiv, partial_order_from_agr
 ghost use Rattle.std.specs.Ordering.{ordering_then, eq_by_cmp};
 ghost use Rattle.std.proofs.Common.{refl};
 ghost use Rattle.std.proofs.lemmas.Cmp.{eq_by_cmp_equiv};
-ghost use Rattle.ae_core.specs.TreeOrder.{formula_total};
+ghost use Rattle.ae_core.specs.Inner.TreeOrder.{formula_total};
 ghost use Rattle.std.specs.Cmp.Lexicographic.{slice_cmp};
 ghost use Rattle.ae_core.specs.Orders.{number, rank, sort_order, sort_tree, op_tree, head_order, head_tree, term_order, term_tree, formula_order, formula_tree, quant_order, lit_order};
 

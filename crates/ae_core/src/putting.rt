@@ -10,7 +10,7 @@ use std::alloc::{AllocError, Global};
 
 /// A sort with sorts put for its type variables.
 #[cycle(put)]
-#[tactic(auto, using(crate::proofs::SortLaws::put_sort_rules))]
+#[tactic(auto, using(crate::proofs::PuttingLaws::put_sort_rules))]
 pub fn put_sort(alloc: Global, sort: &Sort, sorts: &[Sort]) -> Result<Sort, AllocError>
     ensures { IfOk result (λ s. s ≡ spec.put_sort sorts.now sort.now) }
 {
@@ -33,7 +33,7 @@ pub fn put_sort(alloc: Global, sort: &Sort, sorts: &[Sort]) -> Result<Sort, Allo
 
 /// The same for a list of sorts.
 #[cycle(put)]
-#[tactic(auto, using(crate::proofs::SortLaws::put_sort_rules))]
+#[tactic(auto, using(crate::proofs::PuttingLaws::put_sort_rules))]
 pub fn put_sorts(alloc: Global, into: &[Sort], sorts: &[Sort]) -> Result<List<Sort>, AllocError>
     ensures { IfOk result (λ s. s ≡ map (spec.put_sort sorts.now) into.now) }
 {

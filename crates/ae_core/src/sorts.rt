@@ -9,8 +9,8 @@ ghost use Rattle.ae_base.specs.Options as options;
 use crate::copies::{copy_sort, copy_sorts};
 use crate::formulas::{Formula, Quant};
 use crate::lists::{List, at};
-use crate::putting::{put_sort, put_sorts};
 use crate::problems::{FieldEntry, Kind, Signature, SymbolEntry, TypeEntry};
+use crate::putting::{put_sort, put_sorts};
 use crate::terms::{Head, Op, Sort, Term};
 use std::alloc::{AllocError, Global};
 
@@ -279,6 +279,17 @@ pub fn on_real(op: Op) -> bool
     op != Op::Mod
 }
 
+/// The sort of what has no type variables, where the arguments are of the sorts that it takes.
+fn plain_sort(sorts: &[Sort], args: &[Sort], wanted: &[Sort], sort: Sort) -> Option<Sort>
+    ensures { result ≡ options.when (spec.same_sorts sorts.now [] && spec.same_sorts args.now wanted.now) sort }
+{
+    if are_sorts(sorts, &[]) && are_sorts(args, wanted) {
+        Some(sort)
+    } else {
+        None
+    }
+}
+
 /// The sort of an application, from the sorts of the arguments.
 pub fn head_sort(
     alloc: Global,
@@ -304,11 +315,7 @@ pub fn head_sort(
         },
         Head::Int(op) => {
             let wanted = int_operands(alloc, op)?;
-            if are_sorts(sorts, &[]) && are_sorts(args, wanted.as_slice()) {
-                Ok(Some(Sort::Int))
-            } else {
-                Ok(None)
-            }
+            Ok(plain_sort(sorts, args, wanted.as_slice(), Sort::Int))
         }
         Head::Real(op) => {
             let wanted = real_operands(alloc, op)?;
@@ -318,27 +325,9 @@ pub fn head_sort(
                 Ok(None)
             }
         }
-        Head::True => {
-            if are_sorts(sorts, &[]) && are_sorts(args, &[]) {
-                Ok(Some(Sort::Bool))
-            } else {
-                Ok(None)
-            }
-        }
-        Head::False => {
-            if are_sorts(sorts, &[]) && are_sorts(args, &[]) {
-                Ok(Some(Sort::Bool))
-            } else {
-                Ok(None)
-            }
-        }
-        Head::Void => {
-            if are_sorts(sorts, &[]) && are_sorts(args, &[]) {
-                Ok(Some(Sort::Unit))
-            } else {
-                Ok(None)
-            }
-        }
+        Head::True => Ok(plain_sort(sorts, args, &[], Sort::Bool)),
+        Head::False => Ok(plain_sort(sorts, args, &[], Sort::Bool)),
+        Head::Void => Ok(plain_sort(sorts, args, &[], Sort::Unit)),
     }
 }
 

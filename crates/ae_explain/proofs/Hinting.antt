@@ -6,7 +6,7 @@ use Rattle.std.proofs.lemmas.Bool.{cases_eq, cases_lt, cases_Bool, and_from, or_
 use Rattle.std.proofs.lemmas.Option.{slice_get-get_or}
 use Rattle.ae_base.specs.Decided.{decided}
 use Rattle.ae_core.specs.Decided.{Lit_discrete}
-use Rattle.ae_core.specs.Options.{◌>>=◌, when}
+use Rattle.ae_base.specs.Options.{◌>>=◌, when}
 use Rattle.ae_rules.specs.Clauses.{Clause, opposite, stands, has_true, is_or_stands, next_false, refutes}
 use Rattle.ae_rules.specs.Derivations.{is_refuted}
 use Rattle.ae_core.specs.declared.formulas.Lit.{Lit}
@@ -14,79 +14,17 @@ use Rattle.ae_explain.specs.declared.trail.Assigned.{Assigned}
 use Rattle.ae_explain.specs.declared.marks.Mark.{Mark}
 use Rattle.ae_explain.specs.Trail.{at, clause, IsLawful}
 use Rattle.ae_explain.specs.Hints.{hinted, Propagates}
-use Rattle.ae_explain.specs.Marks.{mark, kept, resolved, IsMarked, Closes, lits_below, hints_from, by_of}
-use Rattle.ae_explain.proofs.Places.{yes_if, yes_then}
-use Rattle.ae_explain.proofs.Marking.{kept_or_resolved, resolved_not_kept, not_both}
-use Rattle.ae_explain.proofs.Reading.{opposite_twice, lits_yes, lits_no}
+use Rattle.ae_explain.specs.Inner.Marks.{mark, kept, resolved, IsMarked, Closes, lits_below, hints_from, reasons}
+use Rattle.ae_rules.proofs.Standing.{opposite_twice, stands_more, stands_last, stands_or_last, none_true, all_stand, one_open}
+use Rattle.ae_explain.proofs.Marking.{kept_or_resolved, resolved_not_kept}
+use Rattle.ae_explain.proofs.Reading.{lits_yes, lits_no}
+use Rattle.ae_base.proofs.Tests.{by_either, not_both}
+use Rattle.ae_base.proofs.Decided.{decided_of, decided_yes}
 
--- ---- what stands
-by_or : {P : Type 0} (a b : Bool) → a || b ≡ true → (a ≡ true → P) → (b ≡ true → P) → P
-by_or true b e f g = f refl
-by_or false b e f g = g e
-
-stands_more : (fs gs : List Lit) (m : Lit) → stands fs m ≡ true → stands (fs ++ gs) m ≡ true
-stands_more [] gs m h = absurd (true≢false (sym h))
-stands_more (x ∷ fs) gs m h =
-    by_or (decided (Lit_discrete x m)) (stands fs m) h
-    (λ e. or_left (decided (Lit_discrete x m)) (stands (fs ++ gs) m) e)
-    (λ e. or_right (decided (Lit_discrete x m)) (stands (fs ++ gs) m) (stands_more fs gs m e))
-
-stands_last : (fs : List Lit) (m : Lit) → stands (fs ++ m ∷ []) m ≡ true
-stands_last [] m = or_left (decided (Lit_discrete m m)) false (yes_if (Lit_discrete m m) refl)
-stands_last (x ∷ fs) m = or_right (decided (Lit_discrete x m)) (stands (fs ++ m ∷ []) m) (stands_last fs m)
-
-stands_or_last : (fs : List Lit) (x m : Lit) → stands (fs ++ x ∷ []) m ≡ true → (stands fs m ≡ true) ⊎ (x ≡ m)
-stands_or_last [] x m h = by_or (decided (Lit_discrete x m)) false h (λ e. inr (yes_then (Lit_discrete x m) e)) (λ e. absurd (true≢false (sym e)))
-stands_or_last (y ∷ fs) x m h =
-    by_or (decided (Lit_discrete y m)) (stands (fs ++ x ∷ []) m) h
-    (λ e. inl (or_left (decided (Lit_discrete y m)) (stands fs m) e))
-    (λ e. elim (stands_or_last fs x m e) as (λ _. (stands (y ∷ fs) m ≡ true) ⊎ (x ≡ m)) [
-      | inl s ↦ inl (or_right (decided (Lit_discrete y m)) (stands fs m) s)
-      | inr q ↦ inr q
-    ])
-
--- ---- one clause
-none_true : (fs : List Lit) (c : Clause) → ((m : Lit) → Contains c m → stands fs (opposite m) ≡ false) → has_true fs c ≡ false
-none_true fs [] h = refl
-none_true fs (x ∷ c) h =
-    (λ i. h x (zero, omega arith, refl) i || has_true fs c) ∙ none_true fs c (λ m k. h m (suc k.0, omega (arith, k.1), k.2))
-
-all_stand : (fs : List Lit) (c : Clause) → ((m : Lit) → Contains c m → stands fs m ≡ true) → list_all (stands fs) c ≡ true
-all_stand fs [] h = refl
-all_stand fs (x ∷ c) h = and_from (stands fs x) (list_all (stands fs) c) (h x (zero, omega arith, refl)) (all_stand fs c (λ m k. h m (suc k.0, omega (arith, k.1), k.2)))
-
-its_own : (fs : List Lit) (x : Lit) (c : Clause) → ((m : Lit) → Contains c m → m ≢ x → stands fs m ≡ true) → list_all (is_or_stands fs x) c ≡ true
-its_own fs x [] h = refl
-its_own fs x (y ∷ c) h =
-    and_from (is_or_stands fs x y) (list_all (is_or_stands fs x) c)
-    (elim (Lit_discrete x y) as (λ d. decided d || stands fs y ≡ true) [
-      | yes e ↦ refl
-      | no n ↦ h y (zero, omega arith, refl) (λ e. n (sym e))
-    ])
-    (its_own fs x c (λ m k. h m (suc k.0, omega (arith, k.1), k.2)))
-
--- a clause with one literal that isn't false makes that one true
-one_open : (fs : List Lit) (c : Clause) (l : Lit) → stands fs l ≡ false → Contains c l → ((m : Lit) → Contains c m → m ≢ l → stands fs m ≡ true) → next_false fs c ≡ Some (opposite l)
-one_open fs [] l s k h = absurd (omega (arith, k.1))
-one_open fs (x ∷ c) l s k h = elim (Lit_discrete x l) as (λ _. next_false fs (x ∷ c) ≡ Some (opposite l)) [
-  | yes e ↦
-      let sx : stands fs x ≡ false = ap (stands fs) e ∙ s in
-      let own : list_all (is_or_stands fs x) c ≡ true = its_own fs x c (λ m j d. h m (suc j.0, omega (arith, j.1), j.2) (λ q. d (q ∙ sym e))) in
-      (λ i. cond (sx i) (next_false fs c) (when (own i) (opposite x))) ∙ ap (λ (w : Lit). Some (opposite w)) e
-  | no n ↦
-      let sx : stands fs x ≡ true = h x (zero, omega arith, refl) n in
-      (λ i. cond (sx i) (next_false fs c) (when (list_all (is_or_stands fs x) c) (opposite x)))
-      ∙ one_open fs c l s (later k n) (λ m j d. h m (suc j.0, omega (arith, j.1), j.2) d)
-]
-  where
-    later : Contains (x ∷ c) l → x ≢ l → Contains c l
-    later (zero, b, e) n = absurd (n e)
-    later (suc j, b, e) n = (j, omega (arith, b), e)
-
+-- ---- a hint in front of others
 abbrev go_on : List Lit → List Clause → Option Lit → Bool
 go_on fs cs o = elim o [ Some l ↦ refutes (fs ++ l ∷ []) cs | None ↦ false ]
 
--- a hint in front of others
 in_front : (o : Option (List Clause)) (fs : List Lit) (c : Clause) (l : Lit) → has_true fs c ≡ false → next_false fs c ≡ Some l → is_refuted o (fs ++ l ∷ []) ≡ true
     → is_refuted (o >>= λ cs. Some (c ∷ cs)) fs ≡ true
 in_front None fs c l h n e = absurd (true≢false (sym e))
@@ -174,11 +112,10 @@ module _ (t : List Assigned) (clauses : List Clause) (lawful : IsLawful t clause
   }
 
   by_hint : (fs : List Lit) (q : ℕ) → q < length t → resolved marks q ≡ true → Knows fs q → (hs : List ℕ) → is_refuted (hinted clauses hs) (fs ++ opposite (at t q).lit ∷ []) ≡ true
-      → is_refuted (hinted clauses (by_of (at t q).by ∷ hs)) fs ≡ true
+      → is_refuted (hinted clauses (reasons (at t q).by ++ hs)) fs ≡ true
   by_hint fs q l r k hs e =
       let c = closed q l r in
       let body = clause clauses c.number in
-      let by : by_of (at t q).by ≡ c.number = ap by_of c.is in
       let own : stands fs (at t q).lit ≡ false = untouched fs q l r k (at t q).lit refl in
       let others : (m : Lit) → Contains body m → m ≢ (at t q).lit → stands fs m ≡ true = λ m h d. stands_marked fs q (omega (arith, l)) k m (c.others m h d) in
       let none : has_true fs body ≡ false =
@@ -186,7 +123,7 @@ module _ (t : List Assigned) (clauses : List Clause) (lawful : IsLawful t clause
         | yes same ↦ untouched fs q l r k (opposite m) (ap (λ (x : Lit). x.formula) same)
         | no d ↦ not_true fs q (omega (arith, l)) k m (c.others m h d)
       ]) in
-      ap (λ (n : ℕ). is_refuted (hinted clauses (n ∷ hs)) fs) by
+      ap (λ o. is_refuted (hinted clauses (reasons o ++ hs)) fs) c.is
       ∙ ap (λ o. is_refuted o fs) (first_hint clauses c.number hs c.within)
       ∙ in_front (hinted clauses hs) fs body (opposite (at t q).lit) none (one_open fs body (at t q).lit own c.has others) e
 
@@ -196,7 +133,7 @@ module _ (t : List Assigned) (clauses : List Clause) (lawful : IsLawful t clause
       ap (λ o. is_refuted o fs) (first_hint clauses last [] within)
       ∙ all_stand fs (clause clauses last) (λ m h. stands_marked fs q (omega (arith, e)) k m (subst (λ (w : ℕ). IsMarked t marks w m) (omega (arith, e)) (falsified m h)))
   propagates (suc left) q e fs k =
-      elim (cases_Bool (resolved marks q)) as (λ _. is_refuted (hinted clauses (if resolved marks q then by_of (at t q).by ∷ hints_from t marks last (suc q) left else hints_from t marks last (suc q) left)) fs ≡ true) [
+      elim (cases_Bool (resolved marks q)) as (λ _. is_refuted (hinted clauses ((if resolved marks q then reasons (at t q).by else []) ++ hints_from t marks last (suc q) left)) fs ≡ true) [
         | inl y ↦ rw y (by_hint fs q (omega (arith, e)) y k (hints_from t marks last (suc q) left) (propagates left (suc q) (omega (arith, e)) (fs ++ opposite (at t q).lit ∷ []) (taken fs q (omega (arith, e)) y k)))
         | inr n ↦ rw n (propagates left (suc q) (omega (arith, e)) fs (skipped fs q n k))
       ]
@@ -208,7 +145,7 @@ module _ (t : List Assigned) (clauses : List Clause) (lawful : IsLawful t clause
   kept_stands (suc n) p l k = elim (cases_Bool (kept marks n)) as (λ _. stands (map opposite (lits_below t marks (suc n))) (opposite (at t p).lit) ≡ true) [
     | inl y ↦ subst (λ (w : List Lit). stands (map opposite w) (opposite (at t p).lit) ≡ true) (sym (lits_yes t marks n y))
         (elim (cases_eq p n) as (λ _. stands (opposite (at t n).lit ∷ map opposite (lits_below t marks n)) (opposite (at t p).lit) ≡ true) [
-          | inl e ↦ or_left (decided (Lit_discrete (opposite (at t n).lit) (opposite (at t p).lit))) _ (yes_if (Lit_discrete (opposite (at t n).lit) (opposite (at t p).lit)) (ap (λ (j : ℕ). opposite (at t j).lit) (sym e)))
+          | inl e ↦ or_left (decided (Lit_discrete (opposite (at t n).lit) (opposite (at t p).lit))) _ (decided_of (Lit_discrete (opposite (at t n).lit) (opposite (at t p).lit)) (ap (λ (j : ℕ). opposite (at t j).lit) (sym e)))
           | inr d ↦ or_right (decided (Lit_discrete (opposite (at t n).lit) (opposite (at t p).lit))) _ (kept_stands n p (omega (arith, l, d)) k)
         ])
     | inr o ↦ subst (λ (w : List Lit). stands (map opposite w) (opposite (at t p).lit) ≡ true) (sym (lits_no t marks n o))
@@ -223,8 +160,8 @@ module _ (t : List Assigned) (clauses : List Clause) (lawful : IsLawful t clause
   only_kept zero m s = absurd (true≢false (sym s))
   only_kept (suc n) m s = elim (cases_Bool (kept marks n)) as (λ _. (p : ℕ) × (p < suc n) × (m ≡ opposite (at t p).lit) × (kept marks p ≡ true)) [
     | inl y ↦
-        by_or (decided (Lit_discrete (opposite (at t n).lit) m)) (stands (map opposite (lits_below t marks n)) m) (subst (λ (w : List Lit). stands (map opposite w) m ≡ true) (lits_yes t marks n y) s)
-        (λ e. (n, omega arith, sym (yes_then (Lit_discrete (opposite (at t n).lit) m) e), y))
+        by_either (decided (Lit_discrete (opposite (at t n).lit) m)) (stands (map opposite (lits_below t marks n)) m) (subst (λ (w : List Lit). stands (map opposite w) m ≡ true) (lits_yes t marks n y) s)
+        (λ e. (n, omega arith, sym (decided_yes (Lit_discrete (opposite (at t n).lit) m) e), y))
         (λ h. let r = only_kept n m h in (r.0, omega (arith, r.1), r.2, r.3))
     | inr o ↦ let r = only_kept n m (subst (λ (w : List Lit). stands (map opposite w) m ≡ true) (lits_no t marks n o) s) in (r.0, omega (arith, r.1), r.2, r.3)
   ]

@@ -14,8 +14,10 @@ use Rattle.ae_core.proofs.OrderLaws.{formula_exact}
 use Rattle.ae_core.specs.declared.formulas.Formula.{Formula}
 use Rattle.ae_explain.specs.declared.trail.Assigned.{Assigned}
 use Rattle.ae_explain.specs.Trail.{Apart, at, nothing, place_in}
-use Rattle.ae_explain.specs.Index.{IsIndex}
-use Rattle.ae_explain.proofs.Places.{no_if, none_some, found, there}
+use Rattle.ae_explain.specs.Inner.Index.{IsIndex}
+use Rattle.ae_explain.proofs.Places.{found, there}
+use Rattle.std.proofs.lemmas.Option.{none-some}
+use Rattle.ae_base.proofs.Decided.{decided_not}
 
 not_equal : (o : Ordering) → (o ≡ Equal → ⊥) → is_eq o ≡ false
 not_equal Less n = refl
@@ -30,9 +32,9 @@ same_test k f = elim (Formula_discrete k f) as (λ d. is_eq (formula_order k f) 
 ]
 
 no_first : (b : Bool) (o : Option ℕ) → cond b (Some 0) (option_map suc o) ≡ None → (b ≡ false) × (o ≡ None)
-no_first true o e = absurd (none_some 0 (sym e))
+no_first true o e = absurd (none-some 0 (sym e))
 no_first false None e = (refl, refl)
-no_first false (Some p) e = absurd (none_some (suc p) (sym e))
+no_first false (Some p) e = absurd (none-some (suc p) (sym e))
 
 shifted : (b : Bool) (n : ℕ) (o : Option ℕ) → option_map suc (cond b (Some n) o) ≡ cond b (Some (suc n)) (option_map suc o)
 shifted true n o = refl
@@ -48,7 +50,7 @@ at_end (b ∷ t) a f h =
     let other : b.lit.formula ≡ a.lit.formula → ⊥ = λ e. apart_if (Formula_discrete b.lit.formula a.lit.formula) n.0 e in
     elim (Formula_discrete b.lit.formula f) as (λ d. cond (decided d) (Some 0) (option_map suc (place_in (t ++ a ∷ []) f))
     ≡ cond (decided (Formula_discrete a.lit.formula f)) (Some (suc (length t))) (cond (decided d) (Some 0) (option_map suc (place_in t f)))) [
-      | yes e ↦ sym (ap (λ c. cond c (Some (suc (length t))) (Some 0)) (no_if (Formula_discrete a.lit.formula f) (λ q. other (e ∙ sym q))))
+      | yes e ↦ sym (ap (λ c. cond c (Some (suc (length t))) (Some 0)) (decided_not (Formula_discrete a.lit.formula f) (λ q. other (e ∙ sym q))))
       | no d ↦ ap (option_map suc) ih ∙ shifted (decided (Formula_discrete a.lit.formula f)) (length t) (place_in t f)
     ]
   where
@@ -69,7 +71,7 @@ still_apart t a apart h i j l m e =
       | inr ge ↦
           let here : j ≡ length t = omega (arith, m, long, ge) in
           let second : at (t ++ a ∷ []) j ≡ a = ap (at (t ++ a ∷ [])) here ∙ get_or-append_seam t a [] nothing in
-          none_some i (sym h ∙ there t i a.lit.formula apart early (ap (λ (x : Assigned). x.lit.formula) (sym first) ∙ (e ∙ ap (λ (x : Assigned). x.lit.formula) second)))
+          none-some i (sym h ∙ there t i a.lit.formula apart early (ap (λ (x : Assigned). x.lit.formula) (sym first) ∙ (e ∙ ap (λ (x : Assigned). x.lit.formula) second)))
     ]
 
 -- the index with one more key

@@ -1,8 +1,8 @@
 -- What a step of the analysis does to the marks.
 use Rattle.std.proofs.Common.{◌≡◌, ◌≢◌, ℕ, ◌+◌, ◌<◌, ◌≤◌, ◌==◌, ◌&&◌, Bool, true, false, List, length, refl, sym, ap, ◌∙◌, subst, arith, true≢false, ◌⊎◌, inl, inr, Option, Some, None}
-use Rattle.std.proofs.lemmas.Bool.{cases_eq, cases_lt, cases_Bool, and_from, and_parts}
+use Rattle.std.proofs.lemmas.Bool.{cases_eq, cases_lt, cases_Bool, and_from, and_parts, and_left, and_right}
 use Rattle.std.proofs.lemmas.Bool.Decides.{nat_tests}
-use Rattle.std.proofs.lemmas.Option.{same_Some}
+use Rattle.std.proofs.lemmas.Option.{same_Some, none-some}
 use Rattle.std.proofs.lemmas.List.{get_or-set_same, get_or-set_other}
 use Rattle.std.specs.Prelude.{slice_set}
 use Rattle.ae_core.specs.Decided.{Lit_discrete}
@@ -13,9 +13,10 @@ use Rattle.ae_explain.specs.declared.marks.Mark.{Mark}
 use Rattle.ae_explain.specs.declared.marks.Mark.TheVariants.{Blank, Kept, Resolved}
 use Rattle.ae_explain.specs.Trail.{at, place_in, clause, IsLawful, IsReason, Enters, AreFalse}
 use Rattle.ae_explain.specs.Levels.{greatest_of}
-use Rattle.ae_explain.specs.Marks.{mark, is_marked, is_kept, is_resolved, marked, kept, resolved, is_kept_at, kept_at, IsMarked, Closes, Resolves, State, KeepsClause}
+use Rattle.ae_explain.specs.Inner.Marks.{mark, is_marked, is_kept, is_resolved, marked, kept, resolved, is_kept_at, kept_at, IsMarked, Closes, Resolves, State, KeepsClause}
 use Rattle.ae_explain.proofs.Counts.{count_same, count_more, short, count_none, count_some, count_positive, count_other}
-use Rattle.ae_explain.proofs.Places.{none_some, there, found, level_there, greatest_above, greatest_reached, rises, has_reason}
+use Rattle.ae_base.proofs.Tests.{not_both}
+use Rattle.ae_explain.proofs.Places.{there, found, level_there, greatest_above, greatest_reached, rises, has_reason}
 
 -- ---- marks
 pub kept_is_marked : (m : Mark) → is_kept m ≡ true → is_marked m ≡ true
@@ -58,9 +59,6 @@ kept_or_resolved Blank h = absurd (true≢false (sym h))
 kept_or_resolved Kept h = inl refl
 kept_or_resolved Resolved h = inr refl
 
-pub not_both : (b : Bool) → b ≡ true → b ≡ false → ⊥
-not_both b p q = true≢false (sym p ∙ q)
-
 -- ---- kept at a level
 same_numbers : (a b : ℕ) → (a ≡ b → ⊥) → (a == b) ≡ false
 same_numbers a b n = grind (arith, nat_tests)
@@ -71,14 +69,6 @@ equal_numbers a b e = grind (arith, nat_tests)
 numbers_equal : (a b : ℕ) → (a == b) ≡ true → a ≡ b
 numbers_equal a b h = grind (arith, nat_tests)
 
-and_false : (a b : Bool) → b ≡ false → a && b ≡ false
-and_false true b h = h
-and_false false b h = refl
-
-false_and : (a b : Bool) → a ≡ false → a && b ≡ false
-false_and true b h = absurd (true≢false h)
-false_and false b h = refl
-
 pub at_level : (t : List Assigned) (marks : List Mark) (level p : ℕ) → kept marks p ≡ true → (at t p).level ≡ level → is_kept_at t marks level p ≡ true
 at_level t marks level p k e = and_from (kept marks p) ((at t p).level == level) k (equal_numbers (at t p).level level e)
 
@@ -88,10 +78,10 @@ at_level_then t marks level p h =
     (both.0, numbers_equal (at t p).level level both.1)
 
 pub other_level : (t : List Assigned) (marks : List Mark) (level p : ℕ) → ((at t p).level ≡ level → ⊥) → is_kept_at t marks level p ≡ false
-other_level t marks level p n = and_false (kept marks p) ((at t p).level == level) (same_numbers (at t p).level level n)
+other_level t marks level p n = and_right (kept marks p) ((at t p).level == level) (same_numbers (at t p).level level n)
 
 pub not_kept_at : (t : List Assigned) (marks : List Mark) (level p : ℕ) → kept marks p ≡ false → is_kept_at t marks level p ≡ false
-not_kept_at t marks level p n = false_and (kept marks p) ((at t p).level == level) n
+not_kept_at t marks level p n = and_left (kept marks p) ((at t p).level == level) n
 
 pub same_at : (t : List Assigned) (old new : List Mark) (level p : ℕ) → mark new p ≡ mark old p → is_kept_at t new level p ≡ is_kept_at t old level p
 same_at t old new level p e = ap (λ m. is_kept m && ((at t p).level == level)) e
@@ -347,7 +337,7 @@ resolves t clauses lawful old between new place number l same b k by keeps =
     }
   where
     reason_of : (by : Option ℕ) → by ≡ Some number → Enters t clauses place by → IsReason t clauses place number
-    reason_of None e h = absurd (none_some number e)
+    reason_of None e h = absurd (none-some number e)
     reason_of (Some k) e h = subst (IsReason t clauses place) (same_Some k number e) h.1
 
 pub nothing_kept : (t : List Assigned) (marks : List Mark) (level : ℕ) → ((p : ℕ) → marked marks p ≡ false) → kept_at t marks level ≡ 0

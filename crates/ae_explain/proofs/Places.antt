@@ -1,7 +1,7 @@
 -- Where formulas stand, and their levels.
 use Rattle.std.proofs.Common.{◌≡◌, ◌≢◌, ℕ, zero, suc, ◌<◌, ◌≤◌, max, true, false, cond, List, [], ◌∷◌, length, refl, sym, ap, ◌∙◌, subst, arith, true≢false, ◌⊎◌, inl, inr, Option, Some, None}
 use Rattle.std.proofs.lemmas.Bool.{cases_eq, cases_lt}
-use Rattle.std.proofs.lemmas.Option.{same_Some}
+use Rattle.std.proofs.lemmas.Option.{same_Some, none-some}
 use Rattle.std.specs.List.{Contains}
 use Rattle.std.specs.Option.{option_map}
 use Rattle.ae_base.specs.Decided.{decided}
@@ -12,35 +12,18 @@ use Rattle.ae_core.specs.declared.formulas.Lit.{Lit}
 use Rattle.ae_explain.specs.declared.trail.Assigned.{Assigned}
 use Rattle.ae_explain.specs.Trail.{Apart, at, place_in, IsLawful, Enters, level_before}
 use Rattle.ae_explain.specs.Levels.{level_at, level_of, greatest_of}
-
-pub yes_if : {P : Type 0} (d : Dec P) → P → decided d ≡ true
-yes_if (yes p) q = refl
-yes_if (no n) q = absurd (n q)
-
-pub no_if : {P : Type 0} (d : Dec P) → (P → ⊥) → decided d ≡ false
-no_if (yes p) n = absurd (n p)
-no_if (no m) n = refl
-
-pub yes_then : {P : Type 0} (d : Dec P) → decided d ≡ true → P
-yes_then (yes p) e = p
-yes_then (no n) e = absurd (true≢false (sym e))
-
-pub none_some : {A : Type 0} (x : A) → ◌≡◌ {A = Option A} None (Some x) → ⊥
-none_some x e = cc
+use Rattle.ae_base.proofs.Decided.{decided_of, decided_yes, decided_not}
+use Rattle.ae_base.proofs.Options.{mapped_some}
 
 apart_tail : (a : Assigned) (t : List Assigned) → Apart (a ∷ t) → Apart t
 apart_tail a t h i j l m = h (suc i) (suc j) (omega (arith, l)) (omega (arith, m))
 
 pub there : (t : List Assigned) (p : ℕ) (f : Formula) → Apart t → p < length t → (at t p).lit.formula ≡ f → place_in t f ≡ Some p
 there [] p f h l e = absurd (omega (arith, l))
-there (a ∷ t) zero f h l e = ap (λ b. cond b (Some 0) (option_map suc (place_in t f))) (yes_if (Formula_discrete a.lit.formula f) e)
+there (a ∷ t) zero f h l e = ap (λ b. cond b (Some 0) (option_map suc (place_in t f))) (decided_of (Formula_discrete a.lit.formula f) e)
 there (a ∷ t) (suc p) f h l e =
-    ap (λ b. cond b (Some 0) (option_map suc (place_in t f))) (no_if (Formula_discrete a.lit.formula f) (λ q. h 0 (suc p) (omega arith) l (q ∙ sym e)))
+    ap (λ b. cond b (Some 0) (option_map suc (place_in t f))) (decided_not (Formula_discrete a.lit.formula f) (λ q. h 0 (suc p) (omega arith) l (q ∙ sym e)))
     ∙ ap (option_map suc) (there t p f (apart_tail a t h) (omega (arith, l)) e)
-
-mapped : (o : Option ℕ) (p : ℕ) → option_map suc o ≡ Some p → (q : ℕ) × (o ≡ Some q) × (suc q ≡ p)
-mapped (Some q) p e = (q, refl, same_Some (suc q) p e)
-mapped None p e = absurd (none_some p e)
 
 -- what holds of the tail, once more
 abbrev IsFound : List Assigned → Formula → ℕ → Type 0
@@ -52,12 +35,12 @@ found_at a t f p later (yes q) e =
     let z : 0 ≡ p = same_Some 0 p e in
     (omega (arith, z), subst (λ (w : ℕ). (at (a ∷ t) w).lit.formula ≡ f) z q)
 found_at a t f p later (no n) e =
-    let r = mapped (place_in t f) p e in
+    let r = mapped_some suc (place_in t f) p e in
     let k = later r.0 r.1 in
     (omega (arith, k.0, r.2), subst (λ (w : ℕ). (at (a ∷ t) w).lit.formula ≡ f) r.2 k.1)
 
 pub found : (t : List Assigned) (f : Formula) (p : ℕ) → place_in t f ≡ Some p → (p < length t) × ((at t p).lit.formula ≡ f)
-found [] f p e = absurd (none_some p e)
+found [] f p e = absurd (none-some p e)
 found (a ∷ t) f p e = found_at a t f p (λ q. found t f q) (Formula_discrete a.lit.formula f) e
 
 pub level_there : (t : List Assigned) (p : ℕ) (m : Lit) → Apart t → p < length t → (at t p).lit.formula ≡ m.formula → level_of t m ≡ (at t p).level

@@ -10,17 +10,11 @@ use Rattle.ae_explain.specs.declared.trail.Assigned.{Assigned}
 use Rattle.ae_explain.specs.declared.marks.Mark.{Mark}
 use Rattle.ae_explain.specs.Trail.{Apart, at, IsFalse}
 use Rattle.ae_explain.specs.Levels.{level_of}
-use Rattle.ae_explain.specs.Marks.{mark, kept, resolved, count, is_kept_at, lits_below, hints_from, by_of, State}
+use Rattle.ae_explain.specs.Inner.Marks.{mark, kept, resolved, count, is_kept_at, lits_below, hints_from, reasons, State}
 use Rattle.ae_explain.proofs.Counts.{step_no, count_some}
 use Rattle.ae_explain.proofs.Places.{level_there}
 use Rattle.ae_explain.proofs.Marking.{not_kept_at, at_level_then, kept_is_marked}
-
-not_not : (b : Bool) → not (not b) ≡ b
-not_not true = refl
-not_not false = refl
-
-pub opposite_twice : (m : Lit) → opposite (opposite m) ≡ m
-opposite_twice m = λ i. record { positive = not_not m.positive i; formula = m.formula }
+use Rattle.ae_rules.proofs.Standing.{opposite_twice}
 
 pub lits_yes : (t : List Assigned) (marks : List Mark) (n : ℕ) → kept marks n ≡ true → lits_below t marks (suc n) ≡ (at t n).lit ∷ lits_below t marks n
 unfolding lits_below
@@ -45,7 +39,7 @@ clause_done t marks items rest n e p = sym (append-nil items) ∙ (sym (ap (λ (
 
 -- ---- the hints, read from the start of the trail on
 pub hints_more : (t : List Assigned) (marks : List Mark) (last : ℕ) (items new rest : List ℕ) (n q : ℕ) → q < n
-    → new ≡ items ++ (if resolved marks q then by_of (at t q).by ∷ [] else [])
+    → new ≡ items ++ (if resolved marks q then reasons (at t q).by else [])
     → items ++ hints_from t marks last q (n - q) ≡ rest → new ++ hints_from t marks last (q + 1) (n - (q + 1)) ≡ rest
 unfolding hints_from
 hints_more t marks last items new rest n q h e p =
@@ -53,10 +47,7 @@ hints_more t marks last items new rest n q h e p =
     let r : items ++ hints_from t marks last q (suc (n - suc q)) ≡ rest = subst (λ (w : ℕ). items ++ hints_from t marks last q w ≡ rest) k p in
     let s : suc q ≡ q + 1 = omega arith in
     subst (λ (w : ℕ). new ++ hints_from t marks last w (n - w) ≡ rest) s
-    (elim (cases_Bool (resolved marks q)) as (λ _. new ++ hints_from t marks last (suc q) (n - suc q) ≡ rest) [
-      | inl y ↦ rw (e, y, append_assoc) (rw y at r)
-      | inr f ↦ rw (e, f, append-nil) (rw f at r)
-    ])
+    (rw (e, append_assoc) r)
 
 pub hints_done : (t : List Assigned) (marks : List Mark) (last : ℕ) (items rest : List ℕ) (n q : ℕ) → n ≤ q
     → items ++ hints_from t marks last q (n - q) ≡ rest → items ++ last ∷ [] ≡ rest
@@ -128,3 +119,9 @@ module _ (t : List Assigned) (clauses : List Clause) (marks : List Mark) (level 
       let r = kept_place t marks (length t) m h in
       let v : level_of t m ≡ (at t r.0).level = level_there t r.0 m a r.1 (sym (ap (λ (x : Lit). x.formula) r.3)) in
       omega (arith, v, s.ground r.0 (omega arith) r.1 r.2)
+
+  pub at_most : Apart t → (m : Lit) → Contains (map opposite (lits_below t marks (length t))) m → level_of t m ≤ level
+  at_most a m h =
+      let r = kept_place t marks (length t) m h in
+      let v : level_of t m ≡ (at t r.0).level = level_there t r.0 m a r.1 (sym (ap (λ (x : Lit). x.formula) r.3)) in
+      omega (arith, v, s.levels r.0 r.1 (kept_is_marked (mark marks r.0) r.2))

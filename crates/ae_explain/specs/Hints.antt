@@ -1,6 +1,6 @@
 -- Clauses that follow from others by unit propagation.
 use Rattle.std.specs.Prelude.{ℕ, List, Option, true, ◌≡◌, map, slice_get}
-use Rattle.ae_core.specs.Options.{all_known}
+use Rattle.ae_base.specs.Options.{all_known}
 use Rattle.ae_rules.specs.Clauses.{Clause}
 use Rattle.ae_rules.specs.Derivations.{is_refuted}
 

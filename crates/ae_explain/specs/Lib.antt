@@ -1,5 +1,6 @@
+-- What is learnt from a clause that is false. To be read in this order: trails of true literals and what makes one lawful, the levels of
+-- literals, and which clauses follow through hints by unit propagation. `Inner` holds nothing to be believed.
 pub mod Trail
 pub mod Levels
 pub mod Hints
-pub mod Marks
-pub mod Index
+pub mod Inner

@@ -1,12 +1,12 @@
 //! What is learnt from a clause that is false in a trail: the first unique implication point and what it stands with.
-ghost use Rattle.std.specs.Prelude.{◌≡◌, ◌≢◌, ◌++◌, ◌∷◌, [], ◌<◌, ◌==◌, false, ℕ, length, map, count_by, if◌then◌else◌, IfOk, OnOk};
+ghost use Rattle.std.specs.Prelude.{◌≡◌, ◌≢◌, ◌++◌, ◌∷◌, [], ◌<◌, ◌≤◌, ◌==◌, false, ℕ, length, map, count_by, if◌then◌else◌, IfOk, OnOk};
 ghost use Rattle.std.specs.List.{Contains};
 ghost use Rattle.ae_rules.specs.Clauses.{opposite};
 ghost use Rattle.ae_core.specs.declared.formulas.Lit.{Lit};
 ghost use Rattle.ae_explain.specs.Trail.{IsLawful, AreFalse, IsFalse, clause};
 ghost use Rattle.ae_explain.specs.Levels.{level_of, greatest_of, literals_under};
 ghost use Rattle.ae_explain.specs.Hints.{Propagates};
-ghost use Rattle.ae_explain.specs.Marks.{marked, kept, resolved, lits_below, hints_from, by_of};
+ghost use Rattle.ae_explain.specs.Inner.Marks.{marked, kept, resolved, lits_below, hints_from, reasons};
 
 use crate::marks::{Mark, clause_at, keep_clause, resolve};
 use crate::trail::Trail;
@@ -71,16 +71,14 @@ fn kept_clause(alloc: Global, trail: &Trail, marks: &[Mark]) -> Result<Clause, A
     Ok(clause)
 }
 
-/// Adds the reason of a place where it gave way.
+/// Adds the reason of a place where the place gave way to it.
 fn push_hint(hints: &mut List<usize>, gave_way: bool, by: Option<usize>) -> Result<(), AllocError>
-    ensures { OnOk result (hints.new ≡ hints.old ++ (if gave_way then by_of by ∷ [] else [])) }
+    ensures { OnOk result (hints.new ≡ hints.old ++ (if gave_way then reasons by else [])) }
 {
     if gave_way {
-        let number = match by {
-            Some(number) => number,
-            None => 0,
-        };
-        hints.push(number)?;
+        if let Some(number) = by {
+            hints.push(number)?;
+        }
     }
     Ok(())
 }
@@ -128,6 +126,7 @@ fn learnt_from(
     ensures one { IfOk result (λ r. let level = greatest_of trail.now given.now in
         0 < level → count_by (λ m. level_of trail.now m == level) r.clause ≡ 1) }
     ensures ground { IfOk result (λ r. (m : Lit) → Contains r.clause m → 0 < level_of trail.now m) }
+    ensures highest { IfOk result (λ r. (m : Lit) → Contains r.clause m → level_of trail.now m ≤ greatest_of trail.now given.now) }
     ensures level { IfOk result (λ r. r.level ≡ greatest_of trail.now (literals_under trail.now (greatest_of trail.now r.clause) r.clause)) }
 {
     let level = greatest_level(trail, given);
@@ -165,6 +164,8 @@ pub fn conflict_clause(
     // Otherwise exactly one of its literals is of their greatest level.
     ensures one { IfOk result (λ r. let level = greatest_of trail.now (clause clauses.now falsified) in
         0 < level → count_by (λ m. level_of trail.now m == level) r.clause ≡ 1) }
+    // None of its literals is of a greater level.
+    ensures highest { IfOk result (λ r. (m : Lit) → Contains r.clause m → level_of trail.now m ≤ greatest_of trail.now (clause clauses.now falsified)) }
     // None of its literals is of level 0.
     ensures ground { IfOk result (λ r. (m : Lit) → Contains r.clause m → 0 < level_of trail.now m) }
     // The level is the greatest one of its literals below their greatest one.

@@ -2,7 +2,7 @@
 ghost use Rattle.std.specs.Prelude.{◌≡◌, ◌≢◌, ℕ, ◌+◌, ◌<◌, true, Bool, None, length, slice_set, IsTrue, ◌↔◌, ◌⊎◌};
 ghost use Rattle.ae_explain.specs.declared.marks.Mark.TheVariants.{Resolved};
 ghost use Rattle.ae_explain.specs.Trail.{at, clause, IsLawful};
-ghost use Rattle.ae_explain.specs.Marks.{kept, marked, kept_at, KeepsPlace, KeepsLit, KeepsClause, Resolves, State};
+ghost use Rattle.ae_explain.specs.Inner.Marks.{kept, marked, kept_at, KeepsPlace, KeepsLit, KeepsClause, Resolves, State};
 
 use crate::trail::Trail;
 use ae_core::formulas::{Clause, Lit};

@@ -35,7 +35,7 @@ impl Model for Trail {
     ghost use Rattle.std.specs.BTreeMap.{get};
     ghost use Rattle.ae_core.specs.Orders.{formula_order};
     ghost use Rattle.ae_explain.specs.declared.trail.Assigned.{Assigned};
-    ghost use Rattle.ae_explain.specs.Index.{IsIndex};
+    ghost use Rattle.ae_explain.specs.Inner.Index.{IsIndex};
 
     ghost Value = { List Assigned };
 

@@ -272,6 +272,15 @@ module _ {K : Type 0} (same : Discrete K) where
       ∙ ap (λ x. a *ℚ x) (sym (substitute_elsewhere f k h t m)) ∙ sym (factor_in-scale a (substitute same f k h).parts t))
       (ap (λ x. a *ℚ f.constant +ℚ x *ℚ h.constant) (factor_in-scale a f.parts k) ∙ drawn a f.constant (factor same f k) h.constant)
 
+  -- ---- the factors of differences
+  pub minus_factor : (f g : Form K) (k : K) → factor same (minus f g) k ≡ factor same f k +ℚ neg_ℚ one_ℚ *ℚ factor same g k
+  minus_factor f g k = factor_in-append f.parts (scale (neg_ℚ one_ℚ) g).parts k ∙ ap (λ y. factor same f k +ℚ y) (factor_in-scale (neg_ℚ one_ℚ) g.parts k)
+
+  -- of a multiple of a key less a form
+  pub key_factor : (x t : K) (a : ℚ) (f : Form K) → factor same (scale a (minus (single x) f)) t ≡ a *ℚ (factor same (single x) t +ℚ neg_ℚ one_ℚ *ℚ factor same f t)
+  key_factor x t a f = factor_in-scale a (minus (single x) f).parts t ∙ ap (λ y. a *ℚ y) (minus_factor (single x) f t)
+
+  -- ---- a form that is put for a key
   -- the key is gone where the form that is put for it lacks it
   pub substitute_gone : (f : Form K) (k : K) (h : Form K) → factor same h k ≡ zero_ℚ → factor same (substitute same f k h) k ≡ zero_ℚ
   substitute_gone f k h z = substitute_there f k h ∙ ap (λ x. factor same f k *ℚ x) z ∙ mul_zero_q _

@@ -5,5 +5,3 @@ pub mod Fractions
 pub mod Divisors
 pub mod Forms
 pub mod Inner
-pub mod Choices
-pub mod Integers

@@ -27,7 +27,8 @@ use Rattle.ae_core.specs.Sorts.{sort_in, sort_of, head_sort, is_closed_sort, sor
 use Rattle.ae_rules.proofs.LinearLaws.{form-Num, form-Fresh, real_sum}
 use Rattle.ae_core.proofs.PuttingLaws.{put_not, put_eq, put_bound, put_fresh}
 use Rattle.ae_rules.proofs.ClauseLaws.{literal_not, literal_eq}
-use Rattle.ae_core.proofs.SortLaws.{put_named, ok_var, ok_named, ok_real, sort_in_num, sort_in_bound, sort_in_fresh, sort_in_apply, formula_in_ex, formula_in_not, formula_in_eq, quant_in_block}
+use Rattle.ae_core.proofs.SortLaws.{put_named, ok_var, ok_named, ok_real, sort_in_num, sort_in_bound, sort_in_fresh, sort_in_apply, formula_in_ex}
+use Rattle.ae_core.proofs.SortLaws.{formula_in_not, formula_in_eq, quant_in_block}
 use Rattle.ae_core.specs.declared.terms.Sort.{Sort, Sort-F, Real, Named, out-Sort, roll-Sort, roll-out-Sort}
 use Rattle.ae_core.specs.declared.terms.Sort.TheOpen as sort_layer
 use Rattle.ae_core.specs.declared.terms.Sort.TheVariants.{rolls-Var, rolls-Rigid, rolls-Named}
@@ -43,9 +44,10 @@ use Rattle.ae_core.specs.declared.problems.Item.TheVariants.{Axiom, Goal}
 use Rattle.ae_core.specs.declared.proofs.EqLine.TheVariants.{EqHyp, LeHyp}
 use Rattle.ae_math.proofs.Wholes.{zero_whole, whole_plus, whole_neg, whole_same, whole_positive, one_whole}
 use Rattle.ae_models.specs.Structures.{Value, Element, Number, Truth, Void, BelongsTo}
-use Rattle.ae_models.specs.Truth.{Fresh, Holds as ClaimHolds, value, applied, below}
+use Rattle.ae_models.specs.Truth.{FreshValues, Holds as ClaimHolds, value, applied, below}
 use Rattle.ae_models.specs.Examples.{Thing, Count, Red, Green, Point, Other, count, colour, green, red, first, example_signature, example}
-use Rattle.ae_models.specs.WrongRules.{Values, Says, LinWithFactorZero, SumWithNegativeFactor, GcdOfReals, FreshOfUsedConstant, ExhaustionWithoutTheLast, AcOfAnotherSymbol, AxiomAfterTheGoal}
+use Rattle.ae_models.specs.WrongRules.{Values, Says, LinWithFactorZero, SumWithNegativeFactor, GcdOfReals, FreshOfUsedConstant}
+use Rattle.ae_models.specs.WrongRules.{ExhaustionWithoutTheLast, AcOfAnotherSymbol, AxiomAfterTheGoal}
 use Rattle.ae_models.proofs.AcTerms.{flat_apply, flat_fresh}
 use Rattle.ae_models.proofs.ClaimLaws.{value_num, value_fresh, value_bound, value_apply, claim_eq, claim_le, claim_not, claim_ex}
 use Rattle.ae_models.proofs.Example.{no_list, greater}
@@ -82,7 +84,8 @@ layer_value n s sort_layer.Int r c = (pos 0, refl)
 layer_value n s sort_layer.Real r c = (half, refl)
 layer_value n s sort_layer.Bool r c = (true, refl)
 layer_value n s sort_layer.Unit r c = refl
-layer_value n s (sort_layer.Var i) r c = absurd (true≢false (sym c ∙ ap (is_closed_sort example_signature) (sym r ∙ rolls-Var i) ∙ ok_var example_signature (λ i. false) (λ i. true) i))
+layer_value n s (sort_layer.Var i) r c =
+    absurd (true≢false (sym c ∙ ap (is_closed_sort example_signature) (sym r ∙ rolls-Var i) ∙ ok_var example_signature (λ i. false) (λ i. true) i))
 layer_value n s (sort_layer.Rigid i) r c = (Other i, refl, sym (rolls-Rigid i) ∙ r)
 layer_value n s (sort_layer.Named h ss) r c =
     let is : Named h ss ≡ s = sym (rolls-Named h ss) ∙ r in
@@ -90,7 +93,7 @@ layer_value n s (sort_layer.Named h ss) r c =
     (sym (ok_named example_signature (λ i. false) (λ i. true) h ss) ∙ ap (is_closed_sort example_signature) is ∙ c) in
     subst (λ t. OfLayer n t (sort_layer.Named h ss)) is (named_value n h ss both.0)
 
-constants : Fresh example
+constants : FreshValues example
 constants n s = constant_value n (out-Sort s)
 
 some_values : Values
@@ -166,11 +169,15 @@ lin_with_factor_zero = (nought, one, ([], tt, tt, sums), numbers_apart)
     }
 
 -- ---- sums
-at_most_says : (v : Values) (a b : ℤ) → not (is_positive (whole a +ℚ neg_ℚ (whole b))) ≡ true → Says v (Le (Num a (pos 1) true) (Num b (pos 1) true))
+at_most_says : (v : Values) (a b : ℤ) → not (is_positive (whole a +ℚ neg_ℚ (whole b))) ≡ true
+    → Says v (Le (Num a (pos 1) true) (Num b (pos 1) true))
 at_most_says v a b e = subst ClaimHolds (sym (claim_le example v.0 (Num a (pos 1) true) (Num b (pos 1) true) [])) ((λ i. not (below example (num_value v b i) (num_value v a i))) ∙ e)
 
-says_at_most : (v : Values) (a b : ℤ) → Says v (Le (Num a (pos 1) true) (Num b (pos 1) true)) → not (is_positive (whole a +ℚ neg_ℚ (whole b))) ≡ true
-says_at_most v a b h = sym (λ i. not (below example (num_value v b i) (num_value v a i))) ∙ subst ClaimHolds (claim_le example v.0 (Num a (pos 1) true) (Num b (pos 1) true) []) h
+says_at_most : (v : Values) (a b : ℤ) → Says v (Le (Num a (pos 1) true) (Num b (pos 1) true))
+    → not (is_positive (whole a +ℚ neg_ℚ (whole b))) ≡ true
+says_at_most v a b h =
+    sym (λ i. not (below example (num_value v b i) (num_value v a i)))
+    ∙ subst ClaimHolds (claim_le example v.0 (Num a (pos 1) true) (Num b (pos 1) true) []) h
 
 difference : (a b : ℤ) → whole a +ℚ neg_ℚ (whole b) ≡ whole (a +ℤ neg_ℤ b)
 difference a b = ap (λ q. whole a +ℚ q) (whole_neg b) ∙ whole_plus a (neg_ℤ b)
@@ -246,11 +253,13 @@ minus_two =
     neg_one : neg_ℚ one_ℚ ≡ whole (negsuc 0)
     neg_one = ap neg_ℚ one_whole ∙ whole_neg (pos 1)
 
-its_factor : (u : Term) (d : Dec (unknown ≡ u)) → (z : ℤ) × (pick d (neg_ℚ one_ℚ *ℚ one_ℚ +ℚ pick d (neg_ℚ one_ℚ *ℚ one_ℚ +ℚ zero_ℚ) zero_ℚ) (pick d (neg_ℚ one_ℚ *ℚ one_ℚ +ℚ zero_ℚ) zero_ℚ) ≡ whole (z *ℤ pos 2))
+its_factor : (u : Term) (d : Dec (unknown ≡ u))
+    → (z : ℤ) × (pick d (neg_ℚ one_ℚ *ℚ one_ℚ +ℚ pick d (neg_ℚ one_ℚ *ℚ one_ℚ +ℚ zero_ℚ) zero_ℚ) (pick d (neg_ℚ one_ℚ *ℚ one_ℚ +ℚ zero_ℚ) zero_ℚ) ≡ whole (z *ℤ pos 2))
 its_factor u (yes e) = (negsuc 0, minus_two)
 its_factor u (no n) = (pos 0, zero_whole)
 
-factor_there : (d : Dec (unknown ≡ unknown)) → pick d (neg_ℚ one_ℚ *ℚ one_ℚ +ℚ pick d (neg_ℚ one_ℚ *ℚ one_ℚ +ℚ zero_ℚ) zero_ℚ) (pick d (neg_ℚ one_ℚ *ℚ one_ℚ +ℚ zero_ℚ) zero_ℚ) ≢ zero_ℚ
+factor_there : (d : Dec (unknown ≡ unknown))
+    → pick d (neg_ℚ one_ℚ *ℚ one_ℚ +ℚ pick d (neg_ℚ one_ℚ *ℚ one_ℚ +ℚ zero_ℚ) zero_ℚ) (pick d (neg_ℚ one_ℚ *ℚ one_ℚ +ℚ zero_ℚ) zero_ℚ) ≢ zero_ℚ
 factor_there (yes e) h = let z : negsuc 0 *ℤ pos 2 ≡ pos 0 = whole_same (negsuc 0 *ℤ pos 2) (pos 0) (sym minus_two ∙ h ∙ zero_whole) in absurd (omega (arith, ap unsigned_abs z))
 factor_there (no n) h = n refl
 
@@ -270,12 +279,14 @@ gcd_of_reals = (
     one,
     refl,
     (twice_sort, one_sort),
-    (unknown, subst (λ f. factor_of f unknown ≢ zero_ℚ) (sym twice_gap) (factor_there (Term_discrete unknown unknown))),
-    2,
-    subst (λ f. AreMultiples f 2) (sym twice_gap) (λ u. its_factor u (Term_discrete unknown u)),
-    pos 1,
-    ap (λ f. f.constant) twice_gap ∙ constant_one (whole (pos 1)),
-    not_even,
+    record {
+      occurs = (unknown, subst (λ f. factor_of f unknown ≢ zero_ℚ) (sym twice_gap) (factor_there (Term_discrete unknown unknown)));
+      divisor = 2;
+      divides = subst (λ f. AreMultiples f 2) (sym twice_gap) (λ u. its_factor u (Term_discrete unknown u));
+      constant = pos 1;
+      is = ap (λ f. f.constant) twice_gap ∙ constant_one (whole (pos 1));
+      not_divided = not_even;
+    },
   ),
   some_values,
   (says_equal some_values twice one (doubled ∙ sym (num_value some_values (pos 1))), tt),
@@ -303,20 +314,26 @@ abbrev some_other : Formula
 some_other = Ex the_block
 
 pub fresh_of_used_constant : FreshOfUsedConstant
-fresh_of_used_constant = (some_other, 0, is_false some_other ∷ is_false (Eq unknown unknown) ∷ [], sorted, stated, λ v. (there_is v, (says_equal v unknown unknown refl, tt)))
+fresh_of_used_constant =
+    (some_other, 0, is_false some_other ∷ is_false (Eq unknown unknown) ∷ [], sorted, stated, λ v. (there_is v, (says_equal v unknown unknown refl, tt)))
   where
     sorted : formula_ok example_signature some_other ≡ true
     sorted =
-        formula_in_ex example_signature (is_closed_sort example_signature) [] the_block ∙ quant_in_block example_signature (is_closed_sort example_signature) [] the_block
+        formula_in_ex example_signature (is_closed_sort example_signature) [] the_block
+        ∙ quant_in_block example_signature (is_closed_sort example_signature) [] the_block
         ∙ (λ i. (real_closed i && true) && true && formula_in example_signature (is_closed_sort example_signature) (Real ∷ []) other_than)
-        ∙ formula_in_not example_signature (is_closed_sort example_signature) (Real ∷ []) (Eq (Bound 0) unknown) ∙ formula_in_eq example_signature (is_closed_sort example_signature) (Real ∷ []) (Bound 0) unknown
-        ∙ (λ i. same_known (sort_in_bound example_signature (is_closed_sort example_signature) (Real ∷ []) 0 i) (unknown_there i)) ∙ decided_of (Sort_discrete Real Real) refl
+        ∙ formula_in_not example_signature (is_closed_sort example_signature) (Real ∷ []) (Eq (Bound 0) unknown)
+        ∙ formula_in_eq example_signature (is_closed_sort example_signature) (Real ∷ []) (Bound 0) unknown
+        ∙ (λ i. same_known (sort_in_bound example_signature (is_closed_sort example_signature) (Real ∷ []) 0 i) (unknown_there i))
+        ∙ decided_of (Sort_discrete Real Real) refl
       where
         unknown_there : sort_in example_signature (is_closed_sort example_signature) (Real ∷ []) unknown ≡ Some Real
         unknown_there = sort_in_fresh example_signature (is_closed_sort example_signature) (Real ∷ []) 0 Real ∙ ap (λ b. when b Real) real_closed
 
     put : put_formula (unknown ∷ []) other_than ≡ Not (Eq unknown unknown)
-    put = put_not 0 (unknown ∷ []) (Eq (Bound 0) unknown) ∙ ap Not (put_eq 0 (unknown ∷ []) (Bound 0) unknown ∙ (λ i. Eq (put_bound 0 (unknown ∷ []) 0 i) (put_fresh 0 (unknown ∷ []) 0 Real i)))
+    put =
+        put_not 0 (unknown ∷ []) (Eq (Bound 0) unknown)
+        ∙ ap Not (put_eq 0 (unknown ∷ []) (Bound 0) unknown ∙ (λ i. Eq (put_bound 0 (unknown ∷ []) 0 i) (put_fresh 0 (unknown ∷ []) 0 Real i)))
 
     stated : fresh_clause some_other 0 (out-Formula some_other) ≡ Some (is_false some_other ∷ is_false (Eq unknown unknown) ∷ [])
     stated =

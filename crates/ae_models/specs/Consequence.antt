@@ -19,21 +19,27 @@ use Rattle.ae_models.specs.Inner.Trees.{Tree}
 
 -- each axiom before the goal at place g is true, with all closed sorts for its type variables
 abbrev pub AxiomsAreTrue : Problem → ℕ → {E K : Type 0} → Structure E K → Type 0
-AxiomsAreTrue p g M = (k : ℕ) (name : List ℕ) (vars : ℕ) (f : Formula) (ss : List Sort) → nat_lt k g ≡ true → slice_get p.items k ≡ Some (Axiom name vars f)
+AxiomsAreTrue p g M =
+    (k : ℕ) (name : List ℕ) (vars : ℕ) (f : Formula) (ss : List Sort) → nat_lt k g ≡ true → slice_get p.items k ≡ Some (Axiom name vars f)
     → length ss ≡ vars → list_all (is_closed_sort p.signature) ss ≡ true → IsTrueIn p.signature M (instance ss f)
 
--- the goal follows: it is true wherever the axioms before it are. It may have type variables of its own; of those an interpretation has any things.
-abbrev pub Follows : Problem → ℕ → Formula → Type 0 → Type 0 → Type 0
-Follows p g goal E K = (M : Structure E K) → IsInterpretation p.signature M → AxiomsAreTrue p g M → IsTrueIn p.signature M goal
+-- the goal is a consequence of the axioms before it: it is true wherever they are. Of a goal's own type variables an interpretation has
+-- any things.
+abbrev pub IsConsequence : Problem → ℕ → Formula → Type 0 → Type 0 → Type 0
+IsConsequence p g goal E K = (M : Structure E K) → IsInterpretation p.signature M → AxiomsAreTrue p g M → IsTrueIn p.signature M goal
 
--- what is derived follows
+-- what is derived is a consequence
 abbrev pub DerivationsAreSound : Type 0 → Type 0 → Type 0
-DerivationsAreSound E K = (p : Problem) (g : ℕ) (goal : Formula) (proof : Proof) → IsLawfulProblem p → goal_body p g ≡ Some goal → Derives p g proof → Follows p g goal E K
+DerivationsAreSound E K =
+    (p : Problem) (g : ℕ) (goal : Formula) (proof : Proof) → IsLawfulProblem p → goal_body p g ≡ Some goal → Derives p g proof
+    → IsConsequence p g goal E K
 
 -- where an interpretation makes the axioms before a goal true, and not the goal, nothing derives it
 abbrev pub NothingFalseIsDerived : Type 0 → Type 0 → Type 0
-NothingFalseIsDerived E K = (p : Problem) (g : ℕ) (goal : Formula) → IsLawfulProblem p → goal_body p g ≡ Some goal → (M : Structure E K) → IsInterpretation p.signature M
-    → AxiomsAreTrue p g M → ¬ (IsTrueIn p.signature M goal) → (proof : Proof) → ¬ (Derives p g proof)
+NothingFalseIsDerived E K =
+    (p : Problem) (g : ℕ) (goal : Formula) → IsLawfulProblem p → goal_body p g ≡ Some goal
+    → (M : Structure E K) → IsInterpretation p.signature M → AxiomsAreTrue p g M → ¬ (IsTrueIn p.signature M goal)
+    → (proof : Proof) → ¬ (Derives p g proof)
 
 -- each lawful signature has an interpretation, with trees as its things and the fractions as its reals
 abbrev pub HaveInterpretations : Type 0

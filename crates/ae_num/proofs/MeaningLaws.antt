@@ -13,9 +13,9 @@ use Rattle.ae_math.proofs.FractionLaws.{frac_same, frac_plus, frac_times, add_ze
 use Rattle.ae_math.proofs.FormLaws.{factor_in-append, factor_in-scale, substitute_there, substitute_elsewhere, substitute_absent, same_sym, by_key}
 use Rattle.ae_num.specs.declared.forms.Part.{Part}
 use Rattle.ae_num.specs.declared.forms.Lin.{Lin}
-use Rattle.ae_num.specs.Forms.{meaning, SameMeaning, factor_of, IsRising, IsNormal, others, has_key}
+use Rattle.ae_num.specs.Forms.{meaning, SameMeaning, factor_of, IsRising, IsNormal, others, has_key, Reduced}
 use Rattle.ae_num.specs.Inner.Pairs.{outcome_of}
-use Rattle.ae_num.specs.Inner.Reduction.{Reduced, whole_of}
+use Rattle.ae_num.specs.Inner.Reduction.{whole_of}
 use Rattle.ae_num.specs.declared.sums.Combination.{Combination}
 use Rattle.ae_num.specs.declared.sums.Combination.TheVariants.{Sum, Substitution, Multiple}
 use Rattle.ae_num.proofs.PairLaws.{absent}

@@ -12,8 +12,7 @@ use Rattle.std.proofs.lemmas.Int.{unsigned_abs-mul}
 use Rattle.ae_base.proofs.Integers.{size_back, size_positive}
 use Rattle.ae_num.specs.declared.forms.Part.{Part}
 use Rattle.ae_num.specs.declared.forms.Lin.{Lin}
-use Rattle.ae_num.specs.Forms.{factor_of, AllAbove, IsRising, IsNormal, DividesAll, IsCommonDivisor, sizes, divided_part, divided}
-use Rattle.ae_num.specs.Inner.Reduction.{Reduced}
+use Rattle.ae_num.specs.Forms.{factor_of, AllAbove, IsRising, IsNormal, DividesAll, IsCommonDivisor, sizes, divided_part, divided, Reduced}
 
 abbrev Factors : List Part → List ℕ
 Factors ps = map (λ p. unsigned_abs p.factor) ps

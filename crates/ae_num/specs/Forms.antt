@@ -1,5 +1,5 @@
 -- What a linear form over names with one denominator means, its normal form, and the products and sums that a step on such forms states.
-use Rattle.std.specs.Prelude.{ℕ, zero, suc, ℤ, pos, ◌*ℤ◌, ◌+ℤ◌, ◌<ℤ◌, ◌≢◌, ◌<◌, ◌^◌, ◌%◌, Bool, false, ◌||◌, nat_eq, nat_lt, nat_le, cond, List, [], ◌∷◌, ◌++◌, map, Option, Some, None, unsigned_abs}
+use Rattle.std.specs.Prelude.{ℕ, zero, suc, ℤ, pos, ◌≡◌, ◌*ℤ◌, ◌+ℤ◌, ◌<ℤ◌, ◌≢◌, ◌<◌, ◌^◌, ◌%◌, Bool, false, ◌||◌, nat_eq, nat_lt, nat_le, cond, List, [], ◌∷◌, ◌++◌, map, Option, Some, None, unsigned_abs}
 use Rattle.std.specs.List.{flat_map, list_all, AllByRecursion}
 use Rattle.std.specs.Int.RustNames.{int_div}
 use lib.IntN.{ℤ_discrete}
@@ -73,6 +73,14 @@ divided_part g p = record { key = p.key; factor = int_div p.factor g }
 -- all numbers divided by one
 abbrev pub divided : ℤ → Lin → Lin
 divided g l = record { den = int_div l.den g; parts = map (divided_part g) l.parts; constant = int_div l.constant g }
+
+-- the second form is the first with all numbers divided by one
+pub record Reduced (w f : Lin) : Type 0 where
+  pub divisor : ℕ
+  pub some : 0 < divisor
+  pub dens : f.den *ℤ pos divisor ≡ w.den
+  pub constants : f.constant *ℤ pos divisor ≡ w.constant
+  pub factors : (key : ℕ) → factor_of f.parts key *ℤ pos divisor ≡ factor_of w.parts key
 
 -- all numbers divided by their greatest common divisor
 abbrev pub lowest : Lin → Lin

@@ -3,8 +3,8 @@
 ghost use Rattle.std.specs.Prelude.{◌≡◌, None, Some, pos, true, false, [], ◌∷◌, ◌++◌, ◌<ℤ◌, ◌*ℤ◌, IfOk, OnOk, IfErr, IfSome, IfNone};
 ghost use Rattle.ae_math.specs.Fractions.{ratio};
 ghost use Rattle.ae_math.specs.Forms.{plus as sum_of_forms, scale as multiple, number, substitute};
-ghost use Rattle.ae_num.specs.Forms.{meaning, SameMeaning, IsNormal, IsRising, Product, first_wide, IfWide, plus_steps, scale_steps, subst_steps, has_key, factor_of, others, lowest, sum_of, multiple_of};
-ghost use Rattle.ae_num.specs.Inner.Reduction.{whole_of, whole_steps, Reduced};
+ghost use Rattle.ae_num.specs.Forms.{meaning, SameMeaning, IsNormal, IsRising, Product, first_wide, IfWide, plus_steps, scale_steps, subst_steps, has_key, factor_of, others, lowest, sum_of, multiple_of, Reduced};
+ghost use Rattle.ae_num.specs.Inner.Reduction.{whole_of, whole_steps};
 ghost use Rattle.ae_num.specs.declared.sums.Combination.TheVariants.{Sum, Substitution, Multiple};
 ghost use Rattle.ae_num.specs.Limits.{FitsLimits};
 ghost use native.Mathlib.Decide.{ℕ_discrete};

@@ -5,7 +5,7 @@ pub mod forms;
 pub mod laws;
 pub mod numbers;
 mod pairs;
-mod reduction;
+pub mod reduction;
 mod sums;
 #[cfg(test)]
 mod tests;

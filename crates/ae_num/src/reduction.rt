@@ -2,15 +2,14 @@
 
 ghost use Rattle.std.specs.Prelude.{◌≡◌, ◌≢◌, pos, ◌<◌, ◌^◌, ◌<ℤ◌, ◌≤ℤ◌, unsigned_abs, IfOk};
 ghost use Rattle.std.specs.List.{AllByRecursion};
-ghost use Rattle.ae_num.specs.Forms.{sizes, IsCommonDivisor, IsRising, IsNormal, divided, lowest};
-ghost use Rattle.ae_num.specs.Inner.Reduction.{Reduced};
+ghost use Rattle.ae_num.specs.Forms.{sizes, IsCommonDivisor, IsRising, IsNormal, divided, lowest, Reduced};
 
 use crate::forms::{Lin, Part};
 use crate::numbers::gcd;
 use sqlite_items::Items;
 use std::alloc::{AllocError, Global};
 
-/// The greatest common divisor of all numbers of a form.
+/// The greatest common divisor of all numbers of a form: its denominator, its constant and its factors.
 pub fn common_divisor(form: &Lin) -> i128
     requires within { AllByRecursion (λ n. n < 2 ^ 127) (sizes form.now.den form.now.parts form.now.constant) }
     ensures common { IsCommonDivisor (sizes form.now.den form.now.parts form.now.constant) (unsigned_abs result) }
@@ -23,7 +22,7 @@ pub fn common_divisor(form: &Lin) -> i128
     divisor
 }
 
-/// The form with all numbers divided by a positive one.
+/// The form with all numbers divided by a positive one; `Err` where there is no memory for it.
 pub fn divide(alloc: Global, form: &Lin, divisor: i128) -> Result<Lin, AllocError>
     requires { pos 0 <ℤ divisor }
     ensures { IfOk result (λ quotient. quotient ≡ divided divisor form.now) }
@@ -42,7 +41,7 @@ pub fn divide(alloc: Global, form: &Lin, divisor: i128) -> Result<Lin, AllocErro
     })
 }
 
-/// The normal form of a form with rising keys and no factor 0.
+/// The normal form of a form with rising keys and no factor 0; `Err` where there is no memory for it.
 pub fn reduced(alloc: Global, whole: &Lin) -> Result<Lin, AllocError>
     requires positive { pos 0 <ℤ whole.now.den }
     requires rising { IsRising whole.now.parts }

@@ -1,7 +1,7 @@
-use Rattle.std.proofs.Common.{◌≡◌, ℕ, ◌<◌, List, [], ◌∷◌, ◌++◌, refl, arith, Some, None, inl, inr}
-use Rattle.std.proofs.lemmas.Bool.{cases_order}
+use Rattle.std.proofs.Common.{◌≡◌, ℕ, ◌<◌, List, [], ◌∷◌, ◌++◌, refl, sym, ap, arith, Option, Some, None, inl, inr, if◌then◌else◌}
+use Rattle.std.proofs.lemmas.Bool.{cases_order, eq-eqb, ne_eqb}
 use Rattle.std.proofs.lemmas.Bool.Decides.{nat_tests}
-use Rattle.ae_pmap.specs.Pairs.{put_in, take_out, found, AllAbove, Rises}
+use Rattle.ae_pmap.specs.Pairs.{put_in, take_out, found, with_at, AllAbove, Rises}
 
 -- each key is below this one
 abbrev pub AllBelow : ℕ → List (ℕ × ℕ) → Type 0
@@ -97,3 +97,10 @@ put_rises key v (p ∷ ps) h =
 pub out_rises : (key : ℕ) (ps : List (ℕ × ℕ)) → Rises ps → Rises (take_out key ps)
 out_rises key [] h = tt
 out_rises key (p ∷ ps) h = grind (arith, nat_tests, out_above p.0 key ps h.0, out_rises key ps h.1, h.1)
+
+-- ---- a map changed at a key
+pub at_same : {A : Type 0} (m : ℕ → Option A) (key : ℕ) (o : Option A) → with_at m key o key ≡ o
+at_same m key o = ap (λ b. if b then o else m key) (eq-eqb key key refl)
+
+pub at_other : {A : Type 0} (m : ℕ → Option A) (key : ℕ) (o : Option A) (q : ℕ) → (q ≡ key → ⊥) → with_at m key o q ≡ m q
+at_other m key o q n = ap (λ b. if b then o else m q) (ne_eqb key q (λ e. n (sym e)))

@@ -2,11 +2,11 @@
 use Rattle.std.specs.Prelude.{ℕ, Bool, true, false, List, [], ◌∷◌, ◌≡◌, map, Option, Some}
 use Rattle.std.specs.List.{AllByRecursion}
 use mathlib.Core.Path.{sym, ap, ◌∙◌, subst}
-use Rattle.ae_core.specs.Induction.{by_formulas}
+use Rattle.ae_core.specs.Inner.Induction.{by_formulas}
 use Rattle.ae_core.specs.Sorts.{formula_ok}
 use Rattle.ae_rules.specs.Clauses.{Clause, row}
 use Rattle.ae_rules.specs.Derivations.{IsAllowed}
-use Rattle.ae_rules.proofs.Stated.{clause_stated}
+use Rattle.ae_rules.proofs.SortedLines.{clause_stated}
 use Rattle.ae_rules.proofs.ClauseLaws.{row_true, row_false, row_and, row_or, row_xor, row_iff}
 use Rattle.ae_core.specs.declared.terms.Sort.{Sort}
 use Rattle.ae_core.specs.declared.terms.Term.{Term}

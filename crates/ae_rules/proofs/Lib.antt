@@ -3,8 +3,10 @@ pub mod Bridge
 pub mod Written
 pub mod Respects
 pub mod Congruence
+pub mod Standing
 pub mod Propagation
 pub mod Blocks
 pub mod LinearLaws
-pub mod Stated
+pub mod FlatLaws
+pub mod SortedLines
 pub mod Defining

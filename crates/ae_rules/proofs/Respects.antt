@@ -9,7 +9,7 @@ use Rattle.ae_core.specs.declared.terms.Term.{Term, Apply}
 use Rattle.ae_core.specs.declared.formulas.Lit.{Lit}
 use Rattle.ae_core.specs.declared.problems.Signature.{Signature}
 use Rattle.ae_rules.specs.Lines.{Fact, equal, IsAc, flat, Follows, by_hyp, by_refl, by_sym, by_trans, by_cong, by_ac, by_lin, by_field, by_le_hyp, by_lt_hyp, by_le_sum, by_lt_sum, by_fields, by_round, FollowAll, none, more, FollowEach, no_fact, a_fact}
-use Rattle.ae_rules.specs.Valuations.{Means, Stands, Respects}
+use Rattle.ae_rules.specs.Valuations.{Means, IsEstablished, Respects}
 
 -- what follows is ok
 pub follows_ok : {sig : Signature} {ok : Fact → Bool} {hyps : Lit → Type 0} {f : Fact} → Follows sig ok hyps f → ok f ≡ true
@@ -55,6 +55,6 @@ module _ {V : Type 0} (sig : Signature) (ok : Fact → Bool) (hyps : Lit → Typ
     respects_all none = refl
     respects_all (more a b) = λ i. respects a i ∷ respects_all b i
 
-    respects_each : {fs : List (ℤ × Fact)} → FollowEach sig ok hyps fs → AllByRecursion (λ f. Stands ok ev le lt f.1) fs
+    respects_each : {fs : List (ℤ × Fact)} → FollowEach sig ok hyps fs → AllByRecursion (λ f. IsEstablished ok ev le lt f.1) fs
     respects_each no_fact = tt
     respects_each (a_fact a b) = ((follows_ok a, respects a), respects_each b)

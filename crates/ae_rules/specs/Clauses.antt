@@ -50,29 +50,29 @@ row_at r (c ∷ cs) = cond (nat_eq r c.0) (Some c.1) (row_at r cs)
 abbrev pub and_row : ℕ → Formula → Formula → Formula → Option Clause
 and_row r f a b =
     row_at r (
-      (AND_TO_LEFT, is_false f ∷ yes_of a ∷ []) ∷ (AND_TO_RIGHT, is_false f ∷ yes_of b ∷ [])
-      ∷ (AND_FROM_BOTH, is_true f ∷ no_of a ∷ no_of b ∷ []) ∷ []
+    (AND_TO_LEFT, is_false f ∷ yes_of a ∷ []) ∷ (AND_TO_RIGHT, is_false f ∷ yes_of b ∷ [])
+    ∷ (AND_FROM_BOTH, is_true f ∷ no_of a ∷ no_of b ∷ []) ∷ []
     )
 
 abbrev pub or_row : ℕ → Formula → Formula → Formula → Option Clause
 or_row r f a b =
     row_at r (
-      (OR_FROM_LEFT, is_true f ∷ no_of a ∷ []) ∷ (OR_FROM_RIGHT, is_true f ∷ no_of b ∷ [])
-      ∷ (OR_TO_EITHER, is_false f ∷ yes_of a ∷ yes_of b ∷ []) ∷ []
+    (OR_FROM_LEFT, is_true f ∷ no_of a ∷ []) ∷ (OR_FROM_RIGHT, is_true f ∷ no_of b ∷ [])
+    ∷ (OR_TO_EITHER, is_false f ∷ yes_of a ∷ yes_of b ∷ []) ∷ []
     )
 
 abbrev pub iff_row : ℕ → Formula → Formula → Formula → Option Clause
 iff_row r f a b =
     row_at r (
-      (IFF_TO_RIGHT, is_false f ∷ no_of a ∷ yes_of b ∷ []) ∷ (IFF_TO_LEFT, is_false f ∷ yes_of a ∷ no_of b ∷ [])
-      ∷ (IFF_FROM_NEITHER, is_true f ∷ yes_of a ∷ yes_of b ∷ []) ∷ (IFF_FROM_BOTH, is_true f ∷ no_of a ∷ no_of b ∷ []) ∷ []
+    (IFF_TO_RIGHT, is_false f ∷ no_of a ∷ yes_of b ∷ []) ∷ (IFF_TO_LEFT, is_false f ∷ yes_of a ∷ no_of b ∷ [])
+    ∷ (IFF_FROM_NEITHER, is_true f ∷ yes_of a ∷ yes_of b ∷ []) ∷ (IFF_FROM_BOTH, is_true f ∷ no_of a ∷ no_of b ∷ []) ∷ []
     )
 
 abbrev pub xor_row : ℕ → Formula → Formula → Formula → Option Clause
 xor_row r f a b =
     row_at r (
-      (XOR_TO_EITHER, is_false f ∷ yes_of a ∷ yes_of b ∷ []) ∷ (XOR_TO_NOT_BOTH, is_false f ∷ no_of a ∷ no_of b ∷ [])
-      ∷ (XOR_FROM_LEFT, is_true f ∷ no_of a ∷ yes_of b ∷ []) ∷ (XOR_FROM_RIGHT, is_true f ∷ yes_of a ∷ no_of b ∷ []) ∷ []
+    (XOR_TO_EITHER, is_false f ∷ yes_of a ∷ yes_of b ∷ []) ∷ (XOR_TO_NOT_BOTH, is_false f ∷ no_of a ∷ no_of b ∷ [])
+    ∷ (XOR_FROM_LEFT, is_true f ∷ no_of a ∷ yes_of b ∷ []) ∷ (XOR_FROM_RIGHT, is_true f ∷ yes_of a ∷ no_of b ∷ []) ∷ []
     )
 
 abbrev pub true_row : ℕ → Formula → Option Clause

@@ -36,13 +36,13 @@ abbrev pub EndsNeq : List Lit → List EqLine → ℕ → ℕ → Type 0
 EndsNeq hyps lines k i = (s : Term) × (t : Term) × Stated lines k (equal s t) × Given hyps i false (Eq s t)
 
 -- the form has no opaque term
-abbrev pub IsConstant : Linear → Type 0
-IsConstant f = (u : Term) → factor_of f u ≡ zero_ℚ
+abbrev pub IsNumber : Linear → Type 0
+IsNumber f = (u : Term) → factor_of f u ≡ zero_ℚ
 
 -- line k equates two terms of one numeric sort that differ by a number other than 0
 abbrev pub EndsConst : Signature → List EqLine → ℕ → Type 0
 EndsConst sig lines k =
-    (s : Term) × (t : Term) × Stated lines k (equal s t) × AreNumbers sig (equal s t) × IsConstant (gap (equal s t)) × ((gap (equal s t)).constant ≢ zero_ℚ)
+    (s : Term) × (t : Term) × Stated lines k (equal s t) × AreNumbers sig (equal s t) × IsNumber (gap (equal s t)) × ((gap (equal s t)).constant ≢ zero_ℚ)
 
 -- a constructor of an enumeration
 abbrev pub IsConstructor : Signature → Head → Type 0
@@ -70,7 +70,7 @@ CannotHold Below x = is_positive x ≡ false
 
 -- line k is an inequality of terms of one numeric sort that differ by a number, and is false
 abbrev pub EndsZero : Signature → List EqLine → ℕ → Type 0
-EndsZero sig lines k = (f : Fact) × Stated lines k f × AreNumbers sig f × IsConstant (gap f) × CannotHold f.relation (gap f).constant
+EndsZero sig lines k = (f : Fact) × Stated lines k f × AreNumbers sig f × IsNumber (gap f) × CannotHold f.relation (gap f).constant
 
 -- no integers for the opaque terms make the form 0: some opaque term occurs in it, and a common divisor of the factors doesn't divide the constant
 pub record HasNoSolution (f : Linear) : Type 0 where

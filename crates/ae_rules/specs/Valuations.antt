@@ -6,7 +6,7 @@ use Rattle.ae_rules.specs.Lines.{Fact, equal, at_most, below, fact_ok, gap, IsAc
 use Rattle.ae_math.specs.Fractions.{whole, zero_ℚ}
 use Rattle.ae_rules.specs.Linear.{factor_of}
 use Rattle.ae_rules.specs.Clauses.{Clause}
-use Rattle.ae_rules.specs.Derivations.{IsConstant, IsConstructor, CannotHold, HasNoSolution}
+use Rattle.ae_rules.specs.Derivations.{IsNumber, IsConstructor, CannotHold, HasNoSolution}
 use Rattle.ae_core.specs.declared.terms.Sort.{Sort, Int, Named}
 use Rattle.ae_core.specs.declared.terms.Term.{Term, Apply}
 use Rattle.ae_core.specs.declared.terms.Head.{Head}
@@ -39,27 +39,39 @@ Means ev le lt f =
     ]
 
 -- what is known of an earlier fact: it is `ok`, and what it says is so
-abbrev pub Stands : {V : Type 0} → (Fact → Bool) → (Term → V) → (V → V → Bool) → (V → V → Bool) → Fact → Type 0
-Stands ok ev le lt f = (ok f ≡ true) × Means ev le lt f
+abbrev pub IsEstablished : {V : Type 0} → (Fact → Bool) → (Term → V) → (V → V → Bool) → (V → V → Bool) → Fact → Type 0
+IsEstablished ok ev le lt f = (ok f ≡ true) × Means ev le lt f
 
--- the values respect each rule of lines: where it allows an `ok` fact after facts that stand, what that fact says is so
+-- the values respect each rule of lines: where it allows an `ok` fact after established facts, what that fact says is so
 pub record RespectsRules {V : Type 0} (sig : Signature) (ok : Fact → Bool) (ev : Term → V) (le lt : V → V → Bool) : Type 0 where
-  pub cong : (h : Head) (ss : List Sort) (us vs : List Term) → map ev us ≡ map ev vs → ok (equal (Apply h ss us) (Apply h ss vs)) ≡ true → ev (Apply h ss us) ≡ ev (Apply h ss vs)
-  pub ac : (h : Head) (ss : List Sort) (us vs : List Term) → IsAc sig h → IsPermutation (flat h ss (Apply h ss us)) (flat h ss (Apply h ss vs)) → ok (equal (Apply h ss us) (Apply h ss vs)) ≡ true → ev (Apply h ss us) ≡ ev (Apply h ss vs)
-  pub field : (n place : ℕ) (ss : List Sort) (args : List Term) (t : Term) → slice_get args place ≡ Some t → ok (equal (Apply (head.Field n place) ss (Apply (head.Build n) ss args ∷ [])) t) ≡ true
+  pub cong : (h : Head) (ss : List Sort) (us vs : List Term) → map ev us ≡ map ev vs → ok (equal (Apply h ss us) (Apply h ss vs)) ≡ true
+      → ev (Apply h ss us) ≡ ev (Apply h ss vs)
+  pub ac : (h : Head) (ss : List Sort) (us vs : List Term) → IsAc sig h
+      → IsPermutation (flat h ss (Apply h ss us)) (flat h ss (Apply h ss vs)) → ok (equal (Apply h ss us) (Apply h ss vs)) ≡ true
+      → ev (Apply h ss us) ≡ ev (Apply h ss vs)
+  pub field : (n place : ℕ) (ss : List Sort) (args : List Term) (t : Term) → slice_get args place ≡ Some t
+      → ok (equal (Apply (head.Field n place) ss (Apply (head.Build n) ss args ∷ [])) t) ≡ true
       → ev (Apply (head.Field n place) ss (Apply (head.Build n) ss args ∷ [])) ≡ ev t
-  pub fields : (s t : Term) (n : ℕ) (ss : List Sort) (e : TypeEntry) (fs : List FieldEntry) → slice_get sig.types n ≡ Some e → e.kind ≡ Fields fs → HaveSort sig (Named n ss) (equal s t)
+  pub fields : (s t : Term) (n : ℕ) (ss : List Sort) (e : TypeEntry) (fs : List FieldEntry) → slice_get sig.types n ≡ Some e
+      → e.kind ≡ Fields fs → HaveSort sig (Named n ss) (equal s t)
       → map ev (fields_from n ss s 0 (length fs)) ≡ map ev (fields_from n ss t 0 (length fs)) → ok (equal s t) ≡ true → ev s ≡ ev t
-  pub lin : (s t : Term) (d : ℤ) (fs : List (ℤ × Fact)) → d ≢ pos 0 → AllByRecursion IsEqual fs → SumsTo sig d (equal s t) fs → AllByRecursion (λ f. Stands ok ev le lt f.1) fs → ok (equal s t) ≡ true → ev s ≡ ev t
-  pub le_sum : (s t : Term) (d : ℤ) (fs : List (ℤ × Fact)) → pos 0 <ℤ d → AllByRecursion MayCount fs → SumsTo sig d (at_most s t) fs → AllByRecursion (λ f. Stands ok ev le lt f.1) fs → ok (at_most s t) ≡ true → le (ev s) (ev t) ≡ true
-  pub lt_sum : (s t : Term) (d : ℤ) (fs : List (ℤ × Fact)) → pos 0 <ℤ d → AllByRecursion MayCount fs → SomeBelow fs → SumsTo sig d (below s t) fs → AllByRecursion (λ f. Stands ok ev le lt f.1) fs → ok (below s t) ≡ true → lt (ev s) (ev t) ≡ true
-  pub round : (s t : Term) (from : Fact) → Rounds sig from s t → Stands ok ev le lt from → ok (at_most s t) ≡ true → le (ev s) (ev t) ≡ true
+  pub lin : (s t : Term) (d : ℤ) (fs : List (ℤ × Fact)) → d ≢ pos 0 → AllByRecursion IsEqual fs → SumsTo sig d (equal s t) fs
+      → AllByRecursion (λ f. IsEstablished ok ev le lt f.1) fs → ok (equal s t) ≡ true → ev s ≡ ev t
+  pub le_sum : (s t : Term) (d : ℤ) (fs : List (ℤ × Fact)) → pos 0 <ℤ d → AllByRecursion MayCount fs → SumsTo sig d (at_most s t) fs
+      → AllByRecursion (λ f. IsEstablished ok ev le lt f.1) fs → ok (at_most s t) ≡ true → le (ev s) (ev t) ≡ true
+  pub lt_sum : (s t : Term) (d : ℤ) (fs : List (ℤ × Fact)) → pos 0 <ℤ d → AllByRecursion MayCount fs → SomeBelow fs
+      → SumsTo sig d (below s t) fs → AllByRecursion (λ f. IsEstablished ok ev le lt f.1) fs → ok (below s t) ≡ true
+      → lt (ev s) (ev t) ≡ true
+  pub round : (s t : Term) (from : Fact) → Rounds sig from s t → IsEstablished ok ev le lt from → ok (at_most s t) ≡ true
+      → le (ev s) (ev t) ≡ true
 
 -- they respect the hypotheses too
 pub record Respects {V : Type 0} (sig : Signature) (ok : Fact → Bool) (hyps : Lit → Type 0) (ev : Term → V) (le lt : V → V → Bool) : Type 0 where
   pub hyp : (s t : Term) → hyps (record { positive = true; formula = Eq s t }) → ok (equal s t) ≡ true → ev s ≡ ev t
-  pub le_hyp : (s t : Term) → hyps (record { positive = true; formula = Le s t }) ⊎ hyps (record { positive = false; formula = Lt t s }) → ok (at_most s t) ≡ true → le (ev s) (ev t) ≡ true
-  pub lt_hyp : (s t : Term) → hyps (record { positive = true; formula = Lt s t }) ⊎ hyps (record { positive = false; formula = Le t s }) → ok (below s t) ≡ true → lt (ev s) (ev t) ≡ true
+  pub le_hyp : (s t : Term) → hyps (record { positive = true; formula = Le s t }) ⊎ hyps (record { positive = false; formula = Lt t s })
+      → ok (at_most s t) ≡ true → le (ev s) (ev t) ≡ true
+  pub lt_hyp : (s t : Term) → hyps (record { positive = true; formula = Lt s t }) ⊎ hyps (record { positive = false; formula = Le t s })
+      → ok (below s t) ≡ true → lt (ev s) (ev t) ≡ true
   pub rules : RespectsRules sig ok ev le lt
 
 -- ---- truth of formulas and values of terms that agree, and respect each rule of lines and each ending
@@ -73,13 +85,14 @@ pub record IsModel {V : Type 0} (sig : Signature) (v : Formula → Bool) (ev : T
   pub total : (s t : Term) → fact_ok sig (at_most s t) ≡ true → lt (ev t) (ev s) ≡ not (le (ev s) (ev t))
   pub rules : RespectsRules sig (fact_ok sig) ev le lt
   -- terms that differ by a number other than 0 have different values
-  pub const : (s t : Term) → AreNumbers sig (equal s t) → IsConstant (gap (equal s t)) → (gap (equal s t)).constant ≢ zero_ℚ → ev s ≢ ev t
+  pub const : (s t : Term) → AreNumbers sig (equal s t) → IsNumber (gap (equal s t)) → (gap (equal s t)).constant ≢ zero_ℚ → ev s ≢ ev t
   -- so have different constructors
-  pub clash : (h i : Head) → fact_ok sig (equal (Apply h [] []) (Apply i [] [])) ≡ true → IsConstructor sig h → IsConstructor sig i → h ≢ i → ev (Apply h [] []) ≢ ev (Apply i [] [])
+  pub clash : (h i : Head) → fact_ok sig (equal (Apply h [] []) (Apply i [] [])) ≡ true → IsConstructor sig h → IsConstructor sig i
+      → h ≢ i → ev (Apply h [] []) ≢ ev (Apply i [] [])
   -- a predicate is true or false of values
   pub pred : (p : ℕ) (ss : List Sort) (us ws : List Term) → map ev us ≡ map ev ws → v (Pred p ss us) ≡ v (Pred p ss ws)
   -- what can't hold between terms that differ by a number isn't so
-  pub zero : (f : Fact) → AreNumbers sig f → IsConstant (gap f) → CannotHold f.relation (gap f).constant → ¬ (Means ev le lt f)
+  pub zero : (f : Fact) → AreNumbers sig f → IsNumber (gap f) → CannotHold f.relation (gap f).constant → ¬ (Means ev le lt f)
   -- an equation of integers without a solution isn't so
   pub gcd : (s t : Term) → HaveSort sig Int (equal s t) → HasNoSolution (gap (equal s t)) → ev s ≢ ev t
 

@@ -12,9 +12,9 @@ use Rattle.ae_types.specs.declared.graph.Class.{Class}
 use Rattle.ae_types.specs.declared.graph.Class.TheVariants as class
 use Rattle.ae_types.specs.declared.cycles.Frame.{Frame}
 use Rattle.ae_types.specs.Clashes.{Follows, reflexive, transitive, IsPair, IsClash, OccursWithin, count_of, total}
-use Rattle.ae_types.specs.Graphs.{Slot, Free, Link, Plain, Built, Same, Fits, GraphWell, ClassWell, IsDown, known_slot, node_at, class_at, slot_at, slots_of, slot_of, origin, variable_of, is_variable}
-use Rattle.ae_types.specs.Joins.{Follow}
-use Rattle.ae_types.specs.Walks.{refs, frame_at, Leads, wrapped, begin, HaveParts, RunsTo, Wraps, IsBuilt, IsCycle}
+use Rattle.ae_types.specs.Inner.Graphs.{Slot, Free, Link, Plain, Built, Same, Fits, GraphWell, ClassWell, IsDown, known_slot, node_at, class_at, slot_at, slots_of, slot_of, origin, variable_of, is_variable}
+use Rattle.ae_types.specs.Inner.Joins.{Follow}
+use Rattle.ae_types.specs.Inner.Walks.{refs, frame_at, Leads, wrapped, begin, HaveParts, RunsTo, Wraps, IsBuilt, IsCycle}
 use Rattle.ae_types.proofs.SortLaws.{count_named, count_own, named_not_var}
 use Rattle.ae_types.proofs.FollowLaws.{same_refl, same_named, SameAll}
 use Rattle.ae_types.proofs.GraphLaws.{origin_variable, slots_length, slot_at_class}

@@ -12,9 +12,10 @@ use Rattle.ae_types.specs.declared.graph.Node.TheVariants as node
 use Rattle.ae_types.specs.declared.graph.Class.{Class}
 use Rattle.ae_types.specs.declared.graph.Class.TheVariants as class
 use Rattle.ae_types.specs.declared.joins.Pair.{Pair}
-use Rattle.ae_types.specs.Graphs.{node_at, class_at, GraphWell, ClassWell, NodesWell, IsDown, is_variable, origin, node_sort, constant_sort}
-use Rattle.ae_types.specs.Enters.{Sheet, Adds, Grows, SheetWell, NamesWell, StandsFor, AllStand, PairsStand, place_of, nothing}
+use Rattle.ae_types.specs.Inner.Graphs.{node_at, class_at, GraphWell, ClassWell, NodesWell, IsDown, is_variable, origin, node_sort, constant_sort}
+use Rattle.ae_types.specs.Inner.Enters.{Sheet, Adds, Grows, SheetWell, NamesWell, StandsFor, AllStand, PairsStand, place_of, nothing}
 use Rattle.ae_types.proofs.GraphLaws.{maps_same, origin_step, origin_variable, origin_constant, origin_built}
+use Rattle.std.proofs.lemmas.Bool.{cases_lt}
 
 -- elements of a longer list
 pub at_before : {A : Type 0} (xs ys : List A) (i : ℕ) (d : A) → i < length xs → get_or (xs ++ ys) i d ≡ get_or xs i d
@@ -61,13 +62,8 @@ grows_trans a b c p q = record {
   fresh = λ i h k. fresh i h k;
 }
   where
-    pick : (i n : ℕ) → (i < n) ⊎ (n ≤ i)
-    pick i zero = inr (omega arith)
-    pick zero (suc n) = inl (omega arith)
-    pick (suc i) (suc n) = elim (pick i n) [ inl x ↦ inl (omega arith) | inr x ↦ inr (omega arith) ]
-
     fresh : (i : ℕ) → length a.nodes ≤ i → i < length c.nodes → class_at c.classes i ≡ class.Known i
-    fresh i h k = elim (pick i (length b.nodes)) [ inl x ↦ q.classes i x ∙ p.fresh i h x | inr x ↦ q.fresh i x k ]
+    fresh i h k = elim (cases_lt i (length b.nodes)) [ inl x ↦ q.classes i x ∙ p.fresh i h x | inr x ↦ q.fresh i x k ]
 
 node_grows : (old new : List Node) (i : ℕ) (n : Node) → IsDown i n → ((j : ℕ) → j < i → origin new j ≡ origin old j) → node_sort (origin new) n ≡ node_sort (origin old) n
 node_grows old new i (node.Variable x) d ih = refl

@@ -7,7 +7,7 @@ use Rattle.ae_types.specs.declared.pairs.Clash.{Clash}
 use Rattle.ae_types.specs.declared.pairs.Clash.TheVariants.{Differ, Cycle, Memory}
 use Rattle.ae_types.specs.Substitutions.{put, MakesEqual}
 use Rattle.ae_types.specs.Clashes.{Follows, is_given, reflexive, symmetric, transitive, congruent, injective, IsClash, Refutes, OccursWithin, AreApart, head_of, IsPair}
-use Rattle.ae_types.specs.Graphs.{Same}
+use Rattle.ae_types.specs.Inner.Graphs.{Same}
 use Rattle.ae_types.proofs.SortLaws.{put_named, named_parts, put_var, within_larger, size}
 
 pub same_refl : (e : Option (List SortPair)) (s : Sort) → Same e s s

@@ -1,7 +1,7 @@
 -- Laws of graphs: the sorts that places were entered for, and what the code reads.
 use Rattle.std.proofs.Common.{◌≡◌, ◌≢◌, ℕ, zero, suc, ◌+◌, ◌-◌, ◌<◌, ◌≤◌, ◌⊎◌, inl, inr, List, [], ◌∷◌, ◌++◌, map, take, length, get_or, refl, ap, sym, ◌∙◌, subst, arith, length-set, get_or-set_other, get_or-set_same, Bool, true, false, Option, Some, None, slice_set}
 use Rattle.std.proofs.Math.ListN.{set}
-use Rattle.std.proofs.lemmas.List.{take_all, length-map, get_or-map, map-set}
+use Rattle.std.proofs.lemmas.List.{take_all, length-map, get_or-map, map-set, get_or_default}
 use Rattle.ae_core.specs.declared.terms.Sort.{Sort, Var, Named, Unit as UnitSort}
 use Rattle.ae_types.specs.declared.graph.Constant.{Constant}
 use Rattle.ae_types.specs.declared.graph.Constant.TheVariants as constant
@@ -10,21 +10,15 @@ use Rattle.ae_types.specs.declared.graph.Node.TheVariants as node
 use Rattle.ae_types.specs.declared.graph.Class.{Class}
 use Rattle.ae_types.specs.declared.graph.Class.TheVariants as class
 use Rattle.ae_types.specs.declared.graph.Change.{Change}
-use Rattle.ae_types.specs.Graphs.{Slot, Free, Link, Plain, Built, slot_at, class_at, node_at, slots_of, slot_of, known_slot, value, from_slot, constant_sort, node_sort, origin_in, origin, IsDown, NodesWell, GraphWell, ClassWell, Well, SlotWell, rewound, is_variable, variable_of, unknown, IsFree}
+use Rattle.ae_types.specs.Inner.Graphs.{Slot, Free, Link, Plain, Built, slot_at, class_at, node_at, slots_of, slot_of, known_slot, value, from_slot, constant_sort, node_sort, origin_in, origin, IsDown, NodesWell, GraphWell, ClassWell, Well, SlotWell, rewound, is_variable, variable_of, unknown, IsFree}
 
 pub maps_same : (f g : ℕ → Sort) (xs : List ℕ) → ((k : ℕ) → k < length xs → f (get_or xs k 0) ≡ g (get_or xs k 0)) → map f xs ≡ map g xs
 maps_same f g [] h = refl
 maps_same f g (x ∷ xs) h = ap (λ s. s ∷ map f xs) (h 0 (omega arith)) ∙ ap (λ ss. g x ∷ ss) (maps_same f g xs (λ k w. h (suc k) (omega arith)))
 
 -- ---- what the code read
--- an element is the same whatever is asked for past the end
-pub any_default : {A : Type 0} (xs : List A) (i : ℕ) (a b : A) → i < length xs → get_or xs i a ≡ get_or xs i b
-any_default [] i a b h = absurd (omega arith)
-any_default (s ∷ ss) zero a b h = refl
-any_default (s ∷ ss) (suc i) a b h = any_default ss i a b (omega arith)
-
 pub read_at : {A : Type 0} (xs : List A) (i : ℕ) (d x : A) → i < length xs → x ≡ get_or xs i x → get_or xs i d ≡ x
-read_at xs i d x h e = any_default xs i d x h ∙ sym e
+read_at xs i d x h e = get_or_default xs i d x h ∙ sym e
 
 pub all_mapped : (f : ℕ → Sort) (ss : List Sort) (n : ℕ) (items args : List ℕ) → ss ≡ map f (take n items) → items ≡ args → length items ≤ n → ss ≡ map f args
 all_mapped f ss n items args h e k = h ∙ ap (map f) (take_all n items k ∙ e)
@@ -119,8 +113,3 @@ set_back (x ∷ xs) (suc i) a b d h e = ap (λ ys. x ∷ ys) (set_back xs i a b 
 pub rewound_last : (classes : List Class) (cs : List Change) (c : Change) → rewound classes (cs ++ c ∷ []) ≡ rewound (set classes c.place c.class) cs
 rewound_last classes [] c = refl
 rewound_last classes (d ∷ cs) c = ap (λ x. set x d.place d.class) (rewound_last classes cs c)
-
-pub set_past : {A : Type 0} (xs : List A) (i : ℕ) (a : A) → length xs ≤ i → set xs i a ≡ xs
-set_past [] i a h = refl
-set_past (x ∷ xs) zero a h = absurd (omega arith)
-set_past (x ∷ xs) (suc i) a h = ap (λ ys. x ∷ ys) (set_past xs i a (omega arith))

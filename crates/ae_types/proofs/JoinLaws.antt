@@ -13,8 +13,8 @@ use Rattle.ae_types.specs.declared.graph.Class.TheVariants as class
 use Rattle.ae_types.specs.declared.graph.Root.{Root}
 use Rattle.ae_types.specs.declared.joins.Pair.{Pair}
 use Rattle.ae_types.specs.Clashes.{IsClash, IsPair, AreApart, head_of}
-use Rattle.ae_types.specs.Graphs.{Slot, Free, Link, Plain, Built, Same, Solves, Well, SlotWell, IsRoot, slot_at, constant_sort, Fits, GraphWell, ClassWell, NodesWell, class_at, slots_of, slot_of, known_slot, node_at, origin, is_variable, IsDown, node_sort}
-use Rattle.ae_types.specs.Joins.{pairs_of, Equates, PairsWell, Compatible, demands, kept, joined, weight, arity, United, Stepped, Closing, Blames, DiffersAt, LinksDown, Shortened, Finds, Follow}
+use Rattle.ae_types.specs.Inner.Graphs.{Slot, Free, Link, Plain, Built, Same, Solves, Well, SlotWell, IsRoot, slot_at, constant_sort, Fits, GraphWell, ClassWell, NodesWell, class_at, slots_of, slot_of, known_slot, node_at, origin, is_variable, IsDown, node_sort}
+use Rattle.ae_types.specs.Inner.Joins.{pairs_of, Equates, PairsWell, Compatible, demands, kept, joined, weight, arity, United, Stepped, Closing, Blames, DiffersAt, LinksDown, Shortened, Finds, Follow}
 use Rattle.ae_types.proofs.SortLaws.{named_parts, constant_not_named, constant_parts, constant_not_var, named_not_var, head_named, head_constant}
 use Rattle.ae_types.proofs.FollowLaws.{same_refl, same_eq, same_sym, same_trans, same_named, same_parts, SameAll}
 use Rattle.ae_types.proofs.GraphLaws.{slots_length, slot_at_class, slots_set, graph_slots, link_down, known_well, origin_step}
@@ -497,10 +497,6 @@ module _ (nodes : List Node) (old mid low new : List Class) (todo after : List P
 pub on_ok : (r : Result (Unit {0}) Clash) (P Q : Type 0) → (P → Q) → OnOk r P → OnOk r Q
 on_ok (Ok u) P Q f h = f h
 on_ok (Err e) P Q f h = h
-
-pub if_err : (r : Result (Unit {0}) Clash) (P Q : Clash → Type 0) → ((e : Clash) → P e → Q e) → IfErr r P → IfErr r Q
-if_err (Ok u) P Q f h = h
-if_err (Err e) P Q f h = f e h
 
 -- links were shortened at the end
 pub closing_shortened : (nodes : List Node) (old mid new : List Class) (todo after : List Pair) → Closing nodes old mid todo after → Shortened mid new → Closing nodes old new todo after

@@ -8,8 +8,8 @@ use Rattle.ae_types.specs.declared.graph.Class.{Class}
 use Rattle.ae_types.specs.declared.graph.Class.TheVariants as class
 use Rattle.ae_types.specs.declared.graph.Root.{Root}
 use Rattle.ae_types.specs.declared.graph.Change.{Change}
-use Rattle.ae_types.specs.Graphs.{Slot, Free, Link, Plain, Built, Same, Solves, Fits, slot_at, class_at, node_at, slots_of, slot_of, known_slot, GraphWell, ClassWell, is_variable, rewound}
-use Rattle.ae_types.specs.Joins.{LinksDown, Shortened, joined, kept, weight, arity}
+use Rattle.ae_types.specs.Inner.Graphs.{Slot, Free, Link, Plain, Built, Same, Solves, Fits, slot_at, class_at, node_at, slots_of, slot_of, known_slot, GraphWell, ClassWell, is_variable, rewound}
+use Rattle.ae_types.specs.Inner.Joins.{LinksDown, Shortened, joined, kept, weight, arity}
 use Rattle.ae_types.proofs.FollowLaws.{same_sym, same_trans}
 use Rattle.ae_types.proofs.GraphLaws.{slots_length, slot_at_class, slots_set, known_well, set_back, rewound_last}
 use Rattle.ae_types.proofs.JoinLaws.{same_or_not, weight_set, root_slot}

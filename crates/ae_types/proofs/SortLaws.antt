@@ -2,7 +2,7 @@
 use Rattle.std.proofs.Common.{◌≡◌, ◌≢◌, ℕ, zero, suc, ◌+◌, ◌<◌, ◌≤◌, List, [], ◌∷◌, ◌++◌, map, length, get_or, refl, ap, sym, ◌∙◌, subst, arith, nat_eq, if◌then◌else◌}
 use Rattle.std.proofs.lemmas.Bool.Decides.{nat_tests}
 use Rattle.std.specs.List.{AllByRecursion}
-use Rattle.ae_core.specs.Induction.{by_sorts}
+use Rattle.ae_core.specs.Inner.Induction.{by_sorts}
 use Rattle.ae_core.specs.declared.terms.Sort.{Sort, Sort-F, Var, Rigid, Int, Real, Bool as BoolSort, Unit as UnitSort, Named, fold-Sort, fold-roll-Sort, out-Sort}
 use Rattle.ae_core.specs.declared.terms.Sort.TheOpen as layer
 use Rattle.ae_core.specs.declared.terms.Sort.TheVariants.{rolls-Named, rolls-Var, rolls-Rigid, rolls-Int, rolls-Real, rolls-Bool, rolls-Unit, outs-Named}
@@ -10,7 +10,7 @@ use Rattle.ae_types.specs.declared.graph.Constant.{Constant}
 use Rattle.ae_types.specs.declared.graph.Constant.TheVariants as constant
 use Rattle.ae_types.specs.Substitutions.{put, put_step}
 use Rattle.ae_types.specs.Clashes.{total, count_of, count_step, head_of, head_step}
-use Rattle.ae_types.specs.Graphs.{constant_sort}
+use Rattle.ae_types.specs.Inner.Graphs.{constant_sort}
 
 pub put_named : (f : ℕ → Sort) (h : ℕ) (args : List Sort) → put f (Named h args) ≡ Named h (map (put f) args)
 unfolding put

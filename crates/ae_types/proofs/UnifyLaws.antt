@@ -1,7 +1,7 @@
 -- From graphs to substitutions and unifiers.
 use Rattle.std.proofs.Common.{◌≡◌, ◌≢◌, ℕ, zero, suc, ◌+◌, ◌-◌, ◌<◌, ◌≤◌, ◌⊎◌, inl, inr, true, false, List, [], ◌∷◌, ◌++◌, map, length, get_or, refl, ap, sym, ◌∙◌, subst, arith, length-append, Option, Some, None, Result, Ok, Err, OnErr, IfErr}
 use Rattle.std.specs.List.{AllByRecursion}
-use Rattle.ae_core.specs.Induction.{by_sorts}
+use Rattle.ae_core.specs.Inner.Induction.{by_sorts}
 use Rattle.ae_core.specs.declared.terms.Sort.{Sort, Var, Rigid, Int, Real, Bool as BoolSort, Unit as UnitSort, Named}
 use Rattle.ae_types.specs.declared.pairs.SortPair.{SortPair}
 use Rattle.ae_types.specs.declared.pairs.Clash.{Clash}
@@ -13,16 +13,17 @@ use Rattle.ae_types.specs.declared.graph.Class.TheVariants as class
 use Rattle.ae_types.specs.declared.joins.Pair.{Pair}
 use Rattle.ae_types.specs.Substitutions.{put, MakesEqual, Unifies, Respects, IsIdempotent, IsMoreGeneral}
 use Rattle.ae_types.specs.Clashes.{Follows, is_given, reflexive, symmetric, transitive, IsPair, IsClash, Refutes, AreApart, OccursWithin, head_of}
-use Rattle.ae_types.specs.Graphs.{Slot, Free, Link, Plain, Built, Same, Solves, Fits, SlotWell, Well, IsFree, GraphWell, ClassWell, NodesWell, IsDown, known_slot, node_at, node_sort, class_at, slot_at, slots_of, slot_of, origin, unknown, value, solution, variable_of, is_variable}
-use Rattle.ae_types.specs.Levels.{Settled, Above}
-use Rattle.ae_types.specs.Enters.{Sheet, SheetWell, NamesWell, Grows, StandsFor, PairsStand, place_of, nothing}
-use Rattle.ae_types.specs.Joins.{Equates, PairsWell, Closing, Blames, Follow}
+use Rattle.ae_types.specs.Inner.Graphs.{Slot, Free, Link, Plain, Built, Same, Solves, Fits, SlotWell, Well, IsFree, GraphWell, ClassWell, NodesWell, IsDown, known_slot, node_at, node_sort, class_at, slot_at, slots_of, slot_of, origin, unknown, value, solution, variable_of, is_variable}
+use Rattle.ae_types.specs.Inner.Levels.{Settled, Above}
+use Rattle.ae_types.specs.Inner.Enters.{Sheet, SheetWell, NamesWell, Grows, StandsFor, PairsStand, place_of, nothing}
+use Rattle.ae_types.specs.Inner.Joins.{Equates, PairsWell, Closing, Blames, Follow}
 use Rattle.ae_types.specs.Bound.{reads, reading, solved_by, IsSound, bound, IsGiven}
 use Rattle.ae_types.proofs.SortLaws.{put_named, put_var, put_constant, put_put, put_own, put_rigid, put_int, put_real, put_bool, put_unit, head_named, within_larger, size, named_not_var}
 use Rattle.ae_types.proofs.GraphLaws.{maps_same, origin_step, origin_variable, slots_length, slot_at_class, graph_slots, value_free}
 use Rattle.ae_types.proofs.FollowLaws.{same_refl, same_eq, same_sym, same_trans, same_named, SameAll, follows_holds, follows_more}
 use Rattle.ae_types.proofs.EnterLaws.{at_before, origin_grows}
 use Rattle.ae_types.proofs.LevelLaws.{map_put, settled_solves, general}
+use Rattle.std.proofs.lemmas.Bool.{cases_lt}
 
 -- ---- solutions
 fits_agree : (v u : ℕ → Sort) (n i : ℕ) (s : Slot) (x y : Sort) → i < n → SlotWell n i s → ((j : ℕ) → j < n → v j ≡ u j) → x ≡ y → Fits None v s x → Fits None u s y
@@ -139,11 +140,6 @@ module _ (t : Sheet) (z : IsSound t) where
       (solves_agree here (instance_at (bound t) t.nodes) slots slots_well (λ j a. sym (here_is j (omega (arith, count)))) here_solves)
 
 -- ---- growing
-pick : (i n : ℕ) → (i < n) ⊎ (n ≤ i)
-pick i zero = inr (omega arith)
-pick zero (suc n) = inl (omega arith)
-pick (suc i) (suc n) = elim (pick i n) [ inl x ↦ inl (omega arith) | inr x ↦ inr (omega arith) ]
-
 abbrev ups : ℕ → ℕ → List ℕ
 ups a zero = []
 ups a (suc k) = a ∷ ups (a + 1) k
@@ -199,7 +195,7 @@ module _ (old new : Sheet) (z : IsSound old) (g : Grows old new) where
       ap (λ j. get_or grown_levels j 0) e ∙ after z.settled.levels _ (i - length old.nodes) ∙ (let q : get_or (ups (length old.nodes + 1) (length new.nodes - length old.nodes)) (i - length old.nodes) 0 ≡ i + 1 = omega arith in q)
 
   level_low : (i : ℕ) → i < length new.nodes → (0 < get_or grown_levels i 0) × (get_or grown_levels i 0 ≤ i + 1 + length old.nodes)
-  level_low i a = elim (pick i (length old.nodes)) [
+  level_low i a = elim (cases_lt i (length old.nodes)) [
     | inl b ↦
         let e = level_kept i b in
         let d = old_count in
@@ -210,7 +206,7 @@ module _ (old new : Sheet) (z : IsSound old) (g : Grows old new) where
   ]
 
   level_under : (i j : ℕ) → length old.nodes ≤ i → j < i → i < length new.nodes → (0 < get_or grown_levels j 0) × (get_or grown_levels j 0 < i + 1)
-  level_under i j a b c = elim (pick j (length old.nodes)) [
+  level_under i j a b c = elim (cases_lt j (length old.nodes)) [
     | inl y ↦
         let e = level_kept j y in
         let d = old_count in
@@ -243,7 +239,7 @@ module _ (old new : Sheet) (z : IsSound old) (g : Grows old new) where
         levels = grown_levels;
         count = omega arith;
         above = record {
-          each = λ i a h. elim (pick i (length old.nodes)) [
+          each = λ i a h. elim (cases_lt i (length old.nodes)) [
             | inl b ↦
                 let k = level_kept i b in
                 let p = z.settled.all i (omega arith) in
@@ -277,7 +273,7 @@ module _ (old new : Sheet) (z : IsSound old) (g : Grows old new) where
   grown_sound = record {
     well = g.well;
     settled = grown_settled;
-    keeps = λ v s i a. elim (pick i (length old.nodes)) [
+    keeps = λ v s i a. elim (cases_lt i (length old.nodes)) [
       | inl b ↦ subst (λ n. Fits None v (known_slot n) (v i)) (sym (g.nodes i b)) (z.keeps v (old_solves v s) i b)
       | inr b ↦ subst (λ x. Fits None v x (v i)) (slot_fresh i b a) (s.each i (let e = new_count in omega arith))
     ];
@@ -302,7 +298,7 @@ module _ (old new : Sheet) (z : IsSound old) (g : Grows old new) where
   bound_case n None None a b = refl
   bound_case n None (Some p) a b =
       let s = g.well.named.stands n p b in
-      elim (pick p (length old.nodes)) [
+      elim (cases_lt p (length old.nodes)) [
         | inl y ↦ absurd (let q = z.well.named.each p n y (sym (g.nodes p y) ∙ s.1) in let x : None ≡ Some p = sym a ∙ q in cc)
         | inr y ↦ value_free (unknown new.nodes) (length new.classes) (slots_of new.nodes new.classes) p (slot_fresh p y s.0 ∙ ap known_slot s.1) ∙ ap (λ m. Var (variable_of m)) s.1
       ]
@@ -545,10 +541,6 @@ unified_blames t g todo qs h clash b = b qs (fresh_follow t qs g) (pairs_given t
 pub on_err : (r : Result (Unit {0}) Clash) (P : Type 0) → P → OnErr r P
 on_err (Ok u) P h = tt
 on_err (Err e) P h = h
-
-pub if_err_more : (r : Result (Unit {0}) Clash) (P Q : Clash → Type 0) → ((e : Clash) → P e → Q e) → IfErr r P → IfErr r Q
-if_err_more (Ok u) P Q f h = h
-if_err_more (Err e) P Q f h = f e h
 
 pub sheets_same : (t u : Sheet) → u.nodes ≡ t.nodes → u.names ≡ t.names → (let x : Sheet = record { nodes = t.nodes; classes = u.classes; names = t.names } in x) ≡ u
 sheets_same t u a b = λ i. record { nodes = (sym a) i; classes = u.classes; names = (sym b) i }

@@ -5,9 +5,9 @@ use Rattle.ae_types.specs.declared.cycles.Mark.{Mark}
 use Rattle.ae_types.specs.declared.cycles.Mark.TheVariants.{New, Open, Done}
 use Rattle.ae_types.specs.declared.cycles.Frame.{Frame}
 use Rattle.ae_types.specs.declared.cycles.Walk.{Walk}
-use Rattle.ae_types.specs.Graphs.{Slot, Free, Link, Plain, Built, slot_at, SlotWell, Well}
-use Rattle.ae_types.specs.Levels.{Levelled, Ready, IsReady, Settled, empties}
-use Rattle.ae_types.specs.Walks.{refs, level_of, levels, mark_at, frame_at, FrameWell, Leads, Walking, left_of, left_new, left_open, left, IsFresh, Opens, KeepsSeen, Descends, IsCycle}
+use Rattle.ae_types.specs.Inner.Graphs.{Slot, Free, Link, Plain, Built, slot_at, SlotWell, Well}
+use Rattle.ae_types.specs.Inner.Levels.{Levelled, Ready, IsReady, Settled, empties}
+use Rattle.ae_types.specs.Inner.Walks.{refs, level_of, levels, mark_at, frame_at, FrameWell, Leads, Walking, left_of, left_new, left_open, left, IsFresh, Opens, KeepsSeen, Descends, IsCycle}
 use Rattle.ae_types.proofs.EnterLaws.{at_before, at_end, inside}
 use Rattle.ae_types.proofs.JoinLaws.{same_or_not}
 use Rattle.ae_types.proofs.LevelLaws.{empties_set, empties_found, keeps, levelled_set}

@@ -1,9 +1,9 @@
 -- What bindings put for variables.
 use Rattle.std.specs.Prelude.{ℕ, ◌<◌, length, List, ◌≡◌, ◌⊎◌, Option, Some, None}
 use Rattle.ae_core.specs.declared.terms.Sort.{Sort, Var}
-use Rattle.ae_types.specs.Graphs.{Solves, Fits, known_slot, node_at, slots_of, solution}
-use Rattle.ae_types.specs.Levels.{Settled}
-use Rattle.ae_types.specs.Enters.{Sheet, SheetWell, place_of}
+use Rattle.ae_types.specs.Inner.Graphs.{Solves, Fits, known_slot, node_at, slots_of, solution}
+use Rattle.ae_types.specs.Inner.Levels.{Settled}
+use Rattle.ae_types.specs.Inner.Enters.{Sheet, SheetWell, place_of}
 
 -- the sort of a variable, from the sorts of places and its own place
 abbrev pub reads : (ℕ → Sort) → ℕ → Option ℕ → Sort

@@ -4,10 +4,10 @@ ghost use Rattle.std.specs.Prelude.{◌≡◌, ℕ, ◌↔◌, ◌<◌, [], ◌�
 ghost use Rattle.ae_core.specs.declared.terms.Sort.{Sort, Var};
 ghost use Rattle.ae_types.specs.Bound.{bound, IsGiven, IsSound};
 ghost use Rattle.ae_types.specs.Clashes.{IsClash, IsPair, Refutes};
-ghost use Rattle.ae_types.specs.Enters.{SheetWell, sheet, nothing};
-ghost use Rattle.ae_types.specs.Graphs.{GraphWell, rewound, slots_of};
-ghost use Rattle.ae_types.specs.Joins.{Blames, Closed, PairsWell};
-ghost use Rattle.ae_types.specs.Levels.{Settled};
+ghost use Rattle.ae_types.specs.Inner.Enters.{SheetWell, sheet, nothing};
+ghost use Rattle.ae_types.specs.Inner.Graphs.{GraphWell, rewound, slots_of};
+ghost use Rattle.ae_types.specs.Inner.Joins.{Blames, Closed, PairsWell};
+ghost use Rattle.ae_types.specs.Inner.Levels.{Settled};
 ghost use Rattle.ae_types.specs.Substitutions.{put, MakesEqual, Unifies, IsMoreGeneral, IsIdempotent, Respects};
 
 use crate::cycles::settle;
@@ -145,7 +145,7 @@ pub struct Bindings {
 }
 
 impl Model for Bindings {
-    ghost use Rattle.ae_types.specs.Enters.{Sheet, sheet};
+    ghost use Rattle.ae_types.specs.Inner.Enters.{Sheet, sheet};
     ghost use Rattle.ae_types.specs.Bound.{IsSound};
 
     ghost Value = { Sheet };

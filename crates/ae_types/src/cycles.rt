@@ -1,12 +1,12 @@
 //! Whether a graph has a solution: it has none exactly where the sort of some place is made of itself.
 
 ghost use Rattle.std.specs.Prelude.{◌≡◌, ℕ, ◌+◌, ◌<◌, [], ◌≤◌, ◌≢◌, ◌^◌, length, map, slice_get, slice_index, IfOk, IfErr, IsSome, OnOk};
-ghost use Rattle.ae_types.specs.Graphs.{GraphWell, NodesWell, origin, slot_at, slot_of, slots_of};
-ghost use Rattle.ae_types.specs.Joins.{Blames};
-ghost use Rattle.ae_types.specs.Levels.{Settled};
+ghost use Rattle.ae_types.specs.Inner.Graphs.{GraphWell, NodesWell, origin, slot_at, slot_of, slots_of};
+ghost use Rattle.ae_types.specs.Inner.Joins.{Blames};
+ghost use Rattle.ae_types.specs.Inner.Levels.{Settled};
 ghost use Rattle.ae_core.specs.declared.terms.Sort.{Sort, Var};
 ghost use Rattle.ae_types.specs.declared.graph.Class.TheVariants.{Known};
-ghost use Rattle.ae_types.specs.Walks.{refs, mark_at, frame_at, wrapped, begin, Walking, IsFresh, Opens, Descends, IsCycle, HaveParts, RunsTo, Wraps, IsBuilt};
+ghost use Rattle.ae_types.specs.Inner.Walks.{refs, mark_at, frame_at, wrapped, begin, Walking, IsFresh, Opens, Descends, IsCycle, HaveParts, RunsTo, Wraps, IsBuilt};
 
 use crate::graph::{Class, Node, original, variable_of};
 use crate::pairs::Clash;

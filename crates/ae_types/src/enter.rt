@@ -1,8 +1,8 @@
 //! Entering sorts into a graph.
 
 ghost use Rattle.std.specs.Prelude.{◌≡◌, ℕ, ◌+◌, ◌<◌, ◌≤◌, [], length, IfOk, OnOk, OnErr};
-ghost use Rattle.ae_types.specs.Enters.{Adds, Grows, SheetWell, StandsFor, PairsStand, place_of, sheet};
-ghost use Rattle.ae_types.specs.Graphs.{constant_sort};
+ghost use Rattle.ae_types.specs.Inner.Enters.{Adds, Grows, SheetWell, StandsFor, PairsStand, place_of, sheet};
+ghost use Rattle.ae_types.specs.Inner.Graphs.{constant_sort};
 ghost use Rattle.ae_core.specs.declared.terms.Sort.{Var};
 
 use crate::graph::{Class, Constant, Graph, Node, find_place};

@@ -3,9 +3,9 @@
 ghost use Rattle.std.specs.Prelude.{◌≡◌, ℕ, ◌+◌, ◌<◌, ◌++◌, [], ◌∷◌, length, IfOk, OnOk, OnErr, slice_set};
 ghost use Rattle.std.specs.BTreeMap.{get};
 ghost use Rattle.std.specs.Ordering.{nat_cmp};
-ghost use Rattle.ae_types.specs.Graphs.{GraphWell, NodesWell, class_at, node_at, origin, rewound, slots_of, unknown, value};
-ghost use Rattle.ae_types.specs.Graphs as spec;
-ghost use Rattle.ae_types.specs.Joins.{LinksDown, Shortened, Finds};
+ghost use Rattle.ae_types.specs.Inner.Graphs.{GraphWell, NodesWell, class_at, node_at, origin, rewound, slots_of, unknown, value};
+ghost use Rattle.ae_types.specs.Inner.Graphs as spec;
+ghost use Rattle.ae_types.specs.Inner.Joins.{LinksDown, Shortened, Finds};
 ghost use Rattle.ae_types.specs.declared.graph.Class.TheVariants.{Link, Known};
 
 use ae_core::lists::List;

@@ -1,8 +1,8 @@
 //! Joining places: each pair of places is made one, with all that it takes.
 
 ghost use Rattle.std.specs.Prelude.{◌≡◌, ℕ, ◌+◌, ◌<◌, ◌++◌, length, IfOk, IfErr, OnOk, MatchBool, [], ◌∷◌, IsTrue, true, false};
-ghost use Rattle.ae_types.specs.Graphs.{GraphWell, NodesWell, class_at, is_variable, node_at, known_slot, rewound, slots_of};
-ghost use Rattle.ae_types.specs.Joins.{pairs_of, demands, joined, Compatible, PairsWell, DiffersAt, Blames, United, Stepped, Closed};
+ghost use Rattle.ae_types.specs.Inner.Graphs.{GraphWell, NodesWell, class_at, is_variable, node_at, known_slot, rewound, slots_of};
+ghost use Rattle.ae_types.specs.Inner.Joins.{pairs_of, demands, joined, Compatible, PairsWell, DiffersAt, Blames, United, Stepped, Closed};
 ghost use Rattle.ae_types.specs.declared.graph.Class.TheVariants.{Known};
 
 use crate::graph::{Change, Class, Node, Root, find, flatten, original, write};

@@ -1,9 +1,11 @@
 -- Each closed sort has a value, a tree where it is a thing.
-use Rattle.std.specs.Prelude.{ℕ, zero, suc, ◌<◌, pos, Bool, true, false, cond, ◌&&◌, ◌||◌, nat_eq, nat_lt, List, [], ◌∷◌, ◌≡◌, map, length, slice_get, Option, Some, None}
+use Rattle.std.specs.Prelude.{ℕ, zero, suc, ◌<◌, pos, Bool, true, false, cond, ◌&&◌, ◌||◌, nat_eq, nat_lt, List, [], ◌∷◌, ◌≡◌, map, length, slice_get}
+use Rattle.std.specs.Prelude.{Option, Some, None}
 use Rattle.std.specs.List.{AllByRecursion, list_all, list_any}
 use Rattle.std.proofs.Common.{refl, sym, ap, ◌∙◌, subst, true≢false, arith}
 use Rattle.std.proofs.lemmas.Bool.{and_parts, eqb-true, ltb-true}
 use Rattle.std.proofs.lemmas.List.{length-map}
+use Rattle.std.proofs.lemmas.List.Folds.{list_all-map}
 use Rattle.ae_math.specs.Fractions.{ℚ, zero_ℚ, whole}
 use Rattle.ae_core.specs.Induction.{by_sorts}
 use Rattle.ae_base.specs.Options.{◌>>=◌, or_else}
@@ -29,7 +31,8 @@ use Rattle.std.proofs.lemmas.Option.{same_Some}
 use Rattle.ae_models.proofs.ModelTerms.{out_int, out_real, out_bool, out_unit, out_named, out_rigid}
 use Rattle.ae_models.proofs.ModelRules.{KindSays}
 use Rattle.ae_models.proofs.Trees.Wholes.{whole_or_not}
-use Rattle.ae_models.proofs.Trees.Shapes.{tuple, layer_fits, fits, no_sorts, nowhere, kind_takes, layer_takes, kind_fields, record_fields, is_record, measured, tree_sort, sorted_value, all_fit, all_fit_more}
+use Rattle.ae_models.proofs.Trees.Shapes.{tuple, layer_fits, fits, no_sorts, nowhere, kind_takes, layer_takes, kind_fields, record_fields, is_record}
+use Rattle.ae_models.proofs.Trees.Shapes.{measured, tree_sort, sorted_value, all_fit, all_fit_more}
 
 pub no_sorts_left : (ss : List Sort) → length ss ≡ 0 → ss ≡ []
 no_sorts_left [] e = refl
@@ -45,19 +48,18 @@ is_among [] k c e = never_some c e
 is_among (d ∷ cs) zero c e = (λ i. nat_eq c (same_Some d c e i) || list_any (nat_eq c) cs) ∙ ap (λ b. b || list_any (nat_eq c) cs) (nat_eq_itself c)
 is_among (d ∷ cs) (suc k) c e = ap (λ b. nat_eq c d || b) (is_among cs k c e) ∙ or_true (nat_eq c d)
 
-all_map_test : {A : Type 0} (f : A → Bool) (xs : List A) → list_all (λ b. b) (map f xs) ≡ list_all f xs
-all_map_test f [] = refl
-all_map_test f (x ∷ xs) = ap (λ b. f x && b) (all_map_test f xs)
-
 names_below_named : (n h : ℕ) (ss : List Sort) → names_below n (Named h ss) ≡ nat_lt h n && list_all (names_below n) ss
 unfolding names_below
-names_below_named n h ss = ap (names_below n) (sym (rolls-Named h ss)) ∙ fold-roll-Sort Bool (names_below_step n) (sort_layer.Named h ss) ∙ ap (λ b. nat_lt h n && b) (all_map_test (names_below n) ss)
+names_below_named n h ss =
+    ap (names_below n) (sym (rolls-Named h ss)) ∙ fold-roll-Sort Bool (names_below_step n) (sort_layer.Named h ss)
+    ∙ ap (λ b. nat_lt h n && b) (list_all-map (λ b. b) (names_below n) ss)
 
 module _ (sig : Signature) (lawful : HasLawfulEntries sig) where
   abbrev pub Inhabited : Sort → Type 0
   Inhabited s = (v : Value Tree ℚ) × (fits s (sorted_value sig v) ≡ true)
 
-  pub thing_fits : (n : ℕ) (ss : List Sort) (t : Tree) → tree_sort sig t ≡ Named n ss → fits (Named n ss) (sorted_value sig (Element t)) ≡ true
+  pub thing_fits : (n : ℕ) (ss : List Sort) (t : Tree) → tree_sort sig t ≡ Named n ss
+      → fits (Named n ss) (sorted_value sig (Element t)) ≡ true
   thing_fits n ss t e = subst (λ l. layer_fits (Named n ss) l (Element (tree_sort sig t)) ≡ true) (sym (out_named n ss)) (decided_of _ e)
 
   rigid_inhabited : (i : ℕ) → Inhabited (Rigid i)
@@ -81,13 +83,15 @@ module _ (sig : Signature) (lawful : HasLawfulEntries sig) where
   unit_inhabited = (Void, ap (λ l. layer_fits UnitSort l Void) out_unit)
 
   -- a thing without parts has its sort where that takes it
-  pub atom_sort : (n h : ℕ) (ss : List Sort) (e : TypeEntry) (k : Kind) → slice_get sig.types h ≡ Some e → e.kind ≡ k → kind_takes sig n ss k ≡ true → tree_sort sig (Atom n (Named h ss)) ≡ Named h ss
+  pub atom_sort : (n h : ℕ) (ss : List Sort) (e : TypeEntry) (k : Kind) → slice_get sig.types h ≡ Some e → e.kind ≡ k
+      → kind_takes sig n ss k ≡ true → tree_sort sig (Atom n (Named h ss)) ≡ Named h ss
   atom_sort n h ss e k g is takes =
       let at : or_else (slice_get sig.types h >>= λ e. Some (kind_takes sig n ss e.kind)) false ≡ true = ap (λ o. or_else (o >>= λ e. Some (kind_takes sig n ss e.kind)) false) g ∙ ap (kind_takes sig n ss) is ∙ takes in
       ap (λ l. cond (layer_takes sig n l) (Named h ss) nowhere) (out_named h ss) ∙ ap (λ b. cond b (Named h ss) nowhere) at
 
   -- a record has its sort where its fields have theirs
-  pub record_tree_sort : (h : ℕ) (ss : List Sort) (e : TypeEntry) (fs : List FieldEntry) (t : Tree) → slice_get sig.types h ≡ Some e → e.kind ≡ Fields fs → (measured sig t).1 (field_sorts ss fs) ≡ true
+  pub record_tree_sort : (h : ℕ) (ss : List Sort) (e : TypeEntry) (fs : List FieldEntry) (t : Tree) → slice_get sig.types h ≡ Some e
+      → e.kind ≡ Fields fs → (measured sig t).1 (field_sorts ss fs) ≡ true
       → tree_sort sig (Record h ss t) ≡ Named h ss
   record_tree_sort h ss e fs t g is fit =
       let at : record_fields sig h ss ≡ Some (field_sorts ss fs) = ap (λ o. o >>= λ e. kind_fields sig ss e.kind) g ∙ ap (kind_fields sig ss) is in
@@ -106,7 +110,8 @@ module _ (sig : Signature) (lawful : HasLawfulEntries sig) where
     abbrev Put : Sort → Type 0
     Put s = names_below n s ≡ true → is_sort_over sig (length ss) s ≡ true → Inhabited (put_sort ss s)
 
-    all_put : (rs : List Sort) → AllByRecursion Put rs → list_all (names_below n) rs ≡ true → list_all (is_sort_over sig (length ss)) rs ≡ true → AllByRecursion Inhabited (map (put_sort ss) rs)
+    all_put : (rs : List Sort) → AllByRecursion Put rs → list_all (names_below n) rs ≡ true
+        → list_all (is_sort_over sig (length ss)) rs ≡ true → AllByRecursion Inhabited (map (put_sort ss) rs)
     all_put [] all b o = tt
     all_put (r ∷ rs) all b o =
         let p = and_parts (names_below n r) (list_all (names_below n) rs) b in
@@ -133,7 +138,8 @@ module _ (sig : Signature) (lawful : HasLawfulEntries sig) where
         named_put
 
     -- the fields of a record have values
-    some_fields : (fs : List FieldEntry) → list_all (λ f. is_field_sort sig n (length ss) f.sort) fs ≡ true → (vs : List (Value Tree ℚ)) × (all_fit sig (field_sorts ss fs) vs ≡ true)
+    some_fields : (fs : List FieldEntry) → list_all (λ f. is_field_sort sig n (length ss) f.sort) fs ≡ true
+        → (vs : List (Value Tree ℚ)) × (all_fit sig (field_sorts ss fs) vs ≡ true)
     some_fields [] o = ([], refl)
     some_fields (f ∷ fs) o =
         let p = and_parts (is_field_sort sig n (length ss) f.sort) (list_all (λ f. is_field_sort sig n (length ss) f.sort) fs) o in
@@ -143,7 +149,8 @@ module _ (sig : Signature) (lawful : HasLawfulEntries sig) where
         (v.0 ∷ vs.0, all_fit_more sig (field_sorts ss (f ∷ fs)) v.0 vs.0 ∙ (λ i. v.1 i && all_fit sig (field_sorts ss fs) vs.0) ∙ vs.1)
 
     -- the type n nat_eq_itself, with sorts that it takes
-    kind_inhabited : (e : TypeEntry) (k : Kind) → slice_get sig.types n ≡ Some e → length ss ≡ e.arity → e.kind ≡ k → KindSays sig n e k → Inhabited (Named n ss)
+    kind_inhabited : (e : TypeEntry) (k : Kind) → slice_get sig.types n ≡ Some e → length ss ≡ e.arity → e.kind ≡ k → KindSays sig n e k
+        → Inhabited (Named n ss)
     kind_inhabited e Abstract g l is law = (Element (Atom 0 (Named n ss)), thing_fits n ss (Atom 0 (Named n ss)) (atom_sort 0 n ss e Abstract g is refl))
     kind_inhabited e (Choices []) g l is law = absurd (law.some refl)
     kind_inhabited e (Choices (c ∷ cs)) g l is law =
@@ -157,7 +164,8 @@ module _ (sig : Signature) (lawful : HasLawfulEntries sig) where
     pub type_inhabited : type_fits sig n (length ss) ≡ true → Inhabited (Named n ss)
     type_inhabited o = go (slice_get sig.types n) refl o
       where
-        go : (at : Option TypeEntry) → slice_get sig.types n ≡ at → or_else (at >>= λ e. Some (nat_eq e.arity (length ss))) false ≡ true → Inhabited (Named n ss)
+        go : (at : Option TypeEntry) → slice_get sig.types n ≡ at → or_else (at >>= λ e. Some (nat_eq e.arity (length ss))) false ≡ true
+            → Inhabited (Named n ss)
         go None g h = absurd (true≢false (sym h))
         go (Some e) g h = kind_inhabited e e.kind g (sym (eqb-true e.arity (length ss) h)) refl (lawful.types n e g)
 

@@ -1,5 +1,6 @@
 -- The structure of trees, and that it interprets its signature.
-use Rattle.std.specs.Prelude.{ℕ, zero, suc, ◌+◌, ◌≤◌, pos, Bool, true, false, cond, ◌&&◌, ◌||◌, nat_eq, nat_lt, List, [], ◌∷◌, ◌++◌, ◌≡◌, ◌≢◌, map, length, slice_get, Option, Some, None}
+use Rattle.std.specs.Prelude.{ℕ, zero, suc, ◌+◌, ◌≤◌, pos, Bool, true, false, cond, ◌&&◌, ◌||◌, nat_eq, nat_lt, List, [], ◌∷◌, ◌++◌, ◌≡◌, ◌≢◌, map}
+use Rattle.std.specs.Prelude.{length, slice_get, Option, Some, None}
 use Rattle.std.specs.List.{AllByRecursion, list_all, list_any}
 use Rattle.std.proofs.Common.{refl, sym, ap, ◌∙◌, subst, true≢false, arith, append_assoc, length-append}
 use Rattle.std.proofs.lemmas.Bool.{and_parts, eqb-true, ltb-true}
@@ -27,13 +28,16 @@ use Rattle.ae_math.proofs.Wholes.{zero_whole}
 use Rattle.ae_base.proofs.Decided.{decided_of, decided_yes}
 use Rattle.ae_base.proofs.Tests.{false_true}
 use Rattle.ae_models.proofs.Entries.{HasLawfulEntries}
-use Rattle.ae_models.specs.Structures.{Value, Element, Number, Truth, Void, Structure, BelongsTo, Belongs, AllBelong, AreSorts, fields_of, field_sorts, IsInterpretation}
+use Rattle.ae_models.specs.Structures.{Value, Element, Number, Truth, Void, Structure, BelongsTo, Belongs, AllBelong, AreSorts, fields_of}
+use Rattle.ae_models.specs.Structures.{field_sorts, IsInterpretation}
 use Rattle.ae_models.specs.Inner.Trees.{Tree, Atom, Record, NoField, ThingField, NumberField, TruthField, VoidField}
 use Rattle.ae_models.proofs.ModelTerms.{out_named}
 use Rattle.ae_models.proofs.ModelRules.{KindSays, NatureSays}
 use Rattle.ae_models.specs.Fields.{fractions}
 use Rattle.ae_models.proofs.Trees.Wholes.{whole_or_not}
-use Rattle.ae_models.proofs.Trees.Shapes.{Tree_discrete, tuple, parts, parts_of_tuple, layer_fits, fits, no_sorts, nowhere, kind_takes, layer_takes, kind_fields, record_fields, is_record, measured, tree_sort, sorted_value, all_fit, all_fit_more, tuple_of_parts}
+use Rattle.ae_models.proofs.Trees.Shapes.{Tree_discrete, tuple, parts, parts_of_tuple, layer_fits, fits, no_sorts, nowhere, kind_takes, layer_takes}
+use Rattle.ae_models.proofs.Trees.Shapes.{kind_fields, record_fields, is_record, measured, tree_sort, sorted_value, all_fit, all_fit_more}
+use Rattle.ae_models.proofs.Trees.Shapes.{tuple_of_parts}
 use Rattle.ae_models.proofs.Trees.Inhabited.{is_among, thing_fits, atom_sort, record_tree_sort, closed_inhabited}
 
 -- the place of a number in a list
@@ -41,7 +45,8 @@ place_of : (cs : List ℕ) (c : ℕ) → list_any (nat_eq c) cs ≡ true → (k 
 place_of [] c e = absurd (true≢false (sym e))
 place_of (d ∷ cs) c e = go (nat_eq c d) refl e (place_of cs c)
   where
-    go : (b : Bool) → nat_eq c d ≡ b → b || list_any (nat_eq c) cs ≡ true → (list_any (nat_eq c) cs ≡ true → (k : ℕ) × (slice_get cs k ≡ Some c)) → (k : ℕ) × (slice_get (d ∷ cs) k ≡ Some c)
+    go : (b : Bool) → nat_eq c d ≡ b → b || list_any (nat_eq c) cs ≡ true
+        → (list_any (nat_eq c) cs ≡ true → (k : ℕ) × (slice_get cs k ≡ Some c)) → (k : ℕ) × (slice_get (d ∷ cs) k ≡ Some c)
     go true is h later = (0, ap Some (sym (eqb-true c d is)))
     go false is h later = let r = later h in (suc r.0, r.1)
 
@@ -50,15 +55,18 @@ module _ (sig : Signature) (ss : List Sort) (closed : list_all (is_closed_sort s
   abbrev Over : Sort → Type 0
   Over s = is_sort_over sig (length ss) s ≡ true → is_closed_sort sig (put_sort ss s) ≡ true
 
-  closed_at : (rs : List Sort) → list_all (is_closed_sort sig) rs ≡ true → (i : ℕ) → nat_lt i (length rs) ≡ true → (d : Sort) → is_closed_sort sig (or_else (slice_get rs i) d) ≡ true
+  closed_at : (rs : List Sort) → list_all (is_closed_sort sig) rs ≡ true → (i : ℕ) → nat_lt i (length rs) ≡ true → (d : Sort)
+      → is_closed_sort sig (or_else (slice_get rs i) d) ≡ true
   closed_at rs c i l d = go rs c i (ltb-true i (length rs) l)
     where
-      go : (rs : List Sort) → list_all (is_closed_sort sig) rs ≡ true → (i : ℕ) → suc i ≤ length rs → is_closed_sort sig (or_else (slice_get rs i) d) ≡ true
+      go : (rs : List Sort) → list_all (is_closed_sort sig) rs ≡ true → (i : ℕ) → suc i ≤ length rs
+          → is_closed_sort sig (or_else (slice_get rs i) d) ≡ true
       go [] c i l = absurd (omega (arith, l))
       go (r ∷ rs) c zero l = (and_parts (is_closed_sort sig r) (list_all (is_closed_sort sig) rs) c).0
       go (r ∷ rs) c (suc i) l = go rs (and_parts (is_closed_sort sig r) (list_all (is_closed_sort sig) rs) c).1 i (omega (arith, l))
 
-  all_over : (rs : List Sort) → AllByRecursion Over rs → list_all (is_sort_over sig (length ss)) rs ≡ true → list_all (is_closed_sort sig) (map (put_sort ss) rs) ≡ true
+  all_over : (rs : List Sort) → AllByRecursion Over rs → list_all (is_sort_over sig (length ss)) rs ≡ true
+      → list_all (is_closed_sort sig) (map (put_sort ss) rs) ≡ true
   all_over [] all o = refl
   all_over (r ∷ rs) all o =
       let q = and_parts (is_sort_over sig (length ss) r) (list_all (is_sort_over sig (length ss)) rs) o in
@@ -135,7 +143,8 @@ module _ (sig : Signature) (lawful : HasLawfulEntries sig) where
   layer_belongs s _ Void e = false_true e
 
   belongs_layer : (s : Sort) (l : Sort-F Sort) (v : Value Tree ℚ) → BelongsTo trees s l v → layer_fits s l (sorted_value sig v) ≡ true
-  belongs_layer s sort_layer.Int v h = subst (λ w. layer_fits s sort_layer.Int (sorted_value sig w) ≡ true) (sym h.1) (decided_of (whole_or_not (whole h.0)) (h.0, refl))
+  belongs_layer s sort_layer.Int v h =
+      subst (λ w. layer_fits s sort_layer.Int (sorted_value sig w) ≡ true) (sym h.1) (decided_of (whole_or_not (whole h.0)) (h.0, refl))
   belongs_layer s sort_layer.Real v h = subst (λ w. layer_fits s sort_layer.Real (sorted_value sig w) ≡ true) (sym h.1) refl
   belongs_layer s sort_layer.Bool v h = subst (λ w. layer_fits s sort_layer.Bool (sorted_value sig w) ≡ true) (sym h.1) refl
   belongs_layer s sort_layer.Unit v h = subst (λ w. layer_fits s sort_layer.Unit (sorted_value sig w) ≡ true) (sym h) refl
@@ -167,7 +176,8 @@ module _ (sig : Signature) (lawful : HasLawfulEntries sig) where
   belong_length (s ∷ ss) (v ∷ vs) h = ap suc (belong_length ss vs h.1)
 
   -- ---- things of a declared type
-  a_thing : (n : ℕ) (ss : List Sort) (v : Value Tree ℚ) → Belongs trees (Named n ss) v → (t : Tree) × (v ≡ Element t) × (tree_sort sig t ≡ Named n ss)
+  a_thing : (n : ℕ) (ss : List Sort) (v : Value Tree ℚ) → Belongs trees (Named n ss) v
+      → (t : Tree) × (v ≡ Element t) × (tree_sort sig t ≡ Named n ss)
   a_thing n ss v b = subst (λ o. BelongsTo trees (Named n ss) o v) (out_named n ss) b
 
   is_thing : (n : ℕ) (ss : List Sort) (t : Tree) → tree_sort sig t ≡ Named n ss → Belongs trees (Named n ss) (Element t)
@@ -186,13 +196,15 @@ module _ (sig : Signature) (lawful : HasLawfulEntries sig) where
   sort_is false s n ss e = not_nowhere n ss e
 
   -- what a sort takes as a thing without parts
-  atom_is : (m n : ℕ) (s : Sort) (ss : List Sort) (e : TypeEntry) (k : Kind) → slice_get sig.types n ≡ Some e → e.kind ≡ k → tree_sort sig (Atom m s) ≡ Named n ss → (s ≡ Named n ss) × (kind_takes sig m ss k ≡ true)
+  atom_is : (m n : ℕ) (s : Sort) (ss : List Sort) (e : TypeEntry) (k : Kind) → slice_get sig.types n ≡ Some e → e.kind ≡ k
+      → tree_sort sig (Atom m s) ≡ Named n ss → (s ≡ Named n ss) × (kind_takes sig m ss k ≡ true)
   atom_is m n s ss e k g is h =
       let p = sort_is (layer_takes sig m (out-Sort s)) s n ss h in
       let at : or_else (slice_get sig.types n >>= λ e. Some (kind_takes sig m ss e.kind)) false ≡ true = ap (layer_takes sig m) (sym (ap out-Sort p.1 ∙ out_named n ss)) ∙ p.0 in
       (p.1, sym (ap (λ o. or_else (o >>= λ e. Some (kind_takes sig m ss e.kind)) false) g ∙ ap (kind_takes sig m ss) is) ∙ at)
 
-  record_is : (m n : ℕ) (rs ss : List Sort) (t : Tree) (e : TypeEntry) (k : Kind) → slice_get sig.types n ≡ Some e → e.kind ≡ k → tree_sort sig (Record m rs t) ≡ Named n ss
+  record_is : (m n : ℕ) (rs ss : List Sort) (t : Tree) (e : TypeEntry) (k : Kind) → slice_get sig.types n ≡ Some e → e.kind ≡ k
+      → tree_sort sig (Record m rs t) ≡ Named n ss
       → (m ≡ n) × (rs ≡ ss) × (is_record sig (kind_fields sig ss k) (measured sig t).1 ≡ true)
   record_is m n rs ss t e k g is h =
       let p = sort_is (is_record sig (record_fields sig m rs) (measured sig t).1) (Named m rs) n ss h in
@@ -201,7 +213,8 @@ module _ (sig : Signature) (lawful : HasLawfulEntries sig) where
       (q.0, q.1, ap (λ o. is_record sig o (measured sig t).1) (sym at) ∙ p.0)
 
   -- ---- records
-  fields_are : (n m : ℕ) (ss rs : List Sort) (t : Tree) (before rest : List (Value Tree ℚ)) → parts t ≡ before ++ rest → fields_of trees n ss (Element (Record m rs t)) (length before) (length rest) ≡ rest
+  fields_are : (n m : ℕ) (ss rs : List Sort) (t : Tree) (before rest : List (Value Tree ℚ)) → parts t ≡ before ++ rest
+      → fields_of trees n ss (Element (Record m rs t)) (length before) (length rest) ≡ rest
   fields_are n m ss rs t before [] e = refl
   fields_are n m ss rs t before (x ∷ rest) e =
       let first : or_else (slice_get (parts t) (length before)) Void ≡ x = ap (λ xs. or_else (slice_get xs (length before)) Void) e ∙ ap (λ o. or_else o Void) (seam before rest x) in
@@ -213,7 +226,8 @@ module _ (sig : Signature) (lawful : HasLawfulEntries sig) where
       seam [] ys x = refl
       seam (z ∷ xs) ys x = seam xs ys x
 
-  records_law : (n : ℕ) (e : TypeEntry) (fs : List FieldEntry) (ss : List Sort) (vs : List (Value Tree ℚ)) → slice_get sig.types n ≡ Some e → e.kind ≡ Fields fs → AllBelong trees (field_sorts ss fs) vs
+  records_law : (n : ℕ) (e : TypeEntry) (fs : List FieldEntry) (ss : List Sort) (vs : List (Value Tree ℚ)) → slice_get sig.types n ≡ Some e
+      → e.kind ≡ Fields fs → AllBelong trees (field_sorts ss fs) vs
       → Belongs trees (Named n ss) (Element (Record n ss (tuple vs))) × (fields_of trees n ss (Element (Record n ss (tuple vs))) 0 (length fs) ≡ vs)
   records_law n e fs ss vs g k b =
       let count : length vs ≡ length fs = belong_length (field_sorts ss fs) vs b ∙ length-map fs (λ f. put_sort ss f.sort) in (
@@ -224,10 +238,12 @@ module _ (sig : Signature) (lawful : HasLawfulEntries sig) where
   abbrev IsBuilt : ℕ → List Sort → List FieldEntry → Value Tree ℚ → Type 0
   IsBuilt n ss fs v = AllBelong trees (field_sorts ss fs) (fields_of trees n ss v 0 (length fs)) × (Element (Record n ss (tuple (fields_of trees n ss v 0 (length fs)))) ≡ v)
 
-  fields_law : (n : ℕ) (e : TypeEntry) (fs : List FieldEntry) (ss : List Sort) (v : Value Tree ℚ) → slice_get sig.types n ≡ Some e → e.kind ≡ Fields fs → Belongs trees (Named n ss) v → IsBuilt n ss fs v
+  fields_law : (n : ℕ) (e : TypeEntry) (fs : List FieldEntry) (ss : List Sort) (v : Value Tree ℚ) → slice_get sig.types n ≡ Some e
+      → e.kind ≡ Fields fs → Belongs trees (Named n ss) v → IsBuilt n ss fs v
   fields_law n e fs ss v g k b = let t = a_thing n ss v b in subst (IsBuilt n ss fs) (sym t.1) (go t.0 t.2)
     where
-      written : (m : ℕ) (rs : List Sort) (t : Tree) → m ≡ n → rs ≡ ss → (measured sig t).1 (field_sorts ss fs) ≡ true → IsBuilt n ss fs (Element (Record m rs t))
+      written : (m : ℕ) (rs : List Sort) (t : Tree) → m ≡ n → rs ≡ ss → (measured sig t).1 (field_sorts ss fs) ≡ true
+          → IsBuilt n ss fs (Element (Record m rs t))
       written m rs t p q fit =
           let whole_tuple : tuple (parts t) ≡ t = tuple_of_parts sig t (field_sorts ss fs) fit in
           let belong : AllBelong trees (field_sorts ss fs) (parts t) = all_fit_belong (field_sorts ss fs) (parts t) (ap (λ u. (measured sig u).1 (field_sorts ss fs)) whole_tuple ∙ fit) in
@@ -253,13 +269,15 @@ module _ (sig : Signature) (lawful : HasLawfulEntries sig) where
   choice_value c n place ss h =
       ap (λ o. or_else (o >>= λ e. Some (symbol_with c ss e.nature e.result)) Void) h.1 ∙ ap (λ k. symbol_with c ss k (h.0).result) h.2
 
-  enumeration : (n : ℕ) (e : TypeEntry) (cs : List ℕ) → slice_get sig.types n ≡ Some e → e.kind ≡ Choices cs → IsEnumeration sig n e.arity cs
+  enumeration : (n : ℕ) (e : TypeEntry) (cs : List ℕ) → slice_get sig.types n ≡ Some e → e.kind ≡ Choices cs
+      → IsEnumeration sig n e.arity cs
   enumeration n e cs g k = subst (KindSays sig n e) k (lawful.types n e g)
 
   abbrev IsOneOf : List ℕ → Value Tree ℚ → Type 0
   IsOneOf cs v = (k : ℕ) × (c : ℕ) × (slice_get cs k ≡ Some c) × (v ≡ symbol_value c [])
 
-  choices_law : (n : ℕ) (e : TypeEntry) (cs : List ℕ) (ss : List Sort) (v : Value Tree ℚ) → slice_get sig.types n ≡ Some e → e.kind ≡ Choices cs → Belongs trees (Named n ss) v → IsOneOf cs v
+  choices_law : (n : ℕ) (e : TypeEntry) (cs : List ℕ) (ss : List Sort) (v : Value Tree ℚ) → slice_get sig.types n ≡ Some e
+      → e.kind ≡ Choices cs → Belongs trees (Named n ss) v → IsOneOf cs v
   choices_law n e cs ss v g k b = let t = a_thing n ss v b in subst (IsOneOf cs) (sym t.1) (go t.0 t.2)
     where
       none_left : (ss : List Sort) → no_sorts ss ≡ true → ss ≡ []
@@ -280,7 +298,8 @@ module _ (sig : Signature) (lawful : HasLawfulEntries sig) where
       go (TruthField c r) h = not_nowhere n ss h
       go (VoidField r) h = not_nowhere n ss h
 
-  different_law : (n : ℕ) (e : TypeEntry) (cs : List ℕ) (k j c d : ℕ) → slice_get sig.types n ≡ Some e → e.kind ≡ Choices cs → slice_get cs k ≡ Some c → slice_get cs j ≡ Some d → k ≢ j → symbol_value c [] ≢ symbol_value d []
+  different_law : (n : ℕ) (e : TypeEntry) (cs : List ℕ) (k j c d : ℕ) → slice_get sig.types n ≡ Some e → e.kind ≡ Choices cs
+      → slice_get cs k ≡ Some c → slice_get cs j ≡ Some d → k ≢ j → symbol_value c [] ≢ symbol_value d []
   different_law n e cs k j c d g is p q apart same =
       let first = ((enumeration n e cs g is).each c k).0 p in
       let second = ((enumeration n e cs g is).each d j).0 q in
@@ -300,14 +319,16 @@ module _ (sig : Signature) (lawful : HasLawfulEntries sig) where
   unfolding some_value
   some_belongs s c = chosen_belongs s (is_closed_sort sig s) refl c
 
-  symbols_law : (n : ℕ) (e : SymbolEntry) (r : Sort) (ss : List Sort) → slice_get sig.symbols n ≡ Some e → e.result ≡ Some r → AreSorts sig e.vars ss → Belongs trees (put_sort ss r) (symbol_value n ss)
+  symbols_law : (n : ℕ) (e : SymbolEntry) (r : Sort) (ss : List Sort) → slice_get sig.symbols n ≡ Some e → e.result ≡ Some r
+      → AreSorts sig e.vars ss → Belongs trees (put_sort ss r) (symbol_value n ss)
   symbols_law n e r ss g h are =
       let value : symbol_value n ss ≡ symbol_with n ss e.nature (Some r) = ap (λ o. or_else (o >>= λ e. Some (symbol_with n ss e.nature e.result)) Void) g ∙ ap (symbol_with n ss e.nature) h in
       let law = lawful.symbols n e g in
       let over : is_sort_over sig (length ss) r ≡ true = ap (λ k. is_sort_over sig k r) are.0 ∙ ap (is_result sig e.vars) (sym h) ∙ law.1 in
       subst (Belongs trees (put_sort ss r)) (sym value) (go e.nature refl law.2 (some_belongs (put_sort ss r) (put_closed sig ss are.1 r over)))
     where
-      go : (k : Nature) → e.nature ≡ k → NatureSays sig e k → Belongs trees (put_sort ss r) (some_value (put_sort ss r)) → Belongs trees (put_sort ss r) (symbol_with n ss k (Some r))
+      go : (k : Nature) → e.nature ≡ k → NatureSays sig e k → Belongs trees (put_sort ss r) (some_value (put_sort ss r))
+          → Belongs trees (put_sort ss r) (symbol_with n ss k (Some r))
       go Free is law b = b
       go Ac is law b = b
       go (Choice of place) is law b =
@@ -319,7 +340,7 @@ module _ (sig : Signature) (lawful : HasLawfulEntries sig) where
 
   pub trees_interpret : IsInterpretation sig trees
   trees_interpret = record {
-    some = λ s c. (some_value s, some_belongs s c);
+    inhabited = λ s c. (some_value s, some_belongs s c);
     symbols = λ n e r ss vs g h are b. symbols_law n e r ss g h are;
     commutative = λ n e s ss u v g k a are p q. refl;
     associative = λ n e s ss u v w g k a are p q r. refl;

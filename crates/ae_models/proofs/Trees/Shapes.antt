@@ -20,7 +20,8 @@ use Rattle.ae_models.specs.Inner.Trees.{Tree, Atom, Record, NoField, ThingField,
 use Rattle.ae_models.proofs.Trees.Wholes.{whole_or_not}
 
 pub Tree_discrete : Discrete Tree
-Tree_discrete (Atom m r) (Atom n s) = elim (ℕ_discrete m n) [ yes e ↦ elim (Sort_discrete r s) [ yes f ↦ yes (λ i. Atom (e i) (f i)) | no d ↦ no (λ h. d cc) ] | no d ↦ no (λ h. d cc) ]
+Tree_discrete (Atom m r) (Atom n s) =
+    elim (ℕ_discrete m n) [ yes e ↦ elim (Sort_discrete r s) [ yes f ↦ yes (λ i. Atom (e i) (f i)) | no d ↦ no (λ h. d cc) ] | no d ↦ no (λ h. d cc) ]
 Tree_discrete (Record m rs t) (Record n ss u) =
     elim (ℕ_discrete m n) [
       | yes e ↦ elim (Sorts_discrete rs ss) [
@@ -30,9 +31,12 @@ Tree_discrete (Record m rs t) (Record n ss u) =
       | no d ↦ no (λ h. d cc)
     ]
 Tree_discrete NoField NoField = yes refl
-Tree_discrete (ThingField t r) (ThingField u s) = elim (Tree_discrete t u) [ yes e ↦ elim (Tree_discrete r s) [ yes f ↦ yes (λ i. ThingField (e i) (f i)) | no d ↦ no (λ h. d cc) ] | no d ↦ no (λ h. d cc) ]
-Tree_discrete (NumberField p r) (NumberField q s) = elim (ℚ_discrete p q) [ yes e ↦ elim (Tree_discrete r s) [ yes f ↦ yes (λ i. NumberField (e i) (f i)) | no d ↦ no (λ h. d cc) ] | no d ↦ no (λ h. d cc) ]
-Tree_discrete (TruthField a r) (TruthField b s) = elim (Bool-discrete a b) [ yes e ↦ elim (Tree_discrete r s) [ yes f ↦ yes (λ i. TruthField (e i) (f i)) | no d ↦ no (λ h. d cc) ] | no d ↦ no (λ h. d cc) ]
+Tree_discrete (ThingField t r) (ThingField u s) =
+    elim (Tree_discrete t u) [ yes e ↦ elim (Tree_discrete r s) [ yes f ↦ yes (λ i. ThingField (e i) (f i)) | no d ↦ no (λ h. d cc) ] | no d ↦ no (λ h. d cc) ]
+Tree_discrete (NumberField p r) (NumberField q s) =
+    elim (ℚ_discrete p q) [ yes e ↦ elim (Tree_discrete r s) [ yes f ↦ yes (λ i. NumberField (e i) (f i)) | no d ↦ no (λ h. d cc) ] | no d ↦ no (λ h. d cc) ]
+Tree_discrete (TruthField a r) (TruthField b s) =
+    elim (Bool-discrete a b) [ yes e ↦ elim (Tree_discrete r s) [ yes f ↦ yes (λ i. TruthField (e i) (f i)) | no d ↦ no (λ h. d cc) ] | no d ↦ no (λ h. d cc) ]
 Tree_discrete (VoidField r) (VoidField s) = elim (Tree_discrete r s) [ yes f ↦ yes (λ i. VoidField (f i)) | no d ↦ no (λ h. d cc) ]
 Tree_discrete _ _ = no (λ h. cc)
 
@@ -134,7 +138,8 @@ module _ (sig : Signature) where
   all_fit ss vs = (measured (tuple vs)).1 ss
 
   -- one by one
-  pub all_fit_more : (ss : List Sort) (v : Value Tree ℚ) (vs : List (Value Tree ℚ)) → (measured (tuple (v ∷ vs))).1 ss ≡ first_fits (sorted_value v) (measured (tuple vs)).1 ss
+  pub all_fit_more : (ss : List Sort) (v : Value Tree ℚ) (vs : List (Value Tree ℚ))
+      → (measured (tuple (v ∷ vs))).1 ss ≡ first_fits (sorted_value v) (measured (tuple vs)).1 ss
   all_fit_more ss (Element t) vs = refl
   all_fit_more ss (Number q) vs = refl
   all_fit_more ss (Truth b) vs = refl

@@ -1,5 +1,5 @@
 use Rattle.std.proofs.Common.{◌≡◌, ◌-◌, ◌++◌, length}
-use Rattle.ae_explain.specs.Marks.{hints_from}
+use Rattle.ae_explain.specs.Inner.Marks.{hints_from}
 use Rattle.ae_explain.proofs.conflict.hints_of.Given as goal
 
 abbrev pub invariant-loop-place : goal.invariant-loop-place

@@ -2,7 +2,7 @@ use Rattle.std.proofs.Common.{rules, ◌≡◌, ◌-◌, ◌++◌, ◌∷◌, []
 use Rattle.ae_rules.specs.Clauses.{opposite}
 use Rattle.ae_core.specs.declared.formulas.Lit.{Lit}
 use Rattle.ae_explain.specs.Trail.{at}
-use Rattle.ae_explain.specs.Marks.{lits_below, kept}
+use Rattle.ae_explain.specs.Inner.Marks.{lits_below, kept}
 use Rattle.ae_explain.proofs.Reading.{clause_yes, clause_no, clause_done}
 use Rattle.ae_explain.proofs.conflict.kept_clause.Goals as goal
 

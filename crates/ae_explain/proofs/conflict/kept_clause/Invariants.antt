@@ -1,6 +1,6 @@
 use Rattle.std.proofs.Common.{◌≡◌, ◌≤◌, ◌++◌, map, length}
 use Rattle.ae_rules.specs.Clauses.{opposite}
-use Rattle.ae_explain.specs.Marks.{lits_below}
+use Rattle.ae_explain.specs.Inner.Marks.{lits_below}
 use Rattle.ae_explain.proofs.conflict.kept_clause.Given as goal
 
 abbrev pub invariant-loop-place : goal.invariant-loop-place

@@ -1,4 +1,4 @@
-use Rattle.std.proofs.Common.{◌≡◌, ◌∙◌, ℕ, List, arith, sym, length, subst, map, ap}
+use Rattle.std.proofs.Common.{◌≡◌, ◌∙◌, ℕ, List, ◌≤◌, arith, sym, length, subst, map, ap}
 use Rattle.std.specs.List.{Contains}
 use Rattle.std.specs.Prelude.{count_by, ◌==◌}
 use Rattle.ae_rules.specs.Clauses.{Clause, opposite}
@@ -6,10 +6,10 @@ use Rattle.ae_core.specs.declared.formulas.Lit.{Lit}
 use Rattle.ae_explain.specs.Trail.{clause}
 use Rattle.ae_explain.specs.Levels.{greatest_of, level_of}
 use Rattle.ae_explain.specs.Hints.{Propagates}
-use Rattle.ae_explain.specs.Marks.{IsMarked, State, kept_at, lits_below, hints_from}
+use Rattle.ae_explain.specs.Inner.Marks.{IsMarked, State, kept_at, lits_below, hints_from}
 use Rattle.ae_explain.proofs.Places.{there}
 use Rattle.ae_explain.proofs.Marking.{start, nothing_kept}
-use Rattle.ae_explain.proofs.Reading.{is_false, empty_at_0, one_at_top, above_ground}
+use Rattle.ae_explain.proofs.Reading.{is_false, empty_at_0, one_at_top, above_ground, at_most}
 use Rattle.ae_explain.proofs.Hinting.{derived}
 use Rattle.ae_explain.proofs.conflict.learnt_from.Goals as goal
 
@@ -59,3 +59,9 @@ pub returns-clause-ground : goal.returns-clause-ground
 returns-clause-ground c m h =
     above_ground c.args.trail.now c.args.clauses.now c.resolve.new.marks c.greatest_level-level.result c.resolve.ensures.after.0 c.resolve.ensures.after.1 c.requires.lawful.apart m
     (subst (λ (w : Clause). Contains w m) c.in_ok-clause.ensures h)
+
+pub returns-clause-highest : goal.returns-clause-highest
+returns-clause-highest c m h =
+    subst (λ (w : ℕ). level_of c.args.trail.now m ≤ w) c.greatest_level-level.ensures
+    (at_most c.args.trail.now c.args.clauses.now c.resolve.new.marks c.greatest_level-level.result c.resolve.ensures.after.0 c.resolve.ensures.after.1 c.requires.lawful.apart m
+    (subst (λ (w : Clause). Contains w m) c.in_ok-clause.ensures h))

@@ -1,5 +1,5 @@
 use Rattle.std.proofs.Common.{rules, ◌≡◌, ◌∙◌, true, length}
-use Rattle.ae_explain.specs.Marks.{kept}
+use Rattle.ae_explain.specs.Inner.Marks.{kept}
 use Rattle.ae_explain.proofs.Marking.{Why, why_given, reason_there, gave_way}
 use Rattle.ae_explain.proofs.marks.go_over.Goals as goal
 

@@ -3,7 +3,7 @@ use Rattle.std.proofs.lemmas.Bool.{cases_eq, cases_Bool}
 use Rattle.std.proofs.lemmas.List.{get_or_default}
 use Rattle.ae_core.specs.declared.formulas.Lit.{Lit}
 use Rattle.ae_explain.specs.Trail.{place_in}
-use Rattle.ae_explain.specs.Marks.{is_marked, is_kept, marked, kept, IsPlaceOf}
+use Rattle.ae_explain.specs.Inner.Marks.{is_marked, is_kept, marked, kept, IsPlaceOf}
 use Rattle.ae_explain.proofs.marks.keep_clause.Goals as goal
 
 pub loop-lit-preserved : goal.loop-lit-preserved

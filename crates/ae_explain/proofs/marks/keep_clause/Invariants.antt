@@ -1,7 +1,7 @@
 use Rattle.std.proofs.Common.{◌≡◌, ℕ, ◌<◌, true, false, Some, get_or}
 use Rattle.ae_core.specs.declared.formulas.Lit.{Lit}
 use Rattle.ae_explain.specs.Trail.{place_in}
-use Rattle.ae_explain.specs.Marks.{mark, marked, kept, kept_at, IsPlaceOf}
+use Rattle.ae_explain.specs.Inner.Marks.{mark, marked, kept, kept_at, IsPlaceOf}
 use Rattle.ae_explain.proofs.marks.keep_clause.Given as goal
 
 abbrev pub invariant-loop-lit : goal.invariant-loop-lit

@@ -1,5 +1,5 @@
 use Rattle.std.proofs.Common.{rules, ◌≡◌, ◌∙◌, sym, arith, false}
-use Rattle.ae_explain.specs.Marks.{marked}
+use Rattle.ae_explain.specs.Inner.Marks.{marked}
 use Rattle.ae_explain.proofs.Marking.{one_kept_more, room_left}
 use Rattle.ae_explain.proofs.marks.keep_place.Goals as goal
 

@@ -1,5 +1,5 @@
 use Rattle.std.proofs.Common.{◌≡◌, ℕ, ◌≤◌, true, length}
-use Rattle.ae_explain.specs.Marks.{marked, State}
+use Rattle.ae_explain.specs.Inner.Marks.{marked, State}
 use Rattle.ae_explain.proofs.marks.resolve.Given as goal
 
 abbrev pub invariant-loop-place : goal.invariant-loop-place

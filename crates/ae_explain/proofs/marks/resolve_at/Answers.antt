@@ -1,6 +1,6 @@
 use Rattle.std.proofs.Common.{◌≡◌, ◌∙◌, sym, subst, Some}
 use Rattle.ae_explain.specs.Trail.{at}
-use Rattle.ae_explain.specs.Marks.{KeepsClause}
+use Rattle.ae_explain.specs.Inner.Marks.{KeepsClause}
 use Rattle.ae_explain.proofs.Marking.{resolves}
 use Rattle.ae_explain.proofs.marks.resolve_at.Goals as goal
 

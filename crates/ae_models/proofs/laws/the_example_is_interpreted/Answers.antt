@@ -1,3 +1,4 @@
+use Rattle.ae_models.proofs.LawfulExample.{example_lawful}
 use Rattle.ae_models.proofs.Example.{example_interprets, plus_commutes_true, two_colours_true, points_are_coordinates_true, no_greatest_true}
 use Rattle.ae_models.proofs.laws.the_example_is_interpreted.Goals as goal
 
@@ -15,3 +16,6 @@ returns-clause-record c = λ fresh sorted. points_are_coordinates_true fresh
 
 pub returns-clause-fractions : goal.returns-clause-fractions
 returns-clause-fractions c = λ fresh sorted. no_greatest_true fresh
+
+pub returns-clause-lawful : goal.returns-clause-lawful
+returns-clause-lawful c = example_lawful

@@ -2,8 +2,8 @@ use Rattle.std.specs.Prelude.{◌≡◌, Some}
 use Rattle.std.proofs.Common.{subst, ap, ◌∙◌}
 use Rattle.ae_num.specs.declared.numbers.Wide.{Wide}
 use Rattle.ae_num.specs.declared.forms.Lin.{Lin}
-use Rattle.ae_num.specs.Forms.{first_wide, lowest}
-use Rattle.ae_num.specs.Inner.Reduction.{Reduced, whole_steps}
+use Rattle.ae_num.specs.Forms.{first_wide, lowest, Reduced}
+use Rattle.ae_num.specs.Inner.Reduction.{whole_steps}
 use Rattle.ae_num.proofs.StepLaws.{same_err}
 use Rattle.ae_num.proofs.WholeLaws.{whole_rising, whole_nonzero, whole_small, whole_positive}
 use Rattle.ae_num.proofs.forms.made.Goals as goal

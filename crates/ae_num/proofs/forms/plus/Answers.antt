@@ -4,8 +4,8 @@ use Rattle.ae_math.specs.Forms.{plus}
 use Rattle.ae_num.specs.declared.forms.Lin.{Lin}
 use Rattle.ae_num.specs.declared.sums.Combination.{Combination}
 use Rattle.ae_num.specs.declared.sums.Combination.TheVariants.{Sum}
-use Rattle.ae_num.specs.Forms.{meaning, SameMeaning, IsNormal, first_wide, IfWide, lowest, sum_of}
-use Rattle.ae_num.specs.Inner.Reduction.{Reduced, whole_of, whole_steps}
+use Rattle.ae_num.specs.Forms.{meaning, SameMeaning, IsNormal, first_wide, IfWide, lowest, sum_of, Reduced}
+use Rattle.ae_num.specs.Inner.Reduction.{whole_of, whole_steps}
 use Rattle.std.proofs.lemmas.Result.{IfOk-weaker}
 use Rattle.ae_base.proofs.Results.{if_ok_both}
 use Rattle.ae_num.proofs.MeaningLaws.{plus_means}

@@ -7,8 +7,8 @@ use Rattle.ae_math.specs.Forms.{scale}
 use Rattle.ae_num.specs.declared.forms.Lin.{Lin}
 use Rattle.ae_num.specs.declared.sums.Combination.{Combination}
 use Rattle.ae_num.specs.declared.sums.Combination.TheVariants.{Multiple}
-use Rattle.ae_num.specs.Forms.{meaning, SameMeaning, IsNormal, IsRising, first_wide, IfWide, lowest, multiple_of}
-use Rattle.ae_num.specs.Inner.Reduction.{Reduced, whole_of, whole_steps}
+use Rattle.ae_num.specs.Forms.{meaning, SameMeaning, IsNormal, IsRising, first_wide, IfWide, lowest, multiple_of, Reduced}
+use Rattle.ae_num.specs.Inner.Reduction.{whole_of, whole_steps}
 use Rattle.std.proofs.lemmas.Result.{IfOk-weaker}
 use Rattle.ae_base.proofs.Results.{if_ok_both}
 use Rattle.ae_num.proofs.MeaningLaws.{scale_means}

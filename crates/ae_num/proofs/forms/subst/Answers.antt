@@ -5,8 +5,8 @@ use Rattle.ae_math.specs.Forms.{substitute}
 use Rattle.ae_num.specs.declared.forms.Lin.{Lin}
 use Rattle.ae_num.specs.declared.sums.Combination.{Combination}
 use Rattle.ae_num.specs.declared.sums.Combination.TheVariants.{Substitution}
-use Rattle.ae_num.specs.Forms.{meaning, SameMeaning, IsNormal, IsRising, first_wide, IfWide, has_key, factor_of, others}
-use Rattle.ae_num.specs.Inner.Reduction.{Reduced, whole_of, whole_steps}
+use Rattle.ae_num.specs.Forms.{meaning, SameMeaning, IsNormal, IsRising, first_wide, IfWide, has_key, factor_of, others, Reduced}
+use Rattle.ae_num.specs.Inner.Reduction.{whole_of, whole_steps}
 use Rattle.ae_base.proofs.Results.{if_ok_both}
 use Rattle.ae_num.proofs.KeyLaws.{others_none, rising_others}
 use Rattle.ae_num.proofs.MeaningLaws.{subst_means, subst_absent}

@@ -2,8 +2,7 @@ use Rattle.std.proofs.Common.{◌≡◌, pos, ◌<ℤ◌, sym, subst, rules}
 use Rattle.std.proofs.lemmas.Int.{to_z-of_z}
 use mir.Syntax.{w128}
 use Rattle.ae_num.specs.declared.forms.Lin.{Lin}
-use Rattle.ae_num.specs.Forms.{IsNormal, lowest}
-use Rattle.ae_num.specs.Inner.Reduction.{Reduced}
+use Rattle.ae_num.specs.Forms.{IsNormal, lowest, Reduced}
 use Rattle.std.proofs.lemmas.Result.{IfOk-weaker}
 use Rattle.ae_num.proofs.NormalLaws.{positive_divisor, quotient_reduced, quotient_normal}
 use Rattle.ae_num.proofs.LowestLaws.{quotient_lowest}

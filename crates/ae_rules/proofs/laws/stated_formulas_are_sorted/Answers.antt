@@ -1,4 +1,4 @@
-use Rattle.ae_rules.proofs.Stated.{stated_sorted}
+use Rattle.ae_rules.proofs.SortedLines.{stated_sorted}
 use Rattle.ae_rules.proofs.laws.stated_formulas_are_sorted.Goals as goal
 
 pub returns : goal.returns

@@ -2,8 +2,8 @@ use Rattle.std.proofs.Common.{rules, arith, ◌≡◌, ◌<◌, ◌++◌, [], �
 use Rattle.std.proofs.lemmas.List.{take_all, take_more}
 use Rattle.ae_core.specs.declared.terms.Sort.{Named}
 use Rattle.ae_types.specs.Bound.{bound, reads, solved_by}
-use Rattle.ae_types.specs.Enters.{sheet}
-use Rattle.ae_types.specs.Graphs.{slots_of, unknown, value}
+use Rattle.ae_types.specs.Inner.Enters.{sheet}
+use Rattle.ae_types.specs.Inner.Graphs.{slots_of, unknown, value}
 use Rattle.ae_types.specs.Substitutions.{put}
 use Rattle.ae_types.proofs.FollowLaws.{map_before}
 use Rattle.ae_types.proofs.SortLaws.{put_named, put_var}

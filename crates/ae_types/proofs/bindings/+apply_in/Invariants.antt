@@ -1,7 +1,7 @@
 use Rattle.std.proofs.Common.{◌≡◌, map, take}
 use Rattle.ae_types.specs.Substitutions.{put}
 use Rattle.ae_types.specs.Bound.{bound}
-use Rattle.ae_types.specs.Enters.{sheet}
+use Rattle.ae_types.specs.Inner.Enters.{sheet}
 use Rattle.ae_types.proofs.bindings.+apply_in.Given as goal
 
 abbrev pub invariant-loop-arg : goal.invariant-loop-arg

@@ -1,5 +1,5 @@
 use Rattle.std.proofs.Common.{[], ◌∷◌, ◌++◌, ap, ◌∙◌, subst}
-use Rattle.ae_types.specs.Joins.{Blames}
+use Rattle.ae_types.specs.Inner.Joins.{Blames}
 use Rattle.ae_types.proofs.bindings.join.Goals as goal
 
 pub returns-clause-blamed : goal.returns-clause-blamed

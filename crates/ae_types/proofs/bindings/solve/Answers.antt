@@ -1,6 +1,6 @@
 use Rattle.std.proofs.Common.{Some, [], subst}
-use Rattle.ae_types.specs.Graphs.{origin}
-use Rattle.ae_types.specs.Joins.{Blames}
+use Rattle.ae_types.specs.Inner.Graphs.{origin}
+use Rattle.ae_types.specs.Inner.Joins.{Blames}
 use Rattle.ae_types.proofs.bindings.solve.Goals as goal
 
 pub returns-in-Err-settle-clause-err : goal.returns-in-Err-settle-clause-err

@@ -1,6 +1,6 @@
 use Rattle.std.proofs.Common.{length}
-use Rattle.ae_types.specs.Graphs.{slots_of}
-use Rattle.ae_types.specs.Walks.{Walking, KeepsSeen, left}
+use Rattle.ae_types.specs.Inner.Graphs.{slots_of}
+use Rattle.ae_types.specs.Inner.Walks.{Walking, KeepsSeen, left}
 use Rattle.ae_types.proofs.cycles.descend.Given as goal
 
 abbrev pub invariant-loop-frame : goal.invariant-loop-frame

@@ -1,5 +1,5 @@
 use Rattle.std.proofs.Common.{ℕ, ◌<◌, ◌≤◌, length}
-use Rattle.ae_types.specs.Walks.{frame_at}
+use Rattle.ae_types.specs.Inner.Walks.{frame_at}
 use Rattle.ae_types.proofs.cycles.lowest.Given as goal
 
 abbrev pub invariant-loop-k : goal.invariant-loop-k

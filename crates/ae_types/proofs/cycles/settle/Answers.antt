@@ -1,7 +1,7 @@
 use Rattle.std.proofs.Common.{◌≡◌, ◌≢◌, ℕ, ◌<◌, ◌+◌, inl, inr, length, [], ap, sym, ◌∙◌, subst, arith}
 use Rattle.ae_types.specs.declared.cycles.Mark.TheVariants.{New, Open}
-use Rattle.ae_types.specs.Graphs.{slots_of}
-use Rattle.ae_types.specs.Walks.{mark_at, Walking, IsFresh}
+use Rattle.ae_types.specs.Inner.Graphs.{slots_of}
+use Rattle.ae_types.specs.Inner.Walks.{mark_at, Walking, IsFresh}
 use Rattle.ae_types.proofs.GraphLaws.{slots_length}
 use Rattle.ae_types.proofs.WalkLaws.{fresh_walks, walk_opens, walk_settles, settle_step}
 use Rattle.ae_types.proofs.EnterLaws.{inside}

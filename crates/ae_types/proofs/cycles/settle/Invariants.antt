@@ -1,7 +1,7 @@
 use Rattle.std.proofs.Common.{◌≡◌, ◌≢◌, ℕ, ◌<◌, []}
 use Rattle.ae_types.specs.declared.cycles.Mark.TheVariants.{New}
-use Rattle.ae_types.specs.Graphs.{slots_of}
-use Rattle.ae_types.specs.Walks.{Walking, mark_at}
+use Rattle.ae_types.specs.Inner.Graphs.{slots_of}
+use Rattle.ae_types.specs.Inner.Walks.{Walking, mark_at}
 use Rattle.ae_types.proofs.cycles.settle.Given as goal
 
 abbrev pub invariant-loop-place : goal.invariant-loop-place

@@ -1,7 +1,7 @@
 use Rattle.std.proofs.Common.{◌∙◌, ap, arith, length, length-append, [], ◌∷◌}
 use Rattle.ae_types.specs.declared.cycles.Mark.TheVariants.{New}
-use Rattle.ae_types.specs.Levels.{empties}
-use Rattle.ae_types.specs.Walks.{levels, mark_at}
+use Rattle.ae_types.specs.Inner.Levels.{empties}
+use Rattle.ae_types.specs.Inner.Walks.{levels, mark_at}
 use Rattle.ae_types.proofs.WalkLaws.{new_more, empties_more}
 use Rattle.ae_types.proofs.cycles.start.Goals as goal
 

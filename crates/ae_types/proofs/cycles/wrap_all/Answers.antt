@@ -1,7 +1,7 @@
 use Rattle.std.proofs.Common.{◌≡◌, ◌≢◌, ◌-◌, ◌+◌, ◌<◌, ◌≤◌, sym, subst, arith}
 use Rattle.ae_core.specs.declared.terms.Sort.{Var}
-use Rattle.ae_types.specs.Graphs.{slot_at, slots_of}
-use Rattle.ae_types.specs.Walks.{frame_at, begin, Wraps}
+use Rattle.ae_types.specs.Inner.Graphs.{slot_at, slots_of}
+use Rattle.ae_types.specs.Inner.Walks.{frame_at, begin, Wraps}
 use Rattle.ae_types.proofs.CycleLaws.{wraps_none, wraps_more, wrap_built}
 use Rattle.ae_types.proofs.cycles.wrap_all.Goals as goal
 

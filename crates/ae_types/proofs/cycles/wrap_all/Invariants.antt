@@ -1,7 +1,7 @@
 use Rattle.std.proofs.Common.{ℕ, ◌<◌, ◌≤◌, ◌≢◌}
 use Rattle.ae_core.specs.declared.terms.Sort.{Var}
-use Rattle.ae_types.specs.Graphs.{slot_at, slots_of}
-use Rattle.ae_types.specs.Walks.{frame_at, begin, RunsTo, Wraps, IsBuilt}
+use Rattle.ae_types.specs.Inner.Graphs.{slot_at, slots_of}
+use Rattle.ae_types.specs.Inner.Walks.{frame_at, begin, RunsTo, Wraps, IsBuilt}
 use Rattle.ae_types.proofs.cycles.wrap_all.Given as goal
 
 abbrev pub invariant-loop-at : goal.invariant-loop-at

@@ -1,6 +1,6 @@
 use Rattle.std.proofs.Common.{rules, arith, ◌≡◌, ◌<◌, ◌+◌, ap, sym, ◌∙◌, subst, take, length, ◌++◌, [], ◌∷◌}
 use Rattle.std.proofs.lemmas.List.{take_more, take_all}
-use Rattle.ae_types.specs.Enters.{AllStand, StandsFor, sheet}
+use Rattle.ae_types.specs.Inner.Enters.{AllStand, StandsFor, sheet}
 use Rattle.ae_types.proofs.EnterLaws.{adds_built, all_more, all_snoc, grows_trans}
 use Rattle.ae_types.proofs.enter.+enter.Goals as goal
 

@@ -1,5 +1,5 @@
 use Rattle.std.proofs.Common.{take}
-use Rattle.ae_types.specs.Enters.{Grows, AllStand, sheet}
+use Rattle.ae_types.specs.Inner.Enters.{Grows, AllStand, sheet}
 use Rattle.ae_types.proofs.enter.+enter.Given as goal
 
 abbrev pub invariant-loop-arg : goal.invariant-loop-arg

@@ -1,4 +1,4 @@
-use Rattle.ae_types.specs.Enters.{sheet}
+use Rattle.ae_types.specs.Inner.Enters.{sheet}
 use Rattle.ae_types.proofs.EnterLaws.{adds_variable}
 use Rattle.ae_types.proofs.enter.add_variable.Goals as goal
 

@@ -1,4 +1,4 @@
-use Rattle.ae_types.specs.Enters.{sheet}
+use Rattle.ae_types.specs.Inner.Enters.{sheet}
 use Rattle.ae_types.proofs.EnterLaws.{adds_constant}
 use Rattle.ae_types.proofs.enter.enter_constant.Goals as goal
 

@@ -1,6 +1,6 @@
 use Rattle.std.proofs.Common.{rules, ◌<◌, ◌+◌, ◌++◌, [], ◌∷◌, ap, sym, ◌∙◌, subst, take, length}
 use Rattle.std.proofs.lemmas.List.{take_more}
-use Rattle.ae_types.specs.Enters.{PairsStand, sheet}
+use Rattle.ae_types.specs.Inner.Enters.{PairsStand, sheet}
 use Rattle.ae_types.proofs.EnterLaws.{pairs_more, pairs_snoc, stands_more, grows_trans}
 use Rattle.ae_types.proofs.enter.enter_pairs.Goals as goal
 

@@ -1,5 +1,5 @@
 use Rattle.std.proofs.Common.{take}
-use Rattle.ae_types.specs.Enters.{Grows, PairsStand, sheet}
+use Rattle.ae_types.specs.Inner.Enters.{Grows, PairsStand, sheet}
 use Rattle.ae_types.proofs.enter.enter_pairs.Given as goal
 
 abbrev pub invariant-loop-pair : goal.invariant-loop-pair

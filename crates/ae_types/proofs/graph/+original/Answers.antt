@@ -2,7 +2,7 @@ use Rattle.std.proofs.Common.{rules, ap, sym, ◌∙◌, arith}
 use Rattle.ae_core.specs.declared.terms.Sort.{Named}
 use Rattle.ae_types.specs.declared.graph.Node.TheVariants as node
 use Rattle.ae_types.specs.declared.graph.Constant.TheVariants as constant
-use Rattle.ae_types.specs.Graphs.{origin}
+use Rattle.ae_types.specs.Inner.Graphs.{origin}
 use Rattle.ae_types.proofs.GraphLaws.{read_at, origin_built, all_mapped}
 use Rattle.ae_types.proofs.graph.+original.Goals as goal
 

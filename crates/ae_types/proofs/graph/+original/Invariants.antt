@@ -1,5 +1,5 @@
 use Rattle.std.proofs.Common.{◌≡◌, map, take}
-use Rattle.ae_types.specs.Graphs.{origin}
+use Rattle.ae_types.specs.Inner.Graphs.{origin}
 use Rattle.ae_types.proofs.graph.+original.Given as goal
 
 abbrev pub decreases-original : goal.decreases-original

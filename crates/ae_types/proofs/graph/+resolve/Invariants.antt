@@ -1,5 +1,5 @@
 use Rattle.std.proofs.Common.{◌≡◌, map, take, ◌-◌}
-use Rattle.ae_types.specs.Graphs.{value, unknown, slots_of}
+use Rattle.ae_types.specs.Inner.Graphs.{value, unknown, slots_of}
 use Rattle.ae_types.proofs.graph.+resolve.Given as goal
 
 abbrev pub decreases-resolve : goal.decreases-resolve

@@ -1,5 +1,5 @@
 use Rattle.std.proofs.Common.{refl, arith, ap, sym, ◌∙◌}
-use Rattle.ae_types.specs.Graphs.{class_at}
+use Rattle.ae_types.specs.Inner.Graphs.{class_at}
 use Rattle.ae_types.proofs.JoinLaws.{shortened_refl, shortened_trans}
 use Rattle.ae_types.proofs.LinkLaws.{link_same}
 use Rattle.ae_types.proofs.FollowLaws.{same_refl, same_trans}

@@ -2,8 +2,8 @@ use Rattle.std.proofs.Common.{◌≡◌, ℕ, ◌<◌, length, List, Option}
 use Rattle.ae_core.specs.declared.terms.Sort.{Sort}
 use Rattle.ae_types.specs.declared.pairs.SortPair.{SortPair}
 use Rattle.ae_types.specs.declared.graph.Node.{Node}
-use Rattle.ae_types.specs.Graphs.{Solves, Same, slots_of, rewound}
-use Rattle.ae_types.specs.Joins.{Shortened}
+use Rattle.ae_types.specs.Inner.Graphs.{Solves, Same, slots_of, rewound}
+use Rattle.ae_types.specs.Inner.Joins.{Shortened}
 use Rattle.ae_types.proofs.graph.find.Given as goal
 
 abbrev pub invariant-loop-at : goal.invariant-loop-at

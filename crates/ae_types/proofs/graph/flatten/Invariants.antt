@@ -1,6 +1,6 @@
 use Rattle.std.proofs.Common.{◌≡◌}
-use Rattle.ae_types.specs.Graphs.{rewound}
-use Rattle.ae_types.specs.Joins.{Shortened}
+use Rattle.ae_types.specs.Inner.Graphs.{rewound}
+use Rattle.ae_types.specs.Inner.Joins.{Shortened}
 use Rattle.ae_types.proofs.graph.flatten.Given as goal
 
 abbrev pub invariant-loop-at : goal.invariant-loop-at

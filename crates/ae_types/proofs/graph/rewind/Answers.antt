@@ -1,6 +1,7 @@
 use Rattle.std.proofs.Common.{◌≤◌, length, ap, sym, ◌∙◌, arith}
-use Rattle.ae_types.specs.Graphs.{rewound}
-use Rattle.ae_types.proofs.GraphLaws.{rewound_last, set_past}
+use Rattle.ae_types.specs.Inner.Graphs.{rewound}
+use Rattle.ae_types.proofs.GraphLaws.{rewound_last}
+use Rattle.std.proofs.lemmas.List.{set_past}
 use Rattle.ae_types.proofs.graph.rewind.Goals as goal
 
 pub loop-change-preserved-then-change-len : goal.loop-change-preserved-then-change-len

@@ -1,5 +1,5 @@
 use Rattle.std.proofs.Common.{◌≡◌, length}
-use Rattle.ae_types.specs.Graphs.{rewound}
+use Rattle.ae_types.specs.Inner.Graphs.{rewound}
 use Rattle.ae_types.proofs.graph.rewind.Given as goal
 
 abbrev pub invariant-loop-change : goal.invariant-loop-change

@@ -1,6 +1,6 @@
 use Rattle.std.proofs.Common.{ap, sym, ◌∙◌, subst}
-use Rattle.ae_types.specs.Graphs.{class_at}
-use Rattle.ae_types.specs.Joins.{Shortened}
+use Rattle.ae_types.specs.Inner.Graphs.{class_at}
+use Rattle.ae_types.specs.Inner.Joins.{Shortened}
 use Rattle.ae_types.proofs.LinkLaws.{shortened_set}
 use Rattle.ae_types.proofs.graph.shorten.Goals as goal
 

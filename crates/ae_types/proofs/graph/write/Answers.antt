@@ -1,5 +1,5 @@
 use Rattle.std.proofs.Common.{ap}
-use Rattle.ae_types.specs.Graphs.{class_at}
+use Rattle.ae_types.specs.Inner.Graphs.{class_at}
 use Rattle.ae_types.proofs.LinkLaws.{written_back}
 use Rattle.ae_types.proofs.graph.write.Goals as goal
 

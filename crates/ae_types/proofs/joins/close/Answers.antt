@@ -1,5 +1,5 @@
 use Rattle.std.proofs.Common.{rules, ◌≡◌, [], ◌∙◌, subst}
-use Rattle.ae_types.specs.Joins.{Closing}
+use Rattle.ae_types.specs.Inner.Joins.{Closing}
 use Rattle.ae_types.proofs.JoinLaws.{closing, closing_shortened, last_pair, blamed}
 use Rattle.ae_types.proofs.joins.close.Goals as goal
 

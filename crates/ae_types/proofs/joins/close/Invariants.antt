@@ -1,6 +1,6 @@
 use Rattle.std.proofs.Common.{◌≡◌, ◌+◌, length}
-use Rattle.ae_types.specs.Graphs.{slots_of, rewound}
-use Rattle.ae_types.specs.Joins.{weight, Closing}
+use Rattle.ae_types.specs.Inner.Graphs.{slots_of, rewound}
+use Rattle.ae_types.specs.Inner.Joins.{weight, Closing}
 use Rattle.ae_types.proofs.joins.close.Given as goal
 
 abbrev pub invariant-loop-pair : goal.invariant-loop-pair

@@ -1,5 +1,5 @@
 use Rattle.std.proofs.Common.{◌≡◌, drop, ◌++◌}
-use Rattle.ae_types.specs.Joins.{pairs_of}
+use Rattle.ae_types.specs.Inner.Joins.{pairs_of}
 use Rattle.ae_types.proofs.joins.push_pairs.Given as goal
 
 abbrev pub invariant-loop-i : goal.invariant-loop-i

@@ -1,5 +1,6 @@
 use Rattle.std.proofs.Common.{◌<◌, arith}
-use Rattle.ae_types.proofs.JoinLaws.{found_same, step_forward, step_backward, blame_forward, blame_backward, on_ok, if_err}
+use Rattle.std.proofs.lemmas.Result.{IfErr-weaker}
+use Rattle.ae_types.proofs.JoinLaws.{found_same, step_forward, step_backward, blame_forward, blame_backward, on_ok}
 use Rattle.ae_types.proofs.joins.step.Goals as goal
 
 pub returns-then-left-right-clause-ok : goal.returns-then-left-right-clause-ok
@@ -16,7 +17,7 @@ returns-then-left-right-2-clause-ok c =
 
 pub returns-then-left-right-2-clause-err : goal.returns-then-left-right-2-clause-err
 returns-then-left-right-2-clause-err c =
-    if_err c.unite.result _ _
+    IfErr-weaker c.unite.result _ _
     (blame_forward c.args.nodes.now c.args.classes.now c.find.new.classes c.find-2.new.classes c.unite.new.classes c.args.todo.now c.unite.new.todo c.args.pair c.in_ok-left.left c.in_ok-right.right
     c.requires.well c.in_ok-left.ensures.found c.in_ok-right.ensures.found)
     c.unite.ensures.err
@@ -31,7 +32,7 @@ returns-else-left-right-2-clause-ok c =
 
 pub returns-else-left-right-2-clause-err : goal.returns-else-left-right-2-clause-err
 returns-else-left-right-2-clause-err c =
-    if_err c.unite-else-left-right-2.result _ _
+    IfErr-weaker c.unite-else-left-right-2.result _ _
     (blame_backward c.args.nodes.now c.args.classes.now c.find.new.classes c.find-2.new.classes c.unite-else-left-right-2.new.classes c.args.todo.now c.unite-else-left-right-2.new.todo c.args.pair c.in_ok-left.left c.in_ok-right.right
     c.requires.well c.in_ok-left.ensures.found c.in_ok-right.ensures.found)
     c.unite-else-left-right-2.ensures.err

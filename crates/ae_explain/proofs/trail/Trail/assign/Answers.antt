@@ -6,7 +6,7 @@ use Rattle.ae_core.specs.Orders.{formula_order}
 use Rattle.ae_core.specs.declared.formulas.Formula.{Formula}
 use Rattle.ae_explain.specs.declared.trail.Assigned.{Assigned}
 use Rattle.ae_explain.specs.Trail.{place_in}
-use Rattle.ae_explain.specs.Index.{IsIndex}
+use Rattle.ae_explain.specs.Inner.Index.{IsIndex}
 use Rattle.ae_explain.proofs.Indexing.{grown}
 use Rattle.ae_explain.proofs.trail.Trail.assign.Goals as goal
 
