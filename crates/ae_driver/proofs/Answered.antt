@@ -1,5 +1,5 @@
 -- A refuted chain is a valid goal of its text's problem, and a chain that values tell apart is one that has a saturated state.
-use Rattle.std.specs.Prelude.{ℕ, zero, suc, ◌+◌, ◌<◌, ◌≤◌, ◌⊎◌, true, false, List, [], ◌∷◌, ◌++◌, ◌≡◌, map, length, get_or, take, slice_get, ◌≢◌, Option, Some, None, IfSome, Result, Ok, Err, IfOk}
+use Rattle.std.specs.Prelude.{ℕ, zero, suc, ◌+◌, ◌<◌, ◌≤◌, ◌⊎◌, Bool, true, false, List, [], ◌∷◌, ◌++◌, ◌≡◌, map, length, get_or, take, slice_get, ◌≢◌, Option, Some, None, IfSome, Result, Ok, Err, IfOk}
 use Rattle.std.specs.List.{AllByRecursion}
 use Rattle.std.proofs.Common.{refl, sym, ap, ◌∙◌, subst, arith, inl, inr, ⊎_elim, append_assoc, append-nil, length-append}
 use Rattle.ae_core.specs.Decided.{Sorts_discrete}
@@ -8,7 +8,8 @@ use Rattle.ae_core.specs.Sorts.{sort_of, term_ok, is_closed_sort, symbol_sort}
 use Rattle.ae_core.specs.Putting.{put_sort}
 use Rattle.ae_rules.specs.Clauses.{no_of}
 use Rattle.ae_rules.specs.Derivations.{Derives, goal_body}
-use Rattle.ae_core.proofs.SortLaws.{sort_in_apply, put_named}
+use Rattle.ae_core.proofs.SortLaws.{sort_in_apply}
+use Rattle.ae_core.proofs.PuttingLaws.{put_named}
 use Rattle.ae_core.specs.declared.terms.Term.{Term}
 use Rattle.ae_core.specs.declared.terms.Head.TheVariants.{Symbol}
 use Rattle.ae_core.specs.declared.formulas.Formula.{Formula}
@@ -99,10 +100,11 @@ module _ (f : FirstText) where
     saturated_here : (bound : ℕ) → IsSaturated (problem f) k (state_of n g.hyps g.last (numbers_of vs)) bound
     saturated_here = saturated f k g (numbers_of vs) values (λ b h. body_of k g b e h) ok.hyps ok.last same open_values.apart
 
-    false_here : (b : Formula) → goal_body (problem f) k ≡ Some b → is_true_at (signature f) (constant_system n (numbers_of vs)) unassigned (state_literals g.hyps g.last) b ≡ false
-    false_here b h =
-        ap (is_true_at (signature f) (constant_system n (numbers_of vs)) unassigned (state_literals g.hyps g.last)) (sym (body_of k g b e h))
-        ∙ goal_is_false f (numbers_of vs) values (state_literals g.hyps g.last) g.last ok.last open_values.apart g.hyps ok.hyps same
+    false_here : (way : Bool) (b : Formula) → goal_body (problem f) k ≡ Some b
+        → is_true_at (signature f) (constant_system n (numbers_of vs)) way unassigned (state_literals g.hyps g.last) b ≡ false
+    false_here way b h =
+        ap (is_true_at (signature f) (constant_system n (numbers_of vs)) way unassigned (state_literals g.hyps g.last)) (sym (body_of k g b e h))
+        ∙ goal_is_false f (numbers_of vs) values way (state_literals g.hyps g.last) g.last ok.last open_values.apart g.hyps ok.hyps same
 
     -- these values of constants are as the hypotheses say, and tell the sides of the last equation apart
     none_derive : (proof : Proof) → Derives (problem f) k proof → ⊥

@@ -9,7 +9,7 @@ use Rattle.ae_rules.specs.Clauses.{Clause, no_of, opposite, is_true, is_false, r
 use Rattle.ae_rules.specs.Derivations.{goal_body, conclusion, stated_by, hinted, is_refuted, IsAllowed, AreAllowed, last_of, Derives, IsContradictory, clause_ok, formula_stands}
 use Rattle.ae_core.proofs.SortLaws.{formula_in_eq, formula_in_not, formula_in_or}
 use Rattle.ae_rules.specs.declared.rows.TheConstants.{OR_FROM_LEFT, OR_FROM_RIGHT}
-use Rattle.ae_rules.proofs.Stated.{clause_stated}
+use Rattle.ae_rules.proofs.SortedLines.{clause_stated}
 use Rattle.ae_rules.proofs.ClauseLaws.{literal_eq, literal_not, literal_or, row_or}
 use Rattle.ae_core.specs.declared.terms.Sort.{Sort}
 use Rattle.ae_core.specs.declared.formulas.Formula.{Not}

@@ -10,7 +10,8 @@ use Rattle.ae_core.specs.Sorts.{is_numeric, is_closed_sort, sort_of, sort_in, sy
 use Rattle.ae_core.specs.Putting.{put_sort}
 use Rattle.ae_rules.specs.Instances.{choices_of}
 use Rattle.ae_rules.specs.Derivations.{IsConstructor}
-use Rattle.ae_core.proofs.SortLaws.{sort_in_apply, put_named, formula_in_pred}
+use Rattle.ae_core.proofs.SortLaws.{sort_in_apply, formula_in_pred}
+use Rattle.ae_core.proofs.PuttingLaws.{put_named}
 use Rattle.ae_core.specs.declared.terms.Sort.{Sort, Int, Real, out-Sort}
 use Rattle.ae_core.specs.declared.terms.Sort.TheOpen as sort_layer
 use Rattle.ae_core.specs.declared.terms.Sort.TheVariants.{outs-Named, outs-Int, outs-Real}

@@ -18,10 +18,10 @@ use Rattle.ae_driver.specs.declared.first_text.FirstText.{FirstText}
 use Rattle.ae_driver.specs.Problems.{constant, equation, chain, goal_item, problem}
 use Rattle.ae_driver.specs.Soundness.{IsSound}
 use Rattle.ae_models.specs.Structures.{Value, Element, Structure}
-use Rattle.ae_models.specs.Truth.{Fresh, same, value, Settled, Holds, claim, IsTrue}
+use Rattle.ae_models.specs.Truth.{FreshValues, same, value, Settled, Holds, claim, IsTrue}
 use Rattle.ae_models.proofs.ClaimLaws.{value_apply, claim_eq, claim_or, claim_not}
 use Rattle.ae_models.proofs.ModelTerms.{same_is}
-use Rattle.ae_models.proofs.FirstForm.{with_constants, constants_interpret, constants_lawful, constant_value}
+use Rattle.ae_models.proofs.Constants.{with_constants, constants_interpret, constants_lawful, constant_value}
 use Rattle.ae_math.specs.Fractions.{ℚ}
 use Rattle.ae_models.proofs.Soundness.{none_derives}
 use Rattle.ae_base.proofs.ListFacts.{get_map}
@@ -35,7 +35,7 @@ no_axiom [] n name v b e = never_some _ e
 no_axiom (g ∷ gs) zero name v b e = let h : ◌≡◌ {A = Item} (goal_item g) (Axiom name v b) = same_Some (goal_item g) (Axiom name v b) e in cc h
 no_axiom (g ∷ gs) (suc n) name v b e = no_axiom gs n name v b e
 
-module _ (c : ℕ → ℕ) (fresh : Fresh (with_constants c)) where
+module _ (c : ℕ → ℕ) (fresh : FreshValues (with_constants c)) where
   constant_worth : (n : ℕ) → value (with_constants c) fresh [] (constant n) ≡ Element (c n, Named 0 [])
   constant_worth n = constant_value c fresh n
 

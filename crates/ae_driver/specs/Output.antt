@@ -1,5 +1,5 @@
 -- The answer to a text: what is written, and why it is right.
-use Rattle.std.specs.Prelude.{◌≡◌, ◌⊎◌, ℕ, zero, suc, false, ◌<◌, ◌≤◌, List, [], ◌++◌, map, length, Option, Some, None, slice_get, codes}
+use Rattle.std.specs.Prelude.{◌≡◌, ◌⊎◌, ℕ, zero, suc, Bool, false, ◌<◌, ◌≤◌, List, [], ◌++◌, map, length, Option, Some, None, slice_get, codes}
 use Rattle.ae_base.specs.Options.{◌>>=◌}
 use Rattle.ae_rules.specs.Derivations.{Derives, goal_body}
 use Rattle.ae_core.specs.declared.formulas.Formula.{Formula}
@@ -46,13 +46,13 @@ pub record IsValidPart (p : Problem) (k : ℕ) (part : List ℕ) : Type 0 where
   pub written : part ≡ codes "goal " ++ name ++ codes " Valid\n" ++ text
 
 -- the part of the goal at place k: the line `goal NAME I don't know`, and the text of a state that is saturated whatever the bound on generations is, and in
--- which the goal is false; no proof derives the goal
+-- which the goal is false, evaluated plainly and with constructors; no proof derives the goal
 pub record IsUnknownPart (p : Problem) (k : ℕ) (part : List ℕ) : Type 0 where
   pub name : List ℕ
   pub is_name : goal_name p k ≡ Some name
   pub state : Saturated
   pub saturated : (bound : ℕ) → IsSaturated p k state bound
-  pub goal_false : (f : Formula) → goal_body p k ≡ Some f → is_true_at p.signature state.system unassigned state.literals f ≡ false
+  pub goal_false : (way : Bool) (f : Formula) → goal_body p k ≡ Some f → is_true_at p.signature state.system way unassigned state.literals f ≡ false
   pub none_derives : (proof : Proof) → Derives p k proof → ⊥
   pub text : List ℕ
   pub is_text : state_text (symbol_names p.signature) state ≡ Some text
