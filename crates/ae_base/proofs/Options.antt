@@ -68,7 +68,8 @@ known_append (None ∷ os) y = refl
 known_append (Some x ∷ os) y = ap (λ o. o >>= λ xs. Some (x ∷ xs)) (known_append os y) ∙ known_push x y (all_known os)
 
 -- one more value that is known
-pub known_step : {A B : Type 0} (f : A → Option B) (xs : List A) (i : ℕ) (d : A) (ys : List B) (y : B) → i < length xs → all_known (map f (take i xs)) ≡ Some ys → f (get_or xs i d) ≡ Some y → all_known (map f (take (i + 1) xs)) ≡ Some (ys ++ y ∷ [])
+pub known_step : {A B : Type 0} (f : A → Option B) (xs : List A) (i : ℕ) (d : A) (ys : List B) (y : B) → i < length xs → all_known (map f (take i xs)) ≡ Some ys → f (get_or xs i d) ≡ Some y
+    → all_known (map f (take (i + 1) xs)) ≡ Some (ys ++ y ∷ [])
 known_step f xs i d ys y b p q =
     ap (λ zs. all_known (map f zs)) (take_more xs i d b) ∙ ap all_known (map_push f (take i xs) (get_or xs i d)) ∙ ap (λ o. all_known (map f (take i xs) ++ o ∷ [])) q
     ∙ known_append (map f (take i xs)) y ∙ ap (λ o. o >>= λ ys. Some (ys ++ y ∷ [])) p

@@ -2,4 +2,6 @@
 #![tactic(auto)]
 
 pub mod lists;
+#[cfg(test)]
+mod word_tests;
 pub mod words;

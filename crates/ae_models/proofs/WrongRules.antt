@@ -25,9 +25,9 @@ use Rattle.ae_core.specs.Putting.{put_formula, put_sort}
 use Rattle.ae_base.specs.Options.{◌>>=◌, only, when, all_known}
 use Rattle.ae_core.specs.Sorts.{sort_in, sort_of, head_sort, is_closed_sort, sort_ok, type_fits, same_sorts, same_known, numeral_ok, formula_in, formula_ok}
 use Rattle.ae_rules.proofs.LinearLaws.{form-Num, form-Fresh, real_sum}
-use Rattle.ae_core.proofs.PuttingLaws.{put_not, put_eq, put_bound, put_fresh}
+use Rattle.ae_core.proofs.PuttingLaws.{put_not, put_eq, put_bound, put_fresh, put_named}
 use Rattle.ae_rules.proofs.ClauseLaws.{literal_not, literal_eq}
-use Rattle.ae_core.proofs.SortLaws.{put_named, ok_var, ok_named, ok_real, sort_in_num, sort_in_bound, sort_in_fresh, sort_in_apply, formula_in_ex}
+use Rattle.ae_core.proofs.SortLaws.{ok_var, ok_named, ok_real, sort_in_num, sort_in_bound, sort_in_fresh, sort_in_apply, formula_in_ex}
 use Rattle.ae_core.proofs.SortLaws.{formula_in_not, formula_in_eq, quant_in_block}
 use Rattle.ae_core.specs.declared.terms.Sort.{Sort, Sort-F, Real, Named, out-Sort, roll-Sort, roll-out-Sort}
 use Rattle.ae_core.specs.declared.terms.Sort.TheOpen as sort_layer
@@ -48,7 +48,7 @@ use Rattle.ae_models.specs.Truth.{FreshValues, Holds as ClaimHolds, value, appli
 use Rattle.ae_models.specs.Examples.{Thing, Count, Red, Green, Point, Other, count, colour, green, red, first, example_signature, example}
 use Rattle.ae_models.specs.WrongRules.{Values, Says, LinWithFactorZero, SumWithNegativeFactor, GcdOfReals, FreshOfUsedConstant}
 use Rattle.ae_models.specs.WrongRules.{ExhaustionWithoutTheLast, AcOfAnotherSymbol, AxiomAfterTheGoal}
-use Rattle.ae_models.proofs.AcTerms.{flat_apply, flat_fresh}
+use Rattle.ae_rules.proofs.FlatLaws.{flat_apply, flat_fresh}
 use Rattle.ae_models.proofs.ClaimLaws.{value_num, value_fresh, value_bound, value_apply, claim_eq, claim_le, claim_not, claim_ex}
 use Rattle.ae_models.proofs.Example.{no_list, greater}
 use Rattle.ae_models.proofs.ModelTerms.{out_real, out_named, belongs_real, real_belongs, same_is}

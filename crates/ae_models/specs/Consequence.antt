@@ -15,7 +15,7 @@ use Rattle.ae_core.specs.declared.problems.Item.TheVariants.{Axiom}
 use Rattle.ae_core.specs.declared.proofs.Proof.{Proof}
 use Rattle.ae_models.specs.Structures.{Structure, IsInterpretation}
 use Rattle.ae_models.specs.Truth.{IsTrueIn}
-use Rattle.ae_models.specs.Inner.Trees.{Tree}
+use Rattle.ae_models.specs.Trees.{Tree}
 
 -- each axiom before the goal at place g is true, with all closed sorts for its type variables
 abbrev pub AxiomsAreTrue : Problem → ℕ → {E K : Type 0} → Structure E K → Type 0

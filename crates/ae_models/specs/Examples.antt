@@ -59,7 +59,10 @@ Thing_discrete (Count a) (Count b) = elim (ℕ_discrete a b) [ yes e ↦ yes (ap
 Thing_discrete Red Red = yes refl
 Thing_discrete Green Green = yes refl
 Thing_discrete (Point p q) (Point r s) =
-    elim (ℚ_discrete p r) [ yes e ↦ elim (ℚ_discrete q s) [ yes f ↦ yes (λ i. Point (e i) (f i)) | no n ↦ no (λ h. n cc) ] | no n ↦ no (λ h. n cc) ]
+    elim (ℚ_discrete p r) [
+      | yes e ↦ elim (ℚ_discrete q s) [ yes f ↦ yes (λ i. Point (e i) (f i)) | no n ↦ no (λ h. n cc) ]
+      | no n ↦ no (λ h. n cc)
+    ]
 Thing_discrete (Other i) (Other j) = elim (ℕ_discrete i j) [ yes e ↦ yes (ap Other e) | no n ↦ no (λ h. n cc) ]
 Thing_discrete _ _ = no (λ e. cc)
 
@@ -71,9 +74,9 @@ thing_sort (Point p q) = point
 thing_sort (Other i) = Rigid i
 
 -- `plus` is the sum
-abbrev pub sum_of : List (Value Thing ℚ) → Value Thing ℚ
-sum_of (Element (Count a) ∷ Element (Count b) ∷ []) = Element (Count (a + b))
-sum_of _ = Void
+abbrev pub sum_value : List (Value Thing ℚ) → Value Thing ℚ
+sum_value (Element (Count a) ∷ Element (Count b) ∷ []) = Element (Count (a + b))
+sum_value _ = Void
 
 -- `first` is its first argument
 abbrev pub first_of : List (Value Thing ℚ) → Value Thing ℚ
@@ -81,7 +84,7 @@ first_of (u ∷ v ∷ []) = u
 first_of _ = Void
 
 abbrev pub symbol_value : ℕ → List (Value Thing ℚ) → Value Thing ℚ
-symbol_value zero vs = sum_of vs
+symbol_value zero vs = sum_value vs
 symbol_value (suc zero) vs = Element Red
 symbol_value (suc (suc zero)) vs = Element Green
 symbol_value (suc (suc (suc n))) vs = first_of vs

@@ -1,5 +1,5 @@
 -- The keys of two forms in order, and the first pair of factors.
-use Rattle.std.specs.Prelude.{ℕ, pos, ◌≡◌, ◌<◌, ◌+◌, true, false, cond, nat_eq, nat_lt, List, [], ◌∷◌, map, drop, length, slice_get, Some, None}
+use Rattle.std.specs.Prelude.{ℕ, pos, ◌≡◌, ◌<◌, ◌+◌, true, false, cond, nat_eq, nat_lt, List, [], ◌∷◌, map, drop, slice_get, Some, None}
 use Rattle.std.specs.List.{AllByRecursion}
 use Rattle.std.proofs.Common.{arith, refl, sym, ap, ◌∙◌, subst, zero, suc}
 use Rattle.std.proofs.lemmas.Bool.{eq-eqb, lt-ltb, le-ltb}
@@ -191,11 +191,6 @@ pub taken : (ps qs : List Part) (i j : ℕ) (r : Pair) (m n : ℕ) (t : Taken) �
 taken ps qs i j r m n t e h =
     subst (λ u. pairs_of (drop i ps) (drop j qs) ≡ u.pair ∷ pairs_of (drop (i + u.left) ps) (drop (j + u.right) qs)) (sym e)
     (h ∙ (λ k. r ∷ pairs_of (drop-drop i m ps k) (drop-drop j n qs k)))
-
-pub place_within : (ps : List Part) (i : ℕ) (p : Part) → slice_get ps i ≡ Some p → i < length ps
-place_within [] i p e = cc
-place_within (x ∷ ps) zero p e = omega arith
-place_within (x ∷ ps) (suc i) p e = let h = place_within ps i p e in omega arith
 
 pub place_after : (ps : List Part) (i : ℕ) → slice_get ps i ≡ None → drop i ps ≡ []
 place_after [] zero e = refl

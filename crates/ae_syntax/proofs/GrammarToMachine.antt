@@ -1,5 +1,6 @@
 -- What the grammar relates to tokens, the machine reads: its part, whatever follows, with the depth of each token.
-use Rattle.std.proofs.Common.{ℕ, suc, ◌<◌, true, List, [], ◌∷◌, ◌++◌, ◌≡◌, Option, Some, None, refl, sym, ap, ◌∙◌, arith, append_assoc}
+use Rattle.std.proofs.Common.{ℕ, suc, ◌<◌, true, List, [], ◌∷◌, ◌++◌, ◌≡◌, Option, Some, refl, sym, ap, ◌∙◌, arith, append_assoc}
+use Rattle.ae_base.proofs.Options.{never_some}
 use Rattle.ae_lex.specs.declared.kinds.Token.{Token}
 use Rattle.ae_lex.specs.declared.kinds.TokenKind.{TokenKind}
 use Rattle.ae_lex.specs.declared.kinds.TokenKind.TheVariants as kind
@@ -135,17 +136,12 @@ drop_left of_names d n rest ss v l = refl
 drop_left r d n rest ss v l = refl
 
 -- ---- operators
-clash : {A : Type 0} {B : Type 0} {x : A} → ◌≡◌ {A = Option A} None (Some x) → B
-clash {A} {B} {x} e = absurd (go e)
-  where
-    go : ◌≡◌ {A = Option A} None (Some x) → ⊥
-    go e = cc
 
 arrow_pull : (k : TokenKind) (o : BinaryOp) → arrow k ≡ Some o → pull_of k ≡ 3
 arrow_pull (kind.Sign sign.Arrow) o e = refl
 arrow_pull (kind.Sign sign.Iff) o e = refl
 arrow_pull (kind.Reserved word.Xor) o e = refl
-arrow_pull k o e = clash e
+arrow_pull k o e = never_some _ e
 
 relation_pull : (k : TokenKind) (o : BinaryOp) → relation k ≡ Some o → pull_of k ≡ 6
 relation_pull (kind.Sign sign.Equal) o e = refl
@@ -154,18 +150,18 @@ relation_pull (kind.Sign sign.Less) o e = refl
 relation_pull (kind.Sign sign.AtMost) o e = refl
 relation_pull (kind.Sign sign.Greater) o e = refl
 relation_pull (kind.Sign sign.AtLeast) o e = refl
-relation_pull k o e = clash e
+relation_pull k o e = never_some _ e
 
 additive_pull : (k : TokenKind) (o : BinaryOp) → additive k ≡ Some o → pull_of k ≡ 7
 additive_pull (kind.Sign sign.Plus) o e = refl
 additive_pull (kind.Sign sign.Minus) o e = refl
-additive_pull k o e = clash e
+additive_pull k o e = never_some _ e
 
 multiplicative_pull : (k : TokenKind) (o : BinaryOp) → multiplicative k ≡ Some o → pull_of k ≡ 8
 multiplicative_pull (kind.Sign sign.Star) o e = refl
 multiplicative_pull (kind.Sign sign.Slash) o e = refl
 multiplicative_pull (kind.Sign sign.Percent) o e = refl
-multiplicative_pull k o e = clash e
+multiplicative_pull k o e = never_some _ e
 
 -- a token whose pull is known
 pub pull_is : (t : Token) (ts : List Token) (m n : ℕ) → pull_of t.kind ≡ m → m < n → pull (t ∷ ts) < n
@@ -178,17 +174,17 @@ some_same x y e = cc
 numeral_act : (d : ℕ) (v : List Part) (t : Token) (k : TokenKind) (n : Number) → numeral k ≡ Some n → act (an_atom d) v t k ≡ take d [] (tree (number_at t n) ∷ v)
 numeral_act d v t (kind.Whole m) n e = ap (λ z. take d [] (tree (number_at t z) ∷ v)) (some_same (number.Whole m) n e)
 numeral_act d v t (kind.Decimal top bottom) n e = ap (λ z. take d [] (tree (number_at t z) ∷ v)) (some_same (number.Decimal top bottom) n e)
-numeral_act d v t k n e = clash e
+numeral_act d v t k n e = never_some _ e
 
 quantifier_act : (d : ℕ) (v : List Part) (t : Token) (k : TokenKind) (q : Quantifier) → quantifies k ≡ Some q → act (an_not d) v t k ≡ opens (suc d) (block_wants (suc d)) (token t ∷ v)
 quantifier_act d v t (kind.Reserved word.Forall) q e = refl
 quantifier_act d v t (kind.Reserved word.Exists) q e = refl
-quantifier_act d v t k q e = clash e
+quantifier_act d v t k q e = never_some _ e
 
 numeral_starts : (k : TokenKind) (n : Number) → numeral k ≡ Some n → starts_atom k ≡ true
 numeral_starts (kind.Whole m) n e = refl
 numeral_starts (kind.Decimal top bottom) n e = refl
-numeral_starts k n e = clash e
+numeral_starts k n e = never_some _ e
 
 -- ---- how parts begin
 abbrev LikeAtom : Level → Type 0
@@ -317,7 +313,7 @@ unlike t k h f e = f (sym h ∙ e)
 numeral_unlike : (k : TokenKind) (n : Number) → numeral k ≡ Some n → k ≡ kind.Ident → ⊥
 numeral_unlike (kind.Whole m) n h e = cc
 numeral_unlike (kind.Decimal top bottom) n h e = cc
-numeral_unlike k n h e = clash h
+numeral_unlike k n h e = never_some _ h
 
 opening : {l : Level} {w : List Token} {p : Part} → Is l w p → LikeAtom l → Opening w
 opening (post_field u d n a h g) q = opening_point u d n (opening a tt) h

@@ -7,7 +7,7 @@ use Rattle.ae_lex.specs.declared.kinds.Reserved.TheVariants as word
 use Rattle.ae_lex.specs.declared.kinds.Sign.TheVariants as sign
 use Rattle.ae_syntax.specs.Parts.{Part}
 use Rattle.ae_syntax.specs.Inner.Machine.{Want, an_expr, an_or, an_and, an_not, a_rel, a_sum, a_prod, a_unary, a_post, an_atom, more_arrow, more_or, more_and, more_rel, more_sum, more_prod, more_post, make, Act, skip, take, opens, refuse, act, then_wants, unchained, feed, finish, run, mark}
-use Rattle.ae_syntax.proofs.Acts.{Firm, Plain, plain_atom, plain_post, plain_unary, plain_prod, plain_sum, firm_not, firm_and, firm_or}
+use Rattle.ae_syntax.proofs.Acts.{Firm, Plain, plain_atom, plain_unary, plain_prod, plain_sum, firm_not, firm_and, firm_or}
 use Rattle.ae_syntax.proofs.Steps.{went, run_is, run_act, no_arrow, no_or, no_and, makes, pull}
 
 deeper : (a : Act) (m : Want) (ss : List Want) (t : Token) (ts : List Token) → Firm a → unchained (m ∷ ss) ≡ unchained ss → went (then_wants a (m ∷ [])) ss t ts ≡ went a (m ∷ ss) t ts

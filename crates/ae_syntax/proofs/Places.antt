@@ -1,5 +1,5 @@
 -- The places of faults are in the text.
-use Rattle.std.proofs.Common.{ℕ, ◌+◌, ◌≤◌, ◌<◌, Bool, false, List, [], ◌∷◌, ◌++◌, ◌≡◌, Option, Some, None, length, length-append, refl, sym, ap, ◌∙◌, subst, arith}
+use Rattle.std.proofs.Common.{ℕ, ◌+◌, ◌≤◌, Bool, List, [], ◌∷◌, ◌++◌, ◌≡◌, Option, Some, None, length, length-append, refl, ap, ◌∙◌, subst, arith}
 use Rattle.ae_lex.specs.declared.kinds.Token.{Token}
 use Rattle.ae_lex.specs.declared.kinds.LexFault.{LexFault}
 use Rattle.ae_lex.specs.declared.kinds.LexFault.TheVariants as lex_fault
@@ -8,7 +8,7 @@ use Rattle.ae_lex.specs.Lexis as lexis
 use Rattle.std.specs.Prelude.{IfSome}
 use Rattle.ae_syntax.specs.declared.faults.SyntaxFault.{SyntaxFault}
 use Rattle.ae_syntax.specs.declared.faults.SyntaxFault.TheVariants as fault
-use Rattle.ae_syntax.specs.Files.{IsSyntaxFault, StopsAt, SinksAt, place, fault_place}
+use Rattle.ae_syntax.specs.Files.{IsSyntaxFault, StopsAt, place, fault_place}
 
 -- no token begins after a place
 abbrev Begin : ℕ → List Token → Type 0

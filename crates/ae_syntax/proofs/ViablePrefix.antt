@@ -1,5 +1,6 @@
 -- What an act leaves can be read is read by the want that acts: one lemma for each line of the table.
 use Rattle.std.proofs.Common.{ℕ, suc, Bool, true, false, cond, List, [], ◌∷◌, ◌++◌, ◌≡◌, Option, Some, None, refl, sym, ap, ◌∙◌, subst, append_assoc, append-nil}
+use Rattle.ae_base.proofs.Options.{never_some}
 use Rattle.ae_lex.specs.declared.kinds.Token.{Token}
 use Rattle.ae_lex.specs.declared.kinds.TokenKind.{TokenKind}
 use Rattle.ae_lex.specs.declared.kinds.TokenKind.TheVariants as kind
@@ -18,12 +19,6 @@ use Rattle.ae_syntax.specs.Inner.Machine.{Rule, begin, add, join, negate, oppose
 use Rattle.ae_syntax.proofs.Acts.{Firm, Plain, plain_atom, plain_post, plain_unary, plain_prod, plain_sum, firm_not, firm_and, firm_or, plain_cond, plain_some, plain_take, plain_refuse}
 use Rattle.ae_syntax.proofs.SameKinds.{never, same_is}
 use Rattle.ae_syntax.proofs.Pieces.{Some_of, one_of, more_of, one, Closed, closed, Arity, lone, full, or_level, and_level, not_level, Piece, Cut, Chain, Split, cut, unchain, sew, prefixed, Bit, want, items, mk, Pieces, last, next, expand, reals, quiet, gather, element_of, all_items}
-
-clash : {A : Type 0} {B : Type 0} {x : A} → ◌≡◌ {A = Option A} None (Some x) → B
-clash {A} {B} {x} e = absurd (go e)
-  where
-    go : ◌≡◌ {A = Option A} None (Some x) → ⊥
-    go e = cc
 
 -- what an act of the top leaves can be read is read by the top too
 unfoldable pub Good : Want → List Want → Token → Act → Type 0
@@ -239,7 +234,7 @@ constant_is t (kind.Decimal top bottom) a h e = record { value = _; is = atom_nu
 constant_is t (kind.Reserved word.True) a h e = record { value = _; is = atom_true t h }
 constant_is t (kind.Reserved word.False) a h e = record { value = _; is = atom_false t h }
 constant_is t (kind.Reserved word.Void) a h e = record { value = _; is = atom_void t h }
-constant_is t k a h e = clash e
+constant_is t k a h e = never_some _ e
 
 good_atom : (n : ℕ) (v : List Part) (t : Token) (ss : List Want) → Good (an_atom n) ss t (on_atom n v t t.kind)
 unfolding distinct_bits
@@ -462,7 +457,7 @@ base_is t (kind.Reserved word.Bool) a h e = record { value = _; is = type_bool t
 base_is t (kind.Reserved word.Unit) a h e = record { value = _; is = type_unit t h }
 base_is t kind.TypeVar a h e = record { value = _; is = type_var t h }
 base_is t kind.Ident a h e = record { value = _; is = type_name t h }
-base_is t k a h e = clash e
+base_is t k a h e = never_some _ e
 
 by_base : (n : ℕ) (t : Token) (a : WrittenType) → base_type t t.kind ≡ Some a → (e : Bool) (w : List Token) → Pieces (want (more_type n) ∷ []) w → Some_of type_level (t ∷ w)
 by_base n t a h e x (last _ _ k) = k (t ∷ []) (base_is t t.kind a refl h)

@@ -45,6 +45,7 @@ mod nodes;
 mod parser;
 mod read_decls;
 mod read_exprs;
+mod read_groups;
 mod read_items;
 mod read_types;
 pub mod spans;

@@ -14,21 +14,21 @@ ghost use Rattle.ae_syntax.specs.Inner.SameKinds.{same};
 ghost use Rattle.ae_syntax.specs.Parts.{token, tree, trees, setting, settings, trigger, triggers, group, groups, names};
 ghost use Rattle.ae_syntax.specs.Grammar.{Items, of_settings, of_exprs, of_triggers, of_groups};
 ghost use Rattle.ae_syntax.specs.Inner.Machine.{an_expr, an_and, an_not, a_rel, a_sum, a_prod, a_unary, a_post, an_atom, more_arrow, more_or, more_and, more_rel, more_sum, more_prod, more_post, call, triggers_or_dot, items_wants, element_wants, constant};
-ghost use Rattle.ae_syntax.specs.Inner.Reading.{Answered, ConstantAnswered, placed, AreNames, IsAt, Sets, SetsNone, grip, distinct_wants, ascribed_wants, record_wants, change_wants};
+ghost use Rattle.ae_syntax.specs.Inner.Reading.{Answered, ConstantAnswered, placed, IsAt, Sets, SetsNone, grip, distinct_wants, ascribed_wants, record_wants, change_wants};
 
 use crate::cursor::{
     additive, arrow, deeper, is_sign, is_word, multiplicative, next, quantifies, relation, same,
     stands, stands_sign, stands_word, take, take_sign, take_word,
 };
-use crate::exprs::{BinaryOp, Expr, ExprKind, Group, Number, Quantifier, Setting, Trigger};
+use crate::exprs::{BinaryOp, Expr, ExprKind, Number, Quantifier, Setting, Trigger};
 use crate::faults::Refusal;
 use crate::nodes::{
     applied, ascribed, bare, binary, bracketed, conditional, distinct_of, expression, field_of,
-    group_of, let_in, negation, negative, quantified, record_of, setting_of, span, trigger_of,
-    update_of,
+    let_in, negation, negative, quantified, record_of, setting_of, span, trigger_of, update_of,
 };
+use crate::read_groups::read_groups;
 use crate::read_types::read_type;
-use crate::spans::{List, Span};
+use crate::spans::List;
 use ae_lex::{Reserved, Sign, Token, TokenKind};
 use std::alloc::Global;
 
@@ -205,69 +205,6 @@ fn read_block(
     let (body, to) = read_expr(alloc, tokens, to, inner)?;
     let block = quantified(alloc, first, quantifier, groups, triggers, body)?;
     Ok((block, to))
-}
-
-// Identifiers parted by commas or by bars.
-pub fn read_names(
-    alloc: Global,
-    tokens: &[Token],
-    at: usize,
-    separator: Sign,
-) -> Result<(List<Span>, usize), Refusal>
-    requires within { at ≤ length tokens.now }
-    ensures { (items : Items) (d : ℕ) → AreNames items separator → d ≤ DEPTH_LIMIT
-        → Answered (λ p. names p) (items_wants items d) [] tokens.now 8 at result }
-{
-    let mut found = List::new(alloc);
-    let first = take(tokens, at, TokenKind::Ident)?;
-    found.push(span(first))?;
-    let mut end = at + 1;
-    while stands_sign(tokens, end, separator) {
-        let name = take(tokens, end + 1, TokenKind::Ident)?;
-        found.push(span(name))?;
-        end += 2;
-    }
-    Ok((found, end))
-}
-
-// Variables with their sort.
-fn read_group(
-    alloc: Global,
-    tokens: &[Token],
-    at: usize,
-    depth: usize,
-) -> Result<(Group, usize), Refusal>
-    requires within { at ≤ length tokens.now }
-    requires shallow { depth ≤ DEPTH_LIMIT }
-    ensures { Answered (λ p. group p) (element_wants of_groups depth) [] tokens.now 8 at result }
-{
-    let (names, to) = read_names(alloc, tokens, at, Sign::Comma)?;
-    take_sign(tokens, to, Sign::Colon)?;
-    let (sort, to) = read_type(alloc, tokens, to + 1, depth)?;
-    Ok((group_of(names, sort), to))
-}
-
-// Groups of variables parted by commas.
-fn read_groups(
-    alloc: Global,
-    tokens: &[Token],
-    at: usize,
-    depth: usize,
-) -> Result<(List<Group>, usize), Refusal>
-    requires within { at ≤ length tokens.now }
-    requires shallow { depth ≤ DEPTH_LIMIT }
-    ensures { Answered (λ p. groups p) (items_wants of_groups depth) [] tokens.now 8 at result }
-{
-    let mut found = List::new(alloc);
-    let (first, to) = read_group(alloc, tokens, at, depth)?;
-    found.push(first)?;
-    let mut end = to;
-    while stands_sign(tokens, end, Sign::Comma) {
-        let (group, to) = read_group(alloc, tokens, end + 1, depth)?;
-        found.push(group)?;
-        end = to;
-    }
-    Ok((found, end))
 }
 
 // The triggers in square brackets, or none, and the point after them.

@@ -7,12 +7,13 @@ use Rattle.std.proofs.lemmas.Bool.{and_parts, eqb-true, ltb-true}
 use Rattle.std.proofs.lemmas.List.{length-map}
 use Rattle.std.proofs.lemmas.List.Folds.{list_all-map}
 use Rattle.ae_math.specs.Fractions.{ℚ, zero_ℚ, whole}
-use Rattle.ae_core.specs.Induction.{by_sorts}
+use Rattle.ae_core.specs.Inner.Induction.{by_sorts}
 use Rattle.ae_base.specs.Options.{◌>>=◌, or_else}
 use Rattle.ae_core.specs.Putting.{put_sort}
 use Rattle.ae_core.specs.Sorts.{type_fits, is_closed_sort}
 use Rattle.ae_core.specs.Signatures.{is_sort_over, is_field_sort, names_below, names_below_step}
-use Rattle.ae_core.proofs.SortLaws.{put_var, put_int, put_real, put_bool, put_unit, put_named, ok_var, ok_rigid, ok_named}
+use Rattle.ae_core.proofs.PuttingLaws.{put_var, put_int, put_real, put_bool, put_unit, put_named}
+use Rattle.ae_core.proofs.SortLaws.{ok_var, ok_rigid, ok_named}
 use Rattle.ae_core.specs.declared.terms.Sort.{Sort, Var, Rigid, Int, Real, Bool as BoolSort, Unit as UnitSort, Named, fold-roll-Sort}
 use Rattle.ae_core.specs.declared.terms.Sort.TheOpen as sort_layer
 use Rattle.ae_core.specs.declared.terms.Sort.TheVariants.{rolls-Named}
@@ -26,7 +27,7 @@ use Rattle.ae_base.proofs.Tests.{nat_eq_itself}
 use Rattle.ae_base.proofs.Decided.{decided_of}
 use Rattle.ae_models.proofs.Entries.{HasLawfulEntries}
 use Rattle.ae_models.specs.Structures.{Value, Element, Number, Truth, Void, field_sorts}
-use Rattle.ae_models.specs.Inner.Trees.{Tree, Atom, Record}
+use Rattle.ae_models.specs.Trees.{Tree, Atom, Record}
 use Rattle.std.proofs.lemmas.Option.{same_Some}
 use Rattle.ae_models.proofs.ModelTerms.{out_int, out_real, out_bool, out_unit, out_named, out_rigid}
 use Rattle.ae_models.proofs.ModelRules.{KindSays}

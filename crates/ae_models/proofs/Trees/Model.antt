@@ -1,19 +1,18 @@
 -- The structure of trees, and that it interprets its signature.
-use Rattle.std.specs.Prelude.{ℕ, zero, suc, ◌+◌, ◌≤◌, pos, Bool, true, false, cond, ◌&&◌, ◌||◌, nat_eq, nat_lt, List, [], ◌∷◌, ◌++◌, ◌≡◌, ◌≢◌, map}
+use Rattle.std.specs.Prelude.{ℕ, suc, ◌+◌, pos, Bool, true, false, cond, ◌&&◌, ◌||◌, nat_eq, List, [], ◌∷◌, ◌++◌, ◌≡◌, ◌≢◌}
 use Rattle.std.specs.Prelude.{length, slice_get, Option, Some, None}
-use Rattle.std.specs.List.{AllByRecursion, list_all, list_any}
+use Rattle.std.specs.List.{list_any}
 use Rattle.std.proofs.Common.{refl, sym, ap, ◌∙◌, subst, true≢false, arith, append_assoc, length-append}
-use Rattle.std.proofs.lemmas.Bool.{and_parts, eqb-true, ltb-true}
+use Rattle.std.proofs.lemmas.Bool.{and_parts, eqb-true}
 use Rattle.std.proofs.lemmas.Option.{same_Some}
 use Rattle.std.proofs.lemmas.List.{length-map}
 use Rattle.ae_math.specs.Fractions.{ℚ, zero_ℚ, whole}
-use Rattle.ae_core.specs.Induction.{by_sorts}
 use Rattle.ae_base.specs.Options.{◌>>=◌, or_else}
 use Rattle.ae_core.specs.Putting.{put_sort}
-use Rattle.ae_core.specs.Sorts.{type_fits, is_closed_sort}
+use Rattle.ae_core.specs.Sorts.{is_closed_sort}
 use Rattle.ae_core.specs.Signatures.{is_sort_over, IsChoice, IsEnumeration, is_result}
-use Rattle.ae_core.proofs.SortLaws.{put_var, put_int, put_real, put_bool, put_unit, put_named, ok_var, ok_rigid, ok_int, ok_real, ok_bool, ok_unit, ok_named}
-use Rattle.ae_core.specs.declared.terms.Sort.{Sort, Sort-F, Var, Named, out-Sort, out-roll-Sort}
+use Rattle.ae_core.proofs.PuttingLaws.{put_named}
+use Rattle.ae_core.specs.declared.terms.Sort.{Sort, Sort-F, Named, out-Sort, out-roll-Sort}
 use Rattle.ae_core.specs.declared.terms.Sort.TheOpen as sort_layer
 use Rattle.ae_core.specs.declared.terms.Sort.TheVariants.{rolls-Var}
 use Rattle.ae_core.specs.declared.problems.Signature.{Signature}
@@ -28,9 +27,11 @@ use Rattle.ae_math.proofs.Wholes.{zero_whole}
 use Rattle.ae_base.proofs.Decided.{decided_of, decided_yes}
 use Rattle.ae_base.proofs.Tests.{false_true}
 use Rattle.ae_models.proofs.Entries.{HasLawfulEntries}
+use Rattle.ae_base.proofs.ListFacts.{get_seam}
+use Rattle.ae_core.proofs.ClosedSorts.{put_closed}
 use Rattle.ae_models.specs.Structures.{Value, Element, Number, Truth, Void, Structure, BelongsTo, Belongs, AllBelong, AreSorts, fields_of}
 use Rattle.ae_models.specs.Structures.{field_sorts, IsInterpretation}
-use Rattle.ae_models.specs.Inner.Trees.{Tree, Atom, Record, NoField, ThingField, NumberField, TruthField, VoidField}
+use Rattle.ae_models.specs.Trees.{Tree, Atom, Record, NoField, ThingField, NumberField, TruthField, VoidField}
 use Rattle.ae_models.proofs.ModelTerms.{out_named}
 use Rattle.ae_models.proofs.ModelRules.{KindSays, NatureSays}
 use Rattle.ae_models.specs.Fields.{fractions}
@@ -49,44 +50,6 @@ place_of (d ∷ cs) c e = go (nat_eq c d) refl e (place_of cs c)
         → (list_any (nat_eq c) cs ≡ true → (k : ℕ) × (slice_get cs k ≡ Some c)) → (k : ℕ) × (slice_get (d ∷ cs) k ≡ Some c)
     go true is h later = (0, ap Some (sym (eqb-true c d is)))
     go false is h later = let r = later h in (suc r.0, r.1)
-
--- ---- what is put for type variables is closed
-module _ (sig : Signature) (ss : List Sort) (closed : list_all (is_closed_sort sig) ss ≡ true) where
-  abbrev Over : Sort → Type 0
-  Over s = is_sort_over sig (length ss) s ≡ true → is_closed_sort sig (put_sort ss s) ≡ true
-
-  closed_at : (rs : List Sort) → list_all (is_closed_sort sig) rs ≡ true → (i : ℕ) → nat_lt i (length rs) ≡ true → (d : Sort)
-      → is_closed_sort sig (or_else (slice_get rs i) d) ≡ true
-  closed_at rs c i l d = go rs c i (ltb-true i (length rs) l)
-    where
-      go : (rs : List Sort) → list_all (is_closed_sort sig) rs ≡ true → (i : ℕ) → suc i ≤ length rs
-          → is_closed_sort sig (or_else (slice_get rs i) d) ≡ true
-      go [] c i l = absurd (omega (arith, l))
-      go (r ∷ rs) c zero l = (and_parts (is_closed_sort sig r) (list_all (is_closed_sort sig) rs) c).0
-      go (r ∷ rs) c (suc i) l = go rs (and_parts (is_closed_sort sig r) (list_all (is_closed_sort sig) rs) c).1 i (omega (arith, l))
-
-  all_over : (rs : List Sort) → AllByRecursion Over rs → list_all (is_sort_over sig (length ss)) rs ≡ true
-      → list_all (is_closed_sort sig) (map (put_sort ss) rs) ≡ true
-  all_over [] all o = refl
-  all_over (r ∷ rs) all o =
-      let q = and_parts (is_sort_over sig (length ss) r) (list_all (is_sort_over sig (length ss)) rs) o in
-      (λ i. all.0 q.0 i && all_over rs all.1 q.1 i)
-
-  named_over : (h : ℕ) (rs : List Sort) → AllByRecursion Over rs → Over (Named h rs)
-  named_over h rs all o =
-      let q = and_parts (type_fits sig h (length rs)) (list_all (is_sort_over sig (length ss)) rs) (sym (ok_named sig _ _ h rs) ∙ o) in
-      ap (is_closed_sort sig) (put_named ss h rs) ∙ ok_named sig _ _ h (map (put_sort ss) rs)
-      ∙ (λ i. (ap (type_fits sig h) (length-map rs (put_sort ss)) ∙ q.0) i && all_over rs all q.1 i)
-
-  pub put_closed : (s : Sort) → is_sort_over sig (length ss) s ≡ true → is_closed_sort sig (put_sort ss s) ≡ true
-  put_closed =
-      by_sorts Over (λ i o. ap (is_closed_sort sig) (put_var ss i) ∙ closed_at ss closed i (sym (ok_var sig _ _ i) ∙ o) (Var i))
-      (λ i o. absurd (true≢false (sym o ∙ ok_rigid sig _ _ i)))
-      (λ o. ap (is_closed_sort sig) (put_int ss) ∙ ok_int sig _ _)
-      (λ o. ap (is_closed_sort sig) (put_real ss) ∙ ok_real sig _ _)
-      (λ o. ap (is_closed_sort sig) (put_bool ss) ∙ ok_bool sig _ _)
-      (λ o. ap (is_closed_sort sig) (put_unit ss) ∙ ok_unit sig _ _)
-      named_over
 
 -- ---- the structure
 module _ (sig : Signature) (lawful : HasLawfulEntries sig) where
@@ -217,14 +180,10 @@ module _ (sig : Signature) (lawful : HasLawfulEntries sig) where
       → fields_of trees n ss (Element (Record m rs t)) (length before) (length rest) ≡ rest
   fields_are n m ss rs t before [] e = refl
   fields_are n m ss rs t before (x ∷ rest) e =
-      let first : or_else (slice_get (parts t) (length before)) Void ≡ x = ap (λ xs. or_else (slice_get xs (length before)) Void) e ∙ ap (λ o. or_else o Void) (seam before rest x) in
+      let first : or_else (slice_get (parts t) (length before)) Void ≡ x = ap (λ xs. or_else (slice_get xs (length before)) Void) e ∙ ap (λ o. or_else o Void) (get_seam before rest x) in
       let more = fields_are n m ss rs t (before ++ x ∷ []) rest (e ∙ sym (append_assoc before (x ∷ []) rest)) in
       let place : length (before ++ x ∷ []) ≡ suc (length before) = length-append before (x ∷ []) ∙ (let q : length before + 1 ≡ suc (length before) = omega arith in q) in
       (λ i. first i ∷ subst (λ k. fields_of trees n ss (Element (Record m rs t)) k (length rest) ≡ rest) place more i)
-    where
-      seam : (xs ys : List (Value Tree ℚ)) (x : Value Tree ℚ) → slice_get (xs ++ x ∷ ys) (length xs) ≡ Some x
-      seam [] ys x = refl
-      seam (z ∷ xs) ys x = seam xs ys x
 
   records_law : (n : ℕ) (e : TypeEntry) (fs : List FieldEntry) (ss : List Sort) (vs : List (Value Tree ℚ)) → slice_get sig.types n ≡ Some e
       → e.kind ≡ Fields fs → AllBelong trees (field_sorts ss fs) vs

@@ -16,7 +16,7 @@ use Rattle.ae_core.specs.declared.problems.Signature.{Signature}
 use Rattle.ae_core.specs.declared.problems.Kind.{Kind}
 use Rattle.ae_core.specs.declared.problems.Kind.TheVariants.{Abstract, Choices, Fields}
 use Rattle.ae_models.specs.Structures.{Value, Element, Number, Truth, Void, field_sorts}
-use Rattle.ae_models.specs.Inner.Trees.{Tree, Atom, Record, NoField, ThingField, NumberField, TruthField, VoidField}
+use Rattle.ae_models.specs.Trees.{Tree, Atom, Record, NoField, ThingField, NumberField, TruthField, VoidField}
 use Rattle.ae_models.proofs.Trees.Wholes.{whole_or_not}
 
 pub Tree_discrete : Discrete Tree

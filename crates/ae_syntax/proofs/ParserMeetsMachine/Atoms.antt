@@ -1,12 +1,11 @@
 -- What the functions that read atoms answer, put together.
-use Rattle.std.proofs.Common.{ℕ, suc, ◌+◌, ◌≤◌, ◌<◌, Bool, true, false, cond, List, [], ◌∷◌, ◌++◌, ◌≡◌, Option, Some, None, Result, Ok, Err, length, drop, refl, sym, ap, ◌∙◌, subst, arith}
+use Rattle.std.proofs.Common.{ℕ, suc, ◌+◌, ◌≤◌, ◌<◌, true, false, cond, List, [], ◌∷◌, ◌++◌, ◌≡◌, Some, None, Err, length, drop, refl, sym, ap, ◌∙◌, subst, arith}
 use Rattle.std.proofs.lemmas.Bool.{false≢true}
 use Rattle.ae_lex.specs.declared.kinds.Token.{Token}
 use Rattle.ae_lex.specs.declared.kinds.TokenKind.{TokenKind}
 use Rattle.ae_lex.specs.declared.kinds.TokenKind.TheVariants as kind
 use Rattle.ae_lex.specs.declared.kinds.Reserved.TheVariants as word
 use Rattle.ae_lex.specs.declared.kinds.Sign.TheVariants as sign
-use Rattle.ae_syntax.specs.declared.exprs.Quantifier.{Quantifier}
 use Rattle.ae_syntax.specs.declared.exprs.Expr.{Expr}
 use Rattle.ae_syntax.specs.declared.faults.Refusal.{Refusal}
 use Rattle.ae_syntax.specs.declared.faults.Refusal.TheVariants.{Wrong, Deep, Memory}
@@ -14,9 +13,9 @@ use Rattle.ae_syntax.specs.Kinds.{quantifies}
 use Rattle.ae_syntax.specs.Inner.SameKinds.{same}
 use Rattle.ae_syntax.specs.Parts.{Part, token, tree, bare}
 use Rattle.ae_syntax.specs.Grammar.{of_exprs}
-use Rattle.ae_syntax.specs.Inner.Machine.{Want, Act, an_expr, an_not, a_rel, a_type, a_unary, a_post, an_atom, more_post, make, negate, oppose, be_bare, call_it, all_differ, enclose, ascribe, call, bracket_end, brace, apply, skip, take, opens, refuse, act, idle, if_some, on_atom, on_not, on_rel, on_post, constant, items_wants, let_wants, if_wants, block_wants, past, kept, the_word, the_sign, judge}
-use Rattle.ae_syntax.specs.Inner.Reading.{Done, Fails, Sinks, Answered, ConstantAnswered, IsAt, Stands, Lacks, grip, distinct_wants, ascribed_wants}
-use Rattle.ae_syntax.proofs.ParserMeetsMachine.Steps.{Reaches, Skips, Refuses, start, then_takes, then_makes, then_skips, then_reads, then_passes, joined, moved, done, relay, weaker, fails_on, sinking, refusing, judge_at}
+use Rattle.ae_syntax.specs.Inner.Machine.{Want, an_expr, an_not, a_rel, a_unary, a_post, an_atom, more_post, make, negate, oppose, call_it, all_differ, enclose, call, bracket_end, brace, skip, take, opens, refuse, act, idle, if_some, on_atom, on_not, on_rel, on_post, constant, items_wants, let_wants, if_wants, block_wants, kept, the_word, the_sign}
+use Rattle.ae_syntax.specs.Inner.Reading.{Done, Answered, ConstantAnswered, IsAt, Stands, Lacks, distinct_wants, ascribed_wants}
+use Rattle.ae_syntax.proofs.ParserMeetsMachine.Steps.{Reaches, Refuses, start, then_takes, then_skips, then_passes, done, sinking, refusing, judge_at}
 use Rattle.ae_syntax.proofs.ParserMeetsMachine.Levels.{as_post, small_grip}
 use Rattle.ae_syntax.specs.declared.cursor.TheConstants.{DEPTH_LIMIT}
 

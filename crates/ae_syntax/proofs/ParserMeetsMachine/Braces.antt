@@ -1,5 +1,5 @@
 -- What stands in braces: a record, or a record with some fields changed.
-use Rattle.std.proofs.Common.{ℕ, suc, ◌+◌, ◌≤◌, ◌<◌, Bool, true, false, cond, List, [], ◌∷◌, ◌++◌, ◌≡◌, length, drop, refl, sym, ap, ◌∙◌, subst, arith, ◌⊎◌, inl, inr}
+use Rattle.std.proofs.Common.{ℕ, suc, ◌+◌, ◌≤◌, true, false, cond, List, [], ◌∷◌, ◌++◌, ◌≡◌, length, drop, refl, sym, ap, ◌∙◌, subst, arith, inl, inr}
 use Rattle.std.proofs.lemmas.Bool.{false≢true}
 use Rattle.ae_lex.specs.declared.kinds.Token.{Token}
 use Rattle.ae_lex.specs.declared.kinds.TokenKind.{TokenKind}
@@ -9,9 +9,9 @@ use Rattle.ae_lex.specs.declared.kinds.Sign.TheVariants as sign
 use Rattle.ae_syntax.specs.Inner.SameKinds.{same}
 use Rattle.ae_syntax.specs.Parts.{Part, token}
 use Rattle.ae_syntax.specs.Grammar.{of_settings}
-use Rattle.ae_syntax.specs.Inner.Machine.{Want, an_expr, an_atom, a_post, keep, pass, more, more_post, make, begin, set, build, change, call, brace, brace_name, update_wants, on_post, then_wants, take, refuse, act, items_wants, kept, the_word, the_sign, after, feed, finish, onward, run, Outcome, limited, judge}
-use Rattle.ae_syntax.specs.Inner.Reading.{IsAt, Stands, Lacks, Sets, SetsNone, record_wants, change_wants}
-use Rattle.ae_syntax.proofs.ParserMeetsMachine.Steps.{Reaches, start, then_takes, then_keeps, then_passes, joined, judge_is, judge_act, judge_at, went, went_take}
+use Rattle.ae_syntax.specs.Inner.Machine.{Want, an_expr, an_atom, a_post, pass, more, more_post, make, begin, set, build, change, call, brace, brace_name, update_wants, on_post, then_wants, take, act, items_wants, kept, the_word, the_sign, after, feed, finish, onward, run, limited, judge}
+use Rattle.ae_syntax.specs.Inner.Reading.{IsAt, Sets, SetsNone, record_wants, change_wants}
+use Rattle.ae_syntax.proofs.ParserMeetsMachine.Steps.{Reaches, start, then_takes, then_keeps, then_passes, joined, judge_is, judge_at, went, went_take}
 use Rattle.ae_syntax.proofs.ParserMeetsMachine.Levels.{deeper_plain_list}
 use Rattle.ae_syntax.proofs.Acts.{plain_post}
 use Rattle.ae_syntax.proofs.ParserMeetsMachine.OpenExprs.{begin_1, begins_brace}

@@ -1,22 +1,20 @@
 -- What the functions that read expressions answer, put together.
-use Rattle.std.proofs.Common.{ℕ, suc, ◌+◌, ◌≤◌, ◌<◌, Bool, true, false, cond, List, [], ◌∷◌, ◌++◌, ◌≡◌, Option, Some, None, Result, Ok, Err, length, drop, refl, sym, ap, ◌∙◌, subst, arith}
+use Rattle.std.proofs.Common.{ℕ, suc, ◌+◌, ◌≤◌, ◌<◌, cond, List, [], ◌∷◌, ◌++◌, ◌≡◌, Option, Some, None, Result, Err, length, drop, refl, sym, ap, ◌∙◌, subst, arith}
 use Rattle.ae_lex.specs.declared.kinds.Token.{Token}
 use Rattle.ae_lex.specs.declared.kinds.TokenKind.{TokenKind}
 use Rattle.ae_lex.specs.declared.kinds.TokenKind.TheVariants as kind
 use Rattle.ae_lex.specs.declared.kinds.Reserved.TheVariants as word
-use Rattle.ae_lex.specs.declared.kinds.Sign.TheVariants as sign
 use Rattle.ae_syntax.specs.declared.exprs.BinaryOp.{BinaryOp}
 use Rattle.ae_syntax.specs.declared.exprs.BinaryOp.TheVariants as op
 use Rattle.ae_syntax.specs.declared.exprs.Expr.{Expr}
 use Rattle.ae_syntax.specs.declared.faults.Refusal.{Refusal}
-use Rattle.ae_syntax.specs.declared.faults.Refusal.TheVariants.{Wrong, Deep, Memory}
+use Rattle.ae_syntax.specs.declared.faults.Refusal.TheVariants.{Deep}
 use Rattle.ae_syntax.specs.Kinds.{arrow, relation, additive, multiplicative}
-use Rattle.ae_syntax.specs.Inner.SameKinds.{same}
-use Rattle.ae_syntax.specs.Parts.{Part, token, tree, binary}
-use Rattle.ae_syntax.specs.Inner.Machine.{Want, Rule, join, an_expr, an_or, an_and, an_not, a_rel, a_sum, a_prod, a_unary, a_post, an_atom, more_arrow, more_or, more_and, more_rel, more_sum, more_prod, more_post, make, apply, skip, take, refuse, act, idle, operand, judge}
-use Rattle.ae_syntax.specs.Inner.Reading.{Done, Fails, Sinks, Answered, IsAt, Stands, Lacks, grip}
-use Rattle.ae_syntax.proofs.ParserMeetsMachine.Steps.{Reaches, Skips, start, then_takes, then_makes, then_skips, then_reads, joined, moved, done, relay, weaker, fails_on, sinking, refusing, Refuses}
-use Rattle.ae_syntax.proofs.ParserMeetsMachine.Levels.{as_post, as_prod, as_and, expr_levels, sum_levels, rel_levels, past_or, past_and, past_post, past_rel, past_arrow, past_sum, past_prod, NoneOf}
+use Rattle.ae_syntax.specs.Parts.{Part, tree, binary}
+use Rattle.ae_syntax.specs.Inner.Machine.{Want, join, an_expr, an_and, an_not, a_rel, a_sum, a_prod, a_unary, a_post, an_atom, more_arrow, more_or, more_and, more_rel, more_sum, more_prod, more_post, make, skip, take, act, operand, judge}
+use Rattle.ae_syntax.specs.Inner.Reading.{Done, Answered, IsAt, Stands, Lacks, grip}
+use Rattle.ae_syntax.proofs.ParserMeetsMachine.Steps.{Reaches, Skips, start, then_takes, then_makes, then_skips, then_reads, done, relay, fails_on, sinking}
+use Rattle.ae_syntax.proofs.ParserMeetsMachine.Levels.{as_post, as_prod, as_and, expr_levels, sum_levels, rel_levels, past_or, past_and, past_rel, past_arrow, past_sum, past_prod, NoneOf}
 use Rattle.ae_syntax.specs.declared.cursor.TheConstants.{DEPTH_LIMIT}
 
 pub level : (T : List Token) (at : ℕ) (s : Want) (W : List Want) → ((rest : List Token) (ss : List Want) (v : List Part) → judge rest (s ∷ ss) v ≡ judge rest (W ++ ss) v) → at ≤ length T → Reaches T (s ∷ []) [] at W [] at

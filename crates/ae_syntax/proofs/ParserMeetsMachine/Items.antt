@@ -1,26 +1,22 @@
 -- What the functions that read fields, triggers, names and records answer, put together.
-use Rattle.std.proofs.Common.{ℕ, suc, ◌+◌, ◌≤◌, ◌<◌, Bool, true, false, cond, List, [], ◌∷◌, ◌++◌, ◌≡◌, Result, Ok, Err, length, drop, refl, sym, ap, ◌∙◌, subst, arith}
+use Rattle.std.proofs.Common.{ℕ, suc, ◌+◌, ◌≤◌, ◌<◌, true, cond, List, [], ◌∷◌, ◌++◌, ◌≡◌, Err, length, drop, refl, sym, ap, ◌∙◌, subst, arith}
 use Rattle.std.proofs.lemmas.Bool.{false≢true}
 use Rattle.ae_lex.specs.declared.kinds.Token.{Token}
 use Rattle.ae_lex.specs.declared.kinds.TokenKind.{TokenKind}
 use Rattle.ae_lex.specs.declared.kinds.TokenKind.TheVariants as kind
-use Rattle.ae_lex.specs.declared.kinds.Reserved.TheVariants as word
-use Rattle.ae_lex.specs.declared.kinds.Sign.{Sign}
 use Rattle.ae_lex.specs.declared.kinds.Sign.TheVariants as sign
-use Rattle.ae_syntax.specs.declared.spans.Span.{Span}
 use Rattle.ae_syntax.specs.declared.exprs.Expr.{Expr}
 use Rattle.ae_syntax.specs.declared.exprs.Trigger.{Trigger}
 use Rattle.ae_syntax.specs.declared.faults.Refusal.{Refusal}
-use Rattle.ae_syntax.specs.declared.faults.Refusal.TheVariants.{Wrong, Deep, Memory}
+use Rattle.ae_syntax.specs.declared.faults.Refusal.TheVariants.{Wrong, Deep}
 use Rattle.ae_syntax.specs.Inner.SameKinds.{same}
-use Rattle.ae_syntax.specs.Parts.{Part, token, tree, names, triggers, span, field_of}
-use Rattle.ae_syntax.specs.Grammar.{Items, of_names, of_constructors, of_vars, of_types, of_fields, of_formals, of_groups, of_exprs, of_triggers, of_settings, separator}
-use Rattle.ae_syntax.specs.Inner.Machine.{Want, keep, pass, more, more_post, make, begin, take_field, triggers_or_dot, apply, skip, take, refuse, act, items_wants, element_wants, past, the_word, the_sign}
-use Rattle.ae_syntax.specs.Inner.Reading.{Done, Answered, AreNames, IsAt, Stands, Lacks, grip}
-use Rattle.ae_syntax.proofs.ParserMeetsMachine.Steps.{Reaches, start, then_takes, then_makes, then_keeps, moved, done, sinking, refusing, lacks_keep}
+use Rattle.ae_syntax.specs.Parts.{Part, tree, triggers, field_of}
+use Rattle.ae_syntax.specs.Grammar.{of_triggers}
+use Rattle.ae_syntax.specs.Inner.Machine.{keep, more_post, make, take_field, triggers_or_dot, skip, take, refuse, act, items_wants, past, the_sign}
+use Rattle.ae_syntax.specs.Inner.Reading.{Done, Answered, IsAt, Stands, Lacks}
+use Rattle.ae_syntax.proofs.ParserMeetsMachine.Steps.{Reaches, start, then_takes, then_makes, then_keeps, moved, done, sinking, refusing}
 use Rattle.ae_syntax.proofs.ParserMeetsMachine.Levels.{past_post, small_grip}
 use Rattle.ae_syntax.proofs.ParserMeetsMachine.Exprs.{Takes, chain_1, chain_ends}
-use Rattle.ae_syntax.proofs.ParserMeetsMachine.OpenExprs.{items_first, items_first_fails, items_more, items_more_fails, items_ends}
 use Rattle.ae_syntax.specs.declared.cursor.TheConstants.{DEPTH_LIMIT}
 
 -- ---- fields
@@ -57,49 +53,3 @@ squares_deep part T at d bound t e w i h l g = sinking part bound (suc d) (items
 
 pub squares_1 : (T : List Token) (at d n : ℕ) (t : Token) → at ≤ length T → IsAt T at t → same t.kind (the_sign sign.OpenBracket) ≡ true → n ≡ suc d → n ≤ DEPTH_LIMIT → Reaches T (triggers_or_dot d ∷ []) [] at (items_wants of_triggers n ++ past sign.CloseBracket d ∷ past sign.Dot d ∷ []) [] (at + 1)
 squares_1 T at d n t w i h e l = subst (λ n. Reaches T (triggers_or_dot d ∷ []) [] at (items_wants of_triggers n ++ past sign.CloseBracket d ∷ past sign.Dot d ∷ []) [] (at + 1)) (sym e) (then_takes (suc d) (items_wants of_triggers (suc d) ++ past sign.CloseBracket d ∷ past sign.Dot d ∷ []) [] t (start T (triggers_or_dot d ∷ []) [] at w) i (omega (arith, e, l)) (λ v. act_squares d v t t.kind h))
-
--- ---- names
-names_wants : (r : Items) (d : ℕ) (s : Sign) → AreNames r s → element_wants r d ≡ keep kind.Ident d ∷ []
-names_wants of_names d s h = refl
-names_wants of_constructors d s h = refl
-names_wants of_vars d s h = absurd h
-names_wants of_types d s h = absurd h
-names_wants of_fields d s h = absurd h
-names_wants of_formals d s h = absurd h
-names_wants of_groups d s h = absurd h
-names_wants of_exprs d s h = absurd h
-names_wants of_triggers d s h = absurd h
-names_wants of_settings d s h = absurd h
-
-names_sign : (r : Items) (s : Sign) → AreNames r s → s ≡ separator r
-names_sign of_names s h = h
-names_sign of_constructors s h = h
-names_sign of_vars s h = absurd h
-names_sign of_types s h = absurd h
-names_sign of_fields s h = absurd h
-names_sign of_formals s h = absurd h
-names_sign of_groups s h = absurd h
-names_sign of_exprs s h = absurd h
-names_sign of_triggers s h = absurd h
-names_sign of_settings s h = absurd h
-
-name_done : (r : Items) (d : ℕ) (s : Sign) (T : List Token) (at : ℕ) (t : Token) → AreNames r s → IsAt T at t → same t.kind kind.Ident ≡ true → d ≤ DEPTH_LIMIT → Done (element_wants r d) [] T 8 at (at + 1) (token t)
-name_done r d s T at t a i h l = subst (λ w. Done w [] T 8 at (at + 1) (token t)) (sym (names_wants r d s a)) (done (then_keeps t (start T (keep kind.Ident d ∷ []) [] at (let w = i.within in omega (arith, w))) i h l) (small_grip (drop (at + 1) T)))
-
-name_fails : (r : Items) (d : ℕ) (s : Sign) (T : List Token) (at : ℕ) (e : Refusal) → AreNames r s → at ≤ length T → Lacks kind.Ident T at → e ≡ Wrong at → Answered {A = Token} (λ t. token t) (element_wants r d) [] T 8 at (Err e)
-name_fails r d s T at e a w n h = subst (λ w. Answered {A = Token} (λ t. token t) w [] T 8 at (Err e)) (sym (names_wants r d s a)) (lacks_keep (λ t. token t) 8 e (start T (keep kind.Ident d ∷ []) [] at w) n h)
-
-pub names_fail : (r : Items) (d : ℕ) (s : Sign) (T : List Token) (at : ℕ) (e : Refusal) → AreNames r s → at ≤ length T → Lacks kind.Ident T at → e ≡ Wrong at → Answered {A = List Span} (λ p. names p) (items_wants r d) [] T 8 at (Err e)
-names_fail r d s T at e a w n h = items_first_fails (λ p. names p) (λ t. token t) r T at d 8 8 e w (name_fails r d s T at e a w n h)
-
-pub names_first : (r : Items) (d : ℕ) (s : Sign) (T : List Token) (at : ℕ) (t : Token) (found : List Span) → AreNames r s → d ≤ DEPTH_LIMIT → IsAt T at t → same t.kind kind.Ident ≡ true → found ≡ span t ∷ [] → Reaches T (items_wants r d) [] at (more r d ∷ []) (names found ∷ []) (at + 1)
-names_first r d s T at t found a l i h e = items_first r T at d (at + 1) 8 (token t) (names found) (let w = i.within in omega (arith, w)) (name_done r d s T at t a i h l) (ap (λ z. names z) e)
-
-pub names_more : (r : Items) (d : ℕ) (s : Sign) (T : List Token) (from at : ℕ) (t : Token) (found found' : List Span) → AreNames r s → d ≤ DEPTH_LIMIT → Reaches T (items_wants r d) [] from (more r d ∷ []) (names found ∷ []) at → Stands (the_sign s) T at → IsAt T (at + 1) t → same t.kind kind.Ident ≡ true → found' ≡ found ++ span t ∷ [] → Reaches T (items_wants r d) [] from (more r d ∷ []) (names found' ∷ []) (at + 2)
-names_more r d s T from at t found found' a l p st i h e = moved (at + 2) (omega arith) (items_more r T from at d (at + 1 + 1) 8 (names found) (token t) (names found') p (subst (λ s. Stands (the_sign s) T at) (names_sign r s a) st) l (name_done r d s T (at + 1) t a i h l) (ap (λ z. names z) e))
-
-pub names_more_fail : (r : Items) (d : ℕ) (s : Sign) (T : List Token) (from at : ℕ) (e : Refusal) (found : List Span) → AreNames r s → d ≤ DEPTH_LIMIT → Reaches T (items_wants r d) [] from (more r d ∷ []) (names found ∷ []) at → Stands (the_sign s) T at → Lacks kind.Ident T (at + 1) → e ≡ Wrong (at + 1) → Answered {A = List Span} (λ p. names p) (items_wants r d) [] T 8 from (Err e)
-names_more_fail r d s T from at e found a l p st n h = items_more_fails (λ p. names p) (λ t. token t) r T from at d 8 8 (names found) e p (subst (λ s. Stands (the_sign s) T at) (names_sign r s a) st) l (name_fails r d s T (at + 1) e a (let w = st.within in omega (arith, w)) n h)
-
-pub names_end : (r : Items) (d : ℕ) (s : Sign) (T : List Token) (from at : ℕ) (found : List Span) → AreNames r s → Reaches T (items_wants r d) [] from (more r d ∷ []) (names found ∷ []) at → Lacks (the_sign s) T at → Done (items_wants r d) [] T 8 from at (names found)
-names_end r d s T from at found a p n = items_ends r T from at d 8 (names found) p (subst (λ s. Lacks (the_sign s) T at) (names_sign r s a) n) (small_grip (drop at T))

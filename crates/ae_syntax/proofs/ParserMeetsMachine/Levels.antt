@@ -1,25 +1,25 @@
 -- The levels of an expression: a looser level is a tighter one with a chain after it; how strongly the next token goes on.
-use Rattle.std.proofs.Common.{ℕ, suc, ◌+◌, ◌-◌, ◌≤◌, ◌<◌, Bool, true, false, cond, List, [], ◌∷◌, ◌++◌, ◌≡◌, Option, Some, None, Result, Ok, Err, length, drop, refl, sym, ap, ◌∙◌, subst, append_assoc, arith}
+use Rattle.std.proofs.Common.{ℕ, suc, ◌+◌, ◌≤◌, ◌<◌, false, List, [], ◌∷◌, ◌++◌, ◌≡◌, Option, None, Result, Ok, Err, length, drop, refl, sym, ap, ◌∙◌, subst, arith}
 use Rattle.std.proofs.lemmas.Bool.{false≢true}
+use Rattle.ae_base.proofs.Options.{never_some}
 use Rattle.ae_lex.specs.declared.kinds.Token.{Token}
 use Rattle.ae_lex.specs.declared.kinds.TokenKind.{TokenKind}
 use Rattle.ae_lex.specs.declared.kinds.TokenKind.TheVariants as kind
 use Rattle.ae_lex.specs.declared.kinds.Reserved.TheVariants as word
 use Rattle.ae_lex.specs.declared.kinds.Sign.TheVariants as sign
 use Rattle.ae_syntax.specs.declared.exprs.BinaryOp.{BinaryOp}
-use Rattle.ae_syntax.specs.declared.exprs.BinaryOp.TheVariants as op
 use Rattle.ae_syntax.specs.declared.faults.Refusal.{Refusal}
 use Rattle.ae_syntax.specs.declared.faults.Refusal.TheVariants.{Wrong, Deep, Memory}
-use Rattle.ae_syntax.specs.Kinds.{arrow, relation, additive, multiplicative}
+use Rattle.ae_syntax.specs.Kinds.{arrow, additive, multiplicative}
 use Rattle.ae_syntax.specs.Inner.SameKinds.{same}
 use Rattle.ae_syntax.specs.Parts.{Part, token}
-use Rattle.ae_syntax.specs.Inner.Machine.{Want, an_expr, an_or, an_and, an_not, a_rel, a_sum, a_prod, a_unary, a_post, an_atom, more_arrow, more_or, more_and, more_rel, more_sum, more_prod, more_post, make, apply, Act, skip, take, opens, refuse, then_wants, act, idle, if_some, on_atom, on_post, on_unary, on_prod, on_sum, on_rel, on_not, on_and, on_or, unchained, operand, mark, ended, feed, finish, run, limited, judge, deep}
-use Rattle.ae_syntax.specs.Inner.Reading.{Done, Fails, Sinks, Answered, IsAt, Lacks, grip_of, grip}
+use Rattle.ae_syntax.specs.Inner.Machine.{Want, an_expr, an_or, an_and, an_not, a_rel, a_sum, a_prod, a_unary, a_post, an_atom, more_arrow, more_or, more_and, more_rel, more_sum, more_prod, more_post, make, Act, skip, opens, then_wants, act, idle, unchained, ended, finish, run, limited, judge, deep}
+use Rattle.ae_syntax.specs.Inner.Reading.{Answered, IsAt, Lacks, grip_of, grip}
 use Rattle.ae_syntax.proofs.Acts.{Plain}
 use Rattle.ae_syntax.proofs.Steps.{went as run_went}
 use Rattle.ae_syntax.proofs.Levels.{deeper_plain}
 use Rattle.ae_syntax.proofs.Levels as levels
-use Rattle.ae_syntax.proofs.ParserMeetsMachine.Steps.{went, judge_is, judge_act, judge_at, judge_make, went_skip, went_opens, went_opens_deep, left_at}
+use Rattle.ae_syntax.proofs.ParserMeetsMachine.Steps.{went, judge_act, judge_at, judge_make, went_skip, went_opens, went_opens_deep, left_at}
 use Rattle.ae_syntax.specs.declared.cursor.TheConstants.{DEPTH_LIMIT}
 
 -- ---- a level is the tighter level with a chain
@@ -59,18 +59,9 @@ rel_levels d rest ss v = as_rel d rest ss v ∙ sum_levels d rest (more_rel d �
 
 -- ---- how strongly the next token goes on
 weak_arrow : (k : TokenKind) → arrow k ≡ None → grip_of k < 2 → grip_of k < 1
-weak_arrow (kind.Sign sign.Arrow) n l = absurd (some_none _ n)
-  where
-    some_none : (o : BinaryOp) → ◌≡◌ {A = Option BinaryOp} (Some o) None → ⊥
-    some_none o e = cc
-weak_arrow (kind.Sign sign.Iff) n l = absurd (some_none _ n)
-  where
-    some_none : (o : BinaryOp) → ◌≡◌ {A = Option BinaryOp} (Some o) None → ⊥
-    some_none o e = cc
-weak_arrow (kind.Reserved word.Xor) n l = absurd (some_none _ n)
-  where
-    some_none : (o : BinaryOp) → ◌≡◌ {A = Option BinaryOp} (Some o) None → ⊥
-    some_none o e = cc
+weak_arrow (kind.Sign sign.Arrow) n l = never_some _ (sym n)
+weak_arrow (kind.Sign sign.Iff) n l = never_some _ (sym n)
+weak_arrow (kind.Reserved word.Xor) n l = never_some _ (sym n)
 weak_arrow k n l = omega arith
 
 weak_or : (k : TokenKind) → same k (kind.Reserved word.Or) ≡ false → grip_of k < 3 → grip_of k < 2
@@ -96,14 +87,8 @@ weak_rel (kind.Reserved word.Xor) l = omega arith
 weak_rel k l = omega arith
 
 weak_sum : (k : TokenKind) → additive k ≡ None → grip_of k < 6 → grip_of k < 5
-weak_sum (kind.Sign sign.Plus) n l = absurd (some_none _ n)
-  where
-    some_none : (o : BinaryOp) → ◌≡◌ {A = Option BinaryOp} (Some o) None → ⊥
-    some_none o e = cc
-weak_sum (kind.Sign sign.Minus) n l = absurd (some_none _ n)
-  where
-    some_none : (o : BinaryOp) → ◌≡◌ {A = Option BinaryOp} (Some o) None → ⊥
-    some_none o e = cc
+weak_sum (kind.Sign sign.Plus) n l = never_some _ (sym n)
+weak_sum (kind.Sign sign.Minus) n l = never_some _ (sym n)
 weak_sum (kind.Sign sign.Star) n l = absurd (omega arith)
 weak_sum (kind.Sign sign.Slash) n l = absurd (omega arith)
 weak_sum (kind.Sign sign.Percent) n l = absurd (omega arith)
@@ -112,18 +97,9 @@ weak_sum (kind.Reserved word.Xor) n l = omega arith
 weak_sum k n l = omega arith
 
 weak_prod : (k : TokenKind) → multiplicative k ≡ None → grip_of k < 7 → grip_of k < 6
-weak_prod (kind.Sign sign.Star) n l = absurd (some_none _ n)
-  where
-    some_none : (o : BinaryOp) → ◌≡◌ {A = Option BinaryOp} (Some o) None → ⊥
-    some_none o e = cc
-weak_prod (kind.Sign sign.Slash) n l = absurd (some_none _ n)
-  where
-    some_none : (o : BinaryOp) → ◌≡◌ {A = Option BinaryOp} (Some o) None → ⊥
-    some_none o e = cc
-weak_prod (kind.Sign sign.Percent) n l = absurd (some_none _ n)
-  where
-    some_none : (o : BinaryOp) → ◌≡◌ {A = Option BinaryOp} (Some o) None → ⊥
-    some_none o e = cc
+weak_prod (kind.Sign sign.Star) n l = never_some _ (sym n)
+weak_prod (kind.Sign sign.Slash) n l = never_some _ (sym n)
+weak_prod (kind.Sign sign.Percent) n l = never_some _ (sym n)
 weak_prod (kind.Sign sign.Dot) n l = absurd (omega arith)
 weak_prod (kind.Reserved word.Xor) n l = omega arith
 weak_prod k n l = omega arith

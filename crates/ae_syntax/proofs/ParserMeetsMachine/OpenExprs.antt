@@ -1,5 +1,5 @@
 -- What the functions that read forms, atoms and lists answer, put together.
-use Rattle.std.proofs.Common.{ℕ, suc, ◌+◌, ◌≤◌, ◌<◌, Bool, true, false, cond, List, [], ◌∷◌, ◌++◌, ◌≡◌, Option, Some, None, Result, Ok, Err, length, drop, refl, sym, ap, ◌∙◌, subst, arith}
+use Rattle.std.proofs.Common.{ℕ, suc, ◌+◌, ◌≤◌, ◌<◌, true, cond, List, [], ◌∷◌, ◌++◌, ◌≡◌, Option, Some, None, Err, length, drop, refl, sym, ap, subst, arith}
 use Rattle.std.proofs.lemmas.Bool.{false≢true}
 use Rattle.ae_lex.specs.declared.kinds.Token.{Token}
 use Rattle.ae_lex.specs.declared.kinds.TokenKind.{TokenKind}
@@ -9,14 +9,14 @@ use Rattle.ae_lex.specs.declared.kinds.Sign.TheVariants as sign
 use Rattle.ae_syntax.specs.declared.exprs.Quantifier.{Quantifier}
 use Rattle.ae_syntax.specs.declared.exprs.Expr.{Expr}
 use Rattle.ae_syntax.specs.declared.faults.Refusal.{Refusal}
-use Rattle.ae_syntax.specs.declared.faults.Refusal.TheVariants.{Wrong, Deep, Memory}
+use Rattle.ae_syntax.specs.declared.faults.Refusal.TheVariants.{Deep}
 use Rattle.ae_syntax.specs.Kinds.{quantifies}
 use Rattle.ae_syntax.specs.Inner.SameKinds.{same}
-use Rattle.ae_syntax.specs.Parts.{Part, token, tree, negation, negative, alone, and_then, bare}
-use Rattle.ae_syntax.specs.Grammar.{Items, of_exprs, separator}
-use Rattle.ae_syntax.specs.Inner.Machine.{Want, Rule, Act, an_expr, an_not, a_rel, a_unary, a_post, an_atom, more, more_post, make, negate, oppose, begin, add, be_bare, call_it, call, bracket_end, brace, apply, skip, take, opens, refuse, act, idle, if_some, on_atom, on_not, on_rel, constant, items_wants, element_wants, let_wants, if_wants, block_wants, kept, the_word, the_sign, judge}
-use Rattle.ae_syntax.specs.Inner.Reading.{Done, Fails, Sinks, Answered, IsAt, Stands, Lacks, grip, distinct_wants}
-use Rattle.ae_syntax.proofs.ParserMeetsMachine.Steps.{Reaches, Skips, Refuses, start, then_takes, then_makes, then_skips, then_reads, then_keeps, joined, moved, done, relay, weaker, fails_on, sinking, refusing, judge_at, went_skip}
+use Rattle.ae_syntax.specs.Parts.{Part, token, tree, negation, negative, alone, and_then}
+use Rattle.ae_syntax.specs.Grammar.{Items, separator}
+use Rattle.ae_syntax.specs.Inner.Machine.{Want, Rule, an_expr, an_not, a_unary, an_atom, more, make, negate, oppose, begin, add, call, bracket_end, brace, apply, skip, take, opens, act, on_atom, on_not, items_wants, element_wants, let_wants, if_wants, block_wants, the_sign}
+use Rattle.ae_syntax.specs.Inner.Reading.{Done, Answered, IsAt, Stands, Lacks, grip, distinct_wants}
+use Rattle.ae_syntax.proofs.ParserMeetsMachine.Steps.{Reaches, start, then_takes, then_makes, then_skips, then_reads, done, fails_on, sinking}
 use Rattle.ae_syntax.specs.declared.cursor.TheConstants.{DEPTH_LIMIT}
 
 -- ---- a token that begins something

@@ -1,5 +1,5 @@
 -- From one place to another: what is wanted there, and what is wanted then, whatever else is.
-use Rattle.std.proofs.Common.{ℕ, suc, ◌+◌, ◌-◌, ◌≤◌, ◌<◌, Bool, true, false, cond, nat_le, List, [], ◌∷◌, ◌++◌, ◌≡◌, Result, Ok, Err, length, drop, length-drop, refl, sym, ap, ◌∙◌, subst, append_assoc, arith}
+use Rattle.std.proofs.Common.{ℕ, suc, ◌+◌, ◌-◌, ◌≤◌, ◌<◌, true, false, cond, nat_le, List, [], ◌∷◌, ◌++◌, ◌≡◌, Result, Ok, Err, length, drop, length-drop, refl, sym, ap, ◌∙◌, subst, append_assoc, arith}
 use Rattle.std.proofs.lemmas.Bool.Decides.{nat_tests}
 use Rattle.ae_lex.specs.declared.kinds.Token.{Token}
 use Rattle.ae_lex.specs.declared.kinds.TokenKind.{TokenKind}
@@ -7,8 +7,8 @@ use Rattle.ae_syntax.specs.declared.faults.Refusal.{Refusal}
 use Rattle.ae_syntax.specs.declared.faults.Refusal.TheVariants.{Wrong, Deep, Memory}
 use Rattle.ae_syntax.specs.Inner.SameKinds.{same}
 use Rattle.ae_syntax.specs.Parts.{Part, token}
-use Rattle.ae_syntax.specs.Inner.Machine.{Want, keep, pass, make, Rule, apply, Act, skip, take, opens, refuse, act, idle, unchained, Outcome, read, stops, mark, Fed, fed, unfed, after, feed, ended, finish, onward, run, Verdict, all, wrong, deep, limited, judge}
-use Rattle.ae_syntax.specs.Inner.Reading.{Done, Fails, Sinks, Answered, IsAt, Stands, Lacks, grip}
+use Rattle.ae_syntax.specs.Inner.Machine.{Want, keep, pass, make, Rule, apply, Act, skip, take, opens, refuse, act, idle, unchained, Outcome, mark, after, feed, ended, finish, onward, run, Verdict, wrong, deep, limited, judge}
+use Rattle.ae_syntax.specs.Inner.Reading.{Done, Answered, IsAt, Lacks, grip}
 use Rattle.ae_syntax.specs.declared.cursor.TheConstants.{DEPTH_LIMIT}
 
 -- ---- one step

@@ -1,10 +1,9 @@
 -- What the parser's functions answer, by the machine alone.
-use Rattle.std.specs.Prelude.{ℕ, suc, ◌+◌, ◌-◌, ◌≤◌, ◌<◌, List, [], ◌∷◌, ◌++◌, ◌≡◌, ◌⊎◌, Bool, true, false, length, drop, Option, Some, None, Result, Ok, Err}
+use Rattle.std.specs.Prelude.{ℕ, suc, ◌+◌, ◌-◌, ◌≤◌, ◌<◌, List, [], ◌∷◌, ◌++◌, ◌≡◌, ◌⊎◌, true, false, length, drop, Option, Some, None, Result, Ok, Err}
 use Rattle.ae_lex.specs.declared.kinds.Token.{Token}
 use Rattle.ae_lex.specs.declared.kinds.TokenKind.{TokenKind}
 use Rattle.ae_lex.specs.declared.kinds.TokenKind.TheVariants as kind
 use Rattle.ae_lex.specs.declared.kinds.Reserved.TheVariants as word
-use Rattle.ae_lex.specs.declared.kinds.Sign.{Sign}
 use Rattle.ae_lex.specs.declared.kinds.Sign.TheVariants as sign
 use Rattle.ae_syntax.specs.declared.exprs.Expr.{Expr}
 use Rattle.ae_syntax.specs.declared.exprs.ExprKind as expr_kind
@@ -12,7 +11,7 @@ use Rattle.ae_syntax.specs.declared.faults.Refusal.{Refusal}
 use Rattle.ae_syntax.specs.declared.faults.Refusal.TheVariants.{Wrong, Deep, Memory}
 use Rattle.ae_syntax.specs.Inner.SameKinds.{same}
 use Rattle.ae_syntax.specs.Parts.{Part, tree, span, expression}
-use Rattle.ae_syntax.specs.Grammar.{Items, of_exprs, of_settings, of_names, of_constructors}
+use Rattle.ae_syntax.specs.Grammar.{of_exprs, of_settings}
 use Rattle.ae_syntax.specs.Inner.Machine.{Want, a_post, a_type, pass, past, kept, make, all_differ, ascribe, build, change, the_word, the_sign, items_wants, constant, judge, wrong, deep}
 
 -- how strongly a token goes on with what stands before it, from 1 for an arrow to 7 for a point; a relation counts nothing
@@ -93,12 +92,6 @@ record_wants n d = items_wants of_settings n ++ kept sign.CloseBrace d ∷ make 
 -- a record, the values of the fields that are changed, and the bracket
 abbrev pub change_wants : ℕ → ℕ → List Want
 change_wants n d = a_post n ∷ pass (the_word word.With) n ∷ items_wants of_settings n ++ kept sign.CloseBrace d ∷ make change ∷ []
-
--- identifiers are parted by this sign
-abbrev pub AreNames : Items → Sign → Type 0
-AreNames of_names s = s ≡ sign.Comma
-AreNames of_constructors s = s ≡ sign.Bar
-AreNames _ s = ⊥
 
 -- a name with `=` stands there
 pub record Sets (tokens : List Token) (at : ℕ) : Type 0 where

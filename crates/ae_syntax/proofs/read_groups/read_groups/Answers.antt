@@ -1,9 +1,9 @@
-use Rattle.std.proofs.Common.{◌+◌, [], ◌∷◌, ◌++◌, ap, ◌∙◌}
+use Rattle.std.proofs.Common.{[], ◌∷◌, ◌++◌, ap, ◌∙◌}
 use Rattle.std.proofs.lemmas.Result.{err_from_is_err_and}
 use Rattle.ae_syntax.specs.Parts.{group, groups}
 use Rattle.ae_syntax.specs.Grammar.{of_groups}
 use Rattle.ae_syntax.proofs.ParserMeetsMachine.OpenExprs.{items_first, items_first_fails, items_more, items_more_fails, items_ends}
-use Rattle.ae_syntax.proofs.read_exprs.read_groups.Goals as goal
+use Rattle.ae_syntax.proofs.read_groups.read_groups.Goals as goal
 
 pub returns-in_err-first : goal.returns-in_err-first
 returns-in_err-first c = let p = err_from_is_err_and c.from_residual.result c.from_residual.ensures.1 in rw (p.1, p.2) (items_first_fails (λ p. groups p) (λ p. group p) of_groups c.args.tokens.now c.args.at c.args.depth 8 8 c.in_err-first.field-0.0 c.requires.within c.in_err-first.ensures)
