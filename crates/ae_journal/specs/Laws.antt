@@ -18,8 +18,13 @@ use Rattle.ae_journal.specs.TermValues.{leaf_of}
 use Rattle.ae_journal.specs.Standing.{Setting, IsGiven, IsFormula, IsEntered, IsPossible, MayStand, SurelyStands, Represents as RepresentsNow, value_now, IsWholeRow}
 use Rattle.ae_journal.specs.Sides.{side, other_side}
 use Rattle.ae_journal.specs.Rows.{IsRow}
-use Rattle.ae_journal.specs.InstanceLines.{HasGeneration as HasGenerationNow}
-use Rattle.ae_journal.specs.Legal.{AreLegal}
+use Rattle.ae_journal.specs.InstanceLines.{HasGeneration as HasGenerationNow, MayInstantiate}
+use Rattle.ae_journal.specs.Legal.{IsLegalLine, AreLegal}
+use Rattle.ae_journal.specs.RuleLines.{IsStanding, IsPaired, MayDrop, MayPair, MayOrientRule}
+use Rattle.ae_journal.specs.SolverLines.{MayDecide, MayLearn}
+use Rattle.ae_core.specs.declared.problems.AcSymbol.{AcSymbol}
+use Rattle.ae_num.specs.declared.forms.Value.{Value}
+use Rattle.ae_journal.specs.declared.lines.Oriented.TheVariants as oriented
 use Rattle.ae_journal.specs.declared.systems.System.{System}
 use Rattle.ae_journal.specs.declared.systems.Saturated.{Saturated}
 use Rattle.ae_journal.specs.declared.lines.Line.{Line}
@@ -122,3 +127,54 @@ pub data IsOfNames (x : Setting) (js : List Line) (strict : Bool) : Sum → Type
 
 abbrev pub RowsAreOfNames : Type 0
 RowsAreOfNames = (x : Setting) (bound : ℕ) (js : List Line) (strict : Bool) (f : Sum) → AreLegal x bound [] js → IsRow x js strict f → IsOfNames x js strict f
+
+-- ---- what is refused
+-- a rule that stands isn't oriented again
+abbrev pub NoSecondRule : Type 0
+NoSecondRule = (x : Setting) (js : List Line) (u : AcSymbol) (l q r : List ℕ) → IsStanding js u l q → ¬ MayOrientRule x js u l r
+
+-- two rules that were paired, and of which neither was dropped since, aren't paired again, in either order
+abbrev pub NoSecondPair : Type 0
+NoSecondPair = (js : List Line) (u : AcSymbol) (l m : List ℕ) → IsPaired js u l m → ¬ MayPair js u l m × ¬ MayPair js u m l
+
+-- a rule isn't paired with itself
+abbrev pub NoPairWithItself : Type 0
+NoPairWithItself = (js : List Line) (u : AcSymbol) (l : List ℕ) → ¬ MayPair js u l l
+
+-- a rule that was dropped isn't dropped again
+abbrev pub NoSecondDrop : Type 0
+NoSecondDrop = (x : Setting) (js : List Line) (u : AcSymbol) (l d : List ℕ) → ¬ MayDrop x (js ++ line.Drop (oriented.Rule u l d) ∷ []) u l
+
+-- no clause is learnt of which a given one is a part, what was learnt already among them
+abbrev pub NothingKnownIsLearnt : Type 0
+NothingKnownIsLearnt = (x : Setting) (js : List Line) (c d : Clause) → IsGiven x js d → ((m : Lit) → Contains d m → Contains c m) → ¬ MayLearn x js c
+
+-- no literal is decided that surely stands, or whose opposite does; a decision that stands is one
+abbrev pub NothingSureIsDecided : Type 0
+NothingSureIsDecided = (x : Setting) (js : List Line) (l : Lit) → SurelyStands x js l → ¬ MayDecide x js l × ¬ MayDecide x js (opposite l)
+
+-- no instance is noted twice
+abbrev pub NoSecondInstance : Type 0
+NoSecondInstance = (x : Setting) (bound : ℕ) (js : List Line) (j : Line) → Contains js j → ¬ MayInstantiate x bound js j
+
+-- `Back` doesn't come twice without a clause between, nor where no decision is undone
+abbrev pub NoSecondBack : Type 0
+NoSecondBack = (js : List Line) (m n : ℕ) → ¬ MayGoBack (js ++ line.Back m ∷ []) n
+
+abbrev pub BackUndoes : Type 0
+BackUndoes = (js : List Line) (n : ℕ) → length (decisions (live js)) ≤ n → ¬ MayGoBack js n
+
+-- an instance is noted only at a number below the bound
+abbrev pub NoInstanceAtBound : Type 0
+NoInstanceAtBound = (x : Setting) (js : List Line) (j : Line) → ¬ MayInstantiate x 0 js j
+
+-- no solved name is dropped
+abbrev pub NoNameIsDropped : Type 0
+NoNameIsDropped = (x : Setting) (bound : ℕ) (js : List Line) (n : ℕ) (v : Value) → ¬ IsLegalLine x bound js (line.Drop (oriented.Named n v))
+
+-- ---- how a decision and the lines of rules come: a journal with one line of each of these kinds
+abbrev pub SomePair : Type 0
+SomePair = (u : AcSymbol) → MayPair (line.Orient (oriented.Rule u (0 ∷ 1 ∷ []) (2 ∷ [])) ∷ line.Orient (oriented.Rule u (0 ∷ 3 ∷ []) (4 ∷ [])) ∷ []) u (0 ∷ 1 ∷ []) (0 ∷ 3 ∷ [])
+
+abbrev pub SomeDrop : Type 0
+SomeDrop = (x : Setting) (u : AcSymbol) → MayDrop x (line.Orient (oriented.Rule u (0 ∷ 1 ∷ 3 ∷ []) (2 ∷ [])) ∷ line.Orient (oriented.Rule u (0 ∷ 1 ∷ []) (2 ∷ [])) ∷ []) u (0 ∷ 1 ∷ 3 ∷ [])

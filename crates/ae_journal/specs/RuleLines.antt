@@ -7,7 +7,7 @@ use Rattle.ae_multiset.specs.Rewriting.{IsReduced, overlap_first, overlap_second
 use Rattle.ae_journal.specs.Systems.{IsJoin}
 use Rattle.ae_journal.specs.Journals.{live}
 use Rattle.ae_journal.specs.Standing.{Setting, IsNameAt, Represents, DidRepresent}
-use Rattle.ae_journal.specs.declared.systems.AcSymbol.{AcSymbol}
+use Rattle.ae_core.specs.declared.problems.AcSymbol.{AcSymbol}
 use Rattle.ae_journal.specs.declared.lines.Oriented.TheVariants as oriented
 use Rattle.ae_journal.specs.declared.lines.Line.{Line}
 use Rattle.ae_journal.specs.declared.lines.Line.TheVariants as line

@@ -1,5 +1,5 @@
 //! Laws of the definitions of states and journals.
-ghost use Rattle.ae_journal.specs.Laws.{OneRepresentative, OneValue, LeafRepresentative, OneRepresentativeNow, RepresentsItself, OneLeaf, LeastGenerations, GenerationsRise, GenerationsFall, FrontsAreLegal, BackRestores, BackAfterLearn, NothingIsLost, MayStandGrows, SurelyStandsGrows, LiteralsAreFormulas, RowsAreOfNames};
+ghost use Rattle.ae_journal.specs.Laws.{OneRepresentative, OneValue, LeafRepresentative, OneRepresentativeNow, RepresentsItself, OneLeaf, LeastGenerations, GenerationsRise, GenerationsFall, FrontsAreLegal, BackRestores, BackAfterLearn, NothingIsLost, MayStandGrows, SurelyStandsGrows, LiteralsAreFormulas, RowsAreOfNames, NoSecondRule, NoSecondPair, NoPairWithItself, NoSecondDrop, NothingKnownIsLearnt, NothingSureIsDecided, NoSecondInstance, NoSecondBack, BackUndoes, NoInstanceAtBound, NoNameIsDropped, SomePair, SomeDrop};
 
 /// A value has one representative within a sort, and no smaller name has the value.
 pub fn one_representative()
@@ -84,4 +84,69 @@ pub fn literals_are_formulas()
 /// In a legal journal a row is of two names' values, is that of a `Combine` line, or has two names as its sides.
 pub fn rows_are_of_names()
     ensures { RowsAreOfNames }
+{}
+
+/// A rule that stands isn't oriented again.
+pub fn no_second_rule()
+    ensures { NoSecondRule }
+{}
+
+/// Two rules that were paired, and of which neither was dropped since, aren't paired again.
+pub fn no_second_pair()
+    ensures { NoSecondPair }
+{}
+
+/// A rule isn't paired with itself.
+pub fn no_pair_with_itself()
+    ensures { NoPairWithItself }
+{}
+
+/// A rule that was dropped isn't dropped again.
+pub fn no_second_drop()
+    ensures { NoSecondDrop }
+{}
+
+/// No clause is learnt of which a given one is a part.
+pub fn nothing_known_is_learnt()
+    ensures { NothingKnownIsLearnt }
+{}
+
+/// No literal is decided that surely stands, or whose opposite does.
+pub fn nothing_sure_is_decided()
+    ensures { NothingSureIsDecided }
+{}
+
+/// No instance is noted twice.
+pub fn no_second_instance()
+    ensures { NoSecondInstance }
+{}
+
+/// `Back` doesn't come twice without a clause between.
+pub fn no_second_back()
+    ensures { NoSecondBack }
+{}
+
+/// `Back` comes only where it undoes a decision.
+pub fn back_undoes()
+    ensures { BackUndoes }
+{}
+
+/// An instance is noted only at a number below the bound.
+pub fn no_instance_at_bound()
+    ensures { NoInstanceAtBound }
+{}
+
+/// No solved name is dropped.
+pub fn no_name_is_dropped()
+    ensures { NoNameIsDropped }
+{}
+
+/// Two rules with a common name may be paired.
+pub fn some_pair()
+    ensures { SomePair }
+{}
+
+/// A rule whose left side another rule reduces may be dropped.
+pub fn some_drop()
+    ensures { SomeDrop }
 {}

@@ -1,0 +1,5 @@
+use Rattle.ae_journal.proofs.Refusals.{no_second_rule}
+use Rattle.ae_journal.proofs.laws.no_second_rule.Goals as goal
+
+pub returns : goal.returns
+returns c = no_second_rule
