@@ -1,5 +1,5 @@
 -- Generations of a journal only fall as it grows.
-use Rattle.std.proofs.Common.{◌≡◌, ℕ, zero, suc, List, [], ◌∷◌, ◌++◌, ap, ◌∙◌, sym, append_assoc, inl, inr, ◌⊎◌}
+use Rattle.std.proofs.Common.{ℕ, zero, suc, List, [], ◌++◌, ap, ◌∙◌, sym, append_assoc, inl, inr, ◌⊎◌}
 use Rattle.ae_rules.specs.Clauses.{Clause}
 use Rattle.ae_core.specs.declared.terms.Sort.{Sort}
 use Rattle.ae_core.specs.declared.terms.Term.{Term}

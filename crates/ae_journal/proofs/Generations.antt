@@ -1,11 +1,10 @@
 -- Generations of a state are the least numbers that follow their rules.
-use Rattle.std.proofs.Common.{◌≡◌, ◌≢◌, ℕ, zero, suc, List, [], ◌∷◌, Bool, true, Some}
-use Rattle.std.specs.List.{Contains}
+use Rattle.std.proofs.Common.{◌≡◌, ℕ, zero, suc, List, Bool, true}
 use Rattle.ae_core.specs.declared.terms.Sort.{Sort}
 use Rattle.ae_core.specs.declared.terms.Term.{Term}
 use Rattle.ae_core.specs.declared.formulas.Lit.{Lit}
 use Rattle.ae_core.specs.declared.problems.Problem.{Problem}
-use Rattle.ae_journal.specs.States.{Stands, IsFirst, Comes, TermComes, Owner, of_literal, of_axiom, OwnerComes, Matches, Begins, HasGeneration, AreSame, instance_literals}
+use Rattle.ae_journal.specs.States.{Stands, IsFirst, Comes, TermComes, Owner, of_literal, of_axiom, OwnerComes, Matches, Begins, HasGeneration, AreSame}
 use Rattle.ae_journal.specs.States.Comes.{first, by_row, by_block}
 use Rattle.ae_journal.specs.States.TermComes.{stands, part, field}
 use Rattle.ae_journal.specs.States.Begins.{first_of_all, of_match}

@@ -1,6 +1,5 @@
 -- What the lines of a journal bring is kept by more lines, and what stands by more lines but `Back` lines.
-use Rattle.std.proofs.Common.{◌≡◌, ◌≢◌, ℕ, zero, suc, List, [], ◌∷◌, ◌++◌, ◌∙◌, ap, append_assoc, inl, inr, ◌⊎◌}
-use Rattle.std.specs.List.{Contains}
+use Rattle.std.proofs.Common.{◌≡◌, List, ◌++◌, ◌∙◌, ap, append_assoc, inl, inr}
 use Rattle.std.proofs.lemmas.List.Elements.{Contains-append_left}
 use Rattle.ae_rules.specs.Clauses.{Clause, opposite}
 use Rattle.ae_core.specs.declared.terms.Term.{Term}

@@ -1,18 +1,16 @@
 -- In a legal journal literals that may stand are of its formulas, and rows are of its names.
-use Rattle.std.proofs.Common.{◌≡◌, ℕ, zero, suc, ◌<◌, List, [], ◌∷◌, ◌++◌, length, length-append, Bool, refl, sym, ◌∙◌, ap, subst, arith, inl, inr, ◌⊎◌}
+use Rattle.std.proofs.Common.{◌≡◌, ℕ, zero, suc, ◌<◌, List, [], ◌∷◌, ◌++◌, length, length-append, Bool, sym, ap, subst, arith, inl, inr, ◌⊎◌}
 use Rattle.std.proofs.lemmas.List.{append-nil}
 use Rattle.std.specs.List.{Contains}
-use Rattle.std.proofs.lemmas.List.Elements.{Contains-append_cases, Contains-append_left, Contains-append_right}
+use Rattle.std.proofs.lemmas.List.Elements.{Contains-append_cases, Contains-append_right}
 use Rattle.ae_rules.specs.Clauses.{Clause, opposite}
-use Rattle.ae_core.specs.declared.terms.Term.{Term}
 use Rattle.ae_core.specs.declared.formulas.Formula.{Formula}
 use Rattle.ae_core.specs.declared.formulas.Lit.{Lit}
-use Rattle.ae_num.specs.declared.forms.Lin.{Lin}
 use Rattle.ae_journal.specs.declared.lines.Line.{Line}
 use Rattle.ae_journal.specs.declared.lines.Line.TheVariants as line
 use Rattle.ae_journal.specs.Values.{Sum}
-use Rattle.ae_journal.specs.Journals.{before_decision, after_line, live_after, live, decisions, IsDecided}
-use Rattle.ae_journal.specs.Standing.{Setting, IsBrought, IsGiven, IsFormula, IsEntered, IsPossible, MayStand}
+use Rattle.ae_journal.specs.Journals.{before_decision, live_after, live, decisions, IsDecided}
+use Rattle.ae_journal.specs.Standing.{Setting, IsFormula, IsPossible, MayStand}
 use Rattle.ae_journal.specs.Standing.IsFormula.{of_clause, of_order, of_choice, of_fresh, of_part}
 use Rattle.ae_journal.specs.Standing.IsEntered.{of_formula, of_row, of_other_side}
 use Rattle.ae_journal.specs.Standing.IsPossible.{given, row_of, choice_of, order_of, fresh_of}

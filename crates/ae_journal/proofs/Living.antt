@@ -1,15 +1,14 @@
 -- The lines that stand after a longer journal, and what a `Back` line leaves of them.
-use Rattle.std.proofs.Common.{◌≡◌, ◌≢◌, ℕ, zero, suc, ◌+◌, ◌-◌, ◌<◌, ◌≤◌, List, [], ◌∷◌, ◌++◌, length, refl, sym, ◌∙◌, ap, subst, arith, inl, inr, ◌⊎◌, append_assoc}
+use Rattle.std.proofs.Common.{◌≡◌, ◌≢◌, ℕ, zero, suc, ◌-◌, ◌<◌, ◌≤◌, List, [], ◌∷◌, ◌++◌, length, refl, sym, ◌∙◌, ap, subst, arith, inl, inr, ◌⊎◌, append_assoc}
 use Rattle.std.proofs.lemmas.List.{append-nil}
 use Rattle.std.specs.List.{AllByRecursion, Contains}
-use Rattle.std.proofs.lemmas.List.Elements.{Contains-append_left, Contains-append_cases}
+use Rattle.std.proofs.lemmas.List.Elements.{Contains-append_left}
 use Rattle.ae_core.specs.declared.formulas.Lit.{Lit}
 use Rattle.ae_journal.specs.declared.lines.Line.{Line}
 use Rattle.ae_journal.specs.declared.lines.Line.TheVariants as line
 use Rattle.ae_journal.specs.Journals.{before_decision, after_line, live_after, live, decisions, IsDecided, HasLine, IsBack, BringsClause, MayGoBack}
 use Rattle.ae_journal.specs.Journals.HasLine.{here, later}
 use Rattle.ae_journal.specs.Laws.{KeepsDecision, BackRestores, BackAfterLearn}
-use Rattle.ae_journal.proofs.Splits.{contains_cases, contains_here, contains_later}
 
 pub live_after-append : (kept xs ys : List Line) → live_after kept (xs ++ ys) ≡ live_after (live_after kept xs) ys
 live_after-append kept [] ys = refl
@@ -99,11 +98,12 @@ module _ (kept : List Line) (l : Lit) (n : ℕ) (count : length (decisions kept)
   pushed js j s = (s.0 ++ j ∷ [], ap (λ (w : List Line). w ++ j ∷ []) s.1 ∙ append_assoc kept (line.Decide l ∷ s.0) (j ∷ []))
 
   undone : (js : List Line) (m : ℕ) → n < m → Stood js → Stood (before_decision m js)
-  undone js m h s =
-      (before_decision (m - suc n) s.0,
-      ap (before_decision m) s.1
-      ∙ cut_behind m kept (line.Decide l ∷ s.0) (omega (arith, h, count))
-      ∙ ap (λ k. kept ++ before_decision k (line.Decide l ∷ s.0)) (let e : m - length (decisions kept) ≡ suc (m - suc n) = omega (arith, h, count) in e))
+  undone js m h s = (
+    before_decision (m - suc n) s.0,
+    ap (before_decision m) s.1
+        ∙ cut_behind m kept (line.Decide l ∷ s.0) (omega (arith, h, count))
+        ∙ ap (λ k. kept ++ before_decision k (line.Decide l ∷ s.0)) (let e : m - length (decisions kept) ≡ suc (m - suc n) = omega (arith, h, count) in e),
+  )
 
   stood_after : (js ls : List Line) → KeepsDecision n ls → Stood js → Stood (live_after js ls)
   stood_after js [] k s = s

@@ -1,6 +1,5 @@
 -- Matches where more terms are known.
-use Rattle.std.proofs.Common.{◌≡◌, ℕ, List, [], ◌∷◌, map}
-use Rattle.std.specs.List.{AllByRecursion}
+use Rattle.std.proofs.Common.{ℕ, List}
 use Rattle.ae_base.proofs.AllOf.{all_weaker}
 use Rattle.ae_rules.specs.Matches.{IsSame, Equals, EqualEach, IsMatch}
 use Rattle.ae_rules.specs.Matches.Equals.{variable, application, turned, own}

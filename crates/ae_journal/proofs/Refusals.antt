@@ -1,20 +1,19 @@
 -- What the rules of a journal's lines refuse, and lines of rules that they allow.
-use Rattle.std.proofs.Common.{◌≡◌, ◌≢◌, ℕ, zero, suc, ◌<◌, ◌≤◌, List, [], ◌∷◌, ◌++◌, length, refl, sym, ◌∙◌, ap, subst, arith, inl, inr, ◌⊎◌}
+use Rattle.std.proofs.Common.{◌≡◌, ℕ, ◌≤◌, List, [], ◌∷◌, ◌++◌, refl, sym, ◌∙◌, ap, subst, arith, inl, inr}
 use Rattle.std.specs.List.{Contains}
 use Rattle.std.proofs.lemmas.List.Elements.{Contains-append_right}
 use Rattle.ae_core.specs.declared.problems.AcSymbol.{AcSymbol}
-use Rattle.ae_multiset.specs.Multisets.{count, IsSame, IsPart}
+use Rattle.ae_multiset.specs.Multisets.{count}
 use Rattle.ae_journal.specs.declared.lines.Line.{Line}
 use Rattle.ae_journal.specs.declared.lines.Line.TheVariants as line
 use Rattle.ae_journal.specs.declared.lines.Oriented.TheVariants as oriented
 use Rattle.ae_journal.specs.Journals.{live, HasLine, BringsClause}
-use Rattle.std.specs.Prelude.{not}
 use Rattle.ae_base.proofs.Tests.{not_not}
 use Rattle.ae_rules.specs.Clauses.{opposite}
 use Rattle.ae_journal.specs.Standing.{SurelyStands}
-use Rattle.ae_journal.specs.RuleLines.{IsStanding, IsPaired, MayDrop, MayPair, MayOrientRule}
+use Rattle.ae_journal.specs.RuleLines.{IsStanding, IsPaired}
 use Rattle.ae_journal.specs.Laws.{NoSecondRule, NoSecondPair, NoPairWithItself, NoSecondDrop, NothingKnownIsLearnt, NothingSureIsDecided, NoSecondInstance, NoSecondBack, BackUndoes, NoInstanceAtBound, NoNameIsDropped, SomePair, SomeDrop}
-use Rattle.ae_journal.proofs.Splits.{contains_cases, contains_here, contains_one}
+use Rattle.ae_journal.proofs.Splits.{contains_here, contains_one}
 use Rattle.ae_journal.proofs.Living.{live_push, last_cases}
 
 pub no_second_rule : NoSecondRule

@@ -1,5 +1,5 @@
 -- Representatives: unique, least, and their own.
-use Rattle.std.proofs.Common.{◌≡◌, ◌≢◌, ℕ, zero, suc, ◌+◌, ◌<◌, ◌≤◌, List, [], ◌∷◌, length, Option, Some, None, slice_get, inl, inr, ◌⊎◌, refl, sym, ◌∙◌, ap, subst, arith, Bool, true, false}
+use Rattle.std.proofs.Common.{◌≡◌, ℕ, zero, suc, ◌+◌, ◌<◌, ◌≤◌, List, [], ◌∷◌, length, Option, Some, None, slice_get, inl, inr, ◌⊎◌, refl, sym, ◌∙◌, ap, arith}
 use Rattle.ae_core.specs.Sorts.{sort_of}
 use Rattle.ae_base.specs.Options.{or_else}
 use Rattle.ae_core.specs.Decided.{Term_discrete}
@@ -7,13 +7,10 @@ use Rattle.ae_base.specs.Decided.{pick}
 use Rattle.ae_core.specs.declared.terms.Sort.{Sort}
 use Rattle.ae_core.specs.declared.terms.Term.{Term}
 use Rattle.ae_core.specs.declared.problems.Signature.{Signature}
-use Rattle.ae_journal.specs.Values.{Val}
-use Rattle.ae_journal.specs.Systems.{own, value_at, ValueOf, IsLeaf, Represents, IsCompleted}
-use Rattle.ae_journal.specs.TermValues.{leaf_of, number_from, IsLeast, value_by}
-use Rattle.ae_journal.specs.Standing.{Setting, Represents as RepresentsNow}
+use Rattle.ae_journal.specs.Systems.{value_at}
+use Rattle.ae_journal.specs.TermValues.{number_from, IsLeast, value_by}
 use Rattle.ae_journal.specs.Inner.Numbering.{term_number, same_number}
 use Rattle.ae_journal.specs.Laws.{OneRepresentative, OneValue, LeafRepresentative, OneRepresentativeNow, RepresentsItself, OneLeaf}
-use Rattle.ae_journal.specs.declared.systems.System.{System}
 use Rattle.ae_journal.specs.declared.lines.Line.{Line}
 
 pub one_representative : OneRepresentative

@@ -1,5 +1,5 @@
 -- The laws, as statements: what the definitions of states and of legal journals give.
-use Rattle.std.specs.Prelude.{ℕ, zero, suc, ◌<◌, ◌≤◌, Bool, true, false, List, [], ◌∷◌, ◌++◌, ◌≡◌, ◌≢◌, ◌⊎◌, length, Some}
+use Rattle.std.specs.Prelude.{ℕ, suc, ◌<◌, ◌≤◌, Bool, true, false, List, [], ◌∷◌, ◌++◌, ◌≡◌, ◌≢◌, length, Some}
 use Rattle.std.specs.List.{AllByRecursion, Contains}
 use Rattle.ae_rules.specs.Clauses.{Clause, opposite, row}
 use Rattle.ae_core.specs.declared.terms.Sort.{Sort, Int}
@@ -15,7 +15,7 @@ use Rattle.ae_journal.specs.Systems.{own, value_at, ValueOf, IsLeaf, Represents,
 use Rattle.ae_journal.specs.States.{Stands, IsFirst, HasGeneration, Matches, Owner, instance_literals, quant_of, is_universal}
 use Rattle.ae_journal.specs.Journals.{live, decisions, IsBack, MayGoBack}
 use Rattle.ae_journal.specs.TermValues.{leaf_of}
-use Rattle.ae_journal.specs.Standing.{Setting, IsGiven, IsFormula, IsEntered, IsPossible, MayStand, SurelyStands, Represents as RepresentsNow, value_now, IsWholeRow}
+use Rattle.ae_journal.specs.Standing.{Setting, IsGiven, IsFormula, IsEntered, IsPossible, MayStand, SurelyStands, Represents as RepresentsNow, value_now}
 use Rattle.ae_journal.specs.Sides.{side, other_side}
 use Rattle.ae_journal.specs.Rows.{IsRow}
 use Rattle.ae_journal.specs.InstanceLines.{HasGeneration as HasGenerationNow, MayInstantiate}

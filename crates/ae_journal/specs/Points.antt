@@ -1,5 +1,5 @@
 -- The making of a point that the rows of a journal allow: names get constants from the smallest up.
-use Rattle.std.specs.Prelude.{ℕ, ◌<◌, pos, Bool, true, false, cond, List, ◌≡◌, ◌≢◌, ◌⊎◌}
+use Rattle.std.specs.Prelude.{ℕ, ◌<◌, pos, Bool, true, false, cond, List, ◌≡◌, ◌≢◌}
 use Rattle.ae_math.specs.Fractions.{ℚ, zero_ℚ, one_ℚ, ratio, inverse_ℚ, neg_ℚ, ◌+ℚ◌, ◌*ℚ◌, is_positive}
 use Rattle.ae_num.specs.declared.forms.Lin.{Lin}
 use Rattle.ae_journal.specs.Values.{Sum, leaf_factor, constant_val, sum_in}

@@ -4,7 +4,7 @@ use Rattle.std.specs.List.{Contains}
 use Rattle.ae_core.specs.Sorts.{sort_of}
 use Rattle.ae_rules.specs.Lines.{Conseq}
 use Rattle.ae_rules.specs.Clauses.{Clause, opposite, yes_of, no_of, is_true, row}
-use Rattle.ae_rules.specs.Instances.{hypothesis, instance_clause, fresh_clause, exhaustion, trichotomy}
+use Rattle.ae_rules.specs.Instances.{hypothesis, fresh_clause, exhaustion, trichotomy}
 use Rattle.ae_rules.specs.Derivations.{goal_body, conclusion}
 use Rattle.ae_core.specs.declared.terms.Sort.{Sort, Int}
 use Rattle.ae_core.specs.declared.terms.Term.{Term, Apply}

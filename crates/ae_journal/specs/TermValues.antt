@@ -1,5 +1,5 @@
 -- The values that terms have by the `solve` lines that stand, for a list that numbers names.
-use Rattle.std.specs.Prelude.{ℕ, zero, suc, ◌+◌, ◌<◌, ◌≤◌, nat_eq, Bool, true, false, cond, List, [], ◌∷◌, ◌++◌, ◌≡◌, ◌≢◌, map, length, slice_get, Option, Some, None}
+use Rattle.std.specs.Prelude.{ℕ, zero, suc, ◌+◌, ◌<◌, ◌≤◌, nat_eq, cond, List, [], ◌∷◌, ◌++◌, ◌≡◌, ◌≢◌, map, length, slice_get, Option, Some, None}
 use Rattle.ae_math.specs.Fractions.{ℚ, zero_ℚ, ratio, ◌+ℚ◌, ◌*ℚ◌}
 use Rattle.ae_base.specs.Decided.{pick}
 use Rattle.ae_core.specs.Decided.{Term_discrete}
