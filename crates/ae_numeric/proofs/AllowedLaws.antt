@@ -1,11 +1,11 @@
 -- What a line that is a sum asks besides: its factor, the signs of the others, and a strict line.
-use Rattle.std.specs.Prelude.{ℕ, zero, suc, ℤ, pos, negsuc, nat_lt, ◌<ℤ◌, ◌⊎◌, Bool, true, false, ◌||◌, int_lt, ◌≡◌, ◌≢◌, List, [], ◌∷◌, slice_get, Some, None}
+use Rattle.std.specs.Prelude.{ℤ, pos, ◌<ℤ◌, ◌⊎◌, Bool, true, false, ◌||◌, int_lt, ◌≡◌, ◌≢◌, List, [], ◌∷◌, slice_get, Some, None}
 use Rattle.std.specs.List.{list_all, list_any, AllByRecursion}
-use Rattle.std.proofs.Common.{refl, sym, ap, ◌∙◌, true≢false, inl, inr, arith}
-use Rattle.std.proofs.lemmas.Bool.{and_parts}
-use Rattle.std.proofs.lemmas.Bool.Decides.{nat_tests}
-use borrow.Author.Differences.{ints}
+use Rattle.std.proofs.Common.{refl, sym, ap, ◌∙◌, true≢false, inl, inr}
+use Rattle.std.proofs.lemmas.Bool.{and_parts, and_from, or_cases, or_left, or_right}
 use Rattle.ae_base.specs.Options.{◌>>=◌}
+use Rattle.ae_base.proofs.AllOf.{all_always, all_weaker}
+use Rattle.ae_base.proofs.Integers.{positive_is, positive_of}
 use Rattle.ae_rules.specs.Lines.{Fact, equal, at_most, below, states, Combined, IsEqual, MayCount, SomeBelow, AllowedLin, AllowedLeSum, AllowedLtSum}
 use Rattle.ae_core.specs.declared.terms.Term.{Term}
 use Rattle.ae_core.specs.declared.problems.Signature.{Signature}
@@ -15,15 +15,7 @@ use Rattle.ae_core.specs.declared.proofs.Relation.{Relation}
 use Rattle.ae_core.specs.declared.proofs.Relation.TheVariants.{Equal, AtMost, Below}
 use Rattle.ae_numeric.specs.Stated.{is_equation}
 use Rattle.ae_numeric.specs.Inner.Sums.{may_join, IsSum, may_count, is_strict, is_strict_part}
-use Rattle.ae_numeric.proofs.FitLaws.{stated_line, and_true}
-
-each_map : {X : Type 0} (P Q : X → Type 0) (xs : List X) → ((x : X) → P x → Q x) → AllByRecursion P xs → AllByRecursion Q xs
-each_map P Q [] f a = tt
-each_map P Q (x ∷ xs) f a = (f x a.0, each_map P Q xs f a.1)
-
-each_any : {X : Type 0} (P : X → Type 0) (xs : List X) → ((x : X) → P x) → AllByRecursion P xs
-each_any P [] f = tt
-each_any P (x ∷ xs) f = (f x, each_any P xs f)
+use Rattle.ae_numeric.proofs.FitLaws.{stated_line}
 
 -- ---- equations
 equation_is : (r : Relation) → elim r [ Equal ↦ true | AtMost ↦ false | Below ↦ false ] ≡ true → r ≡ Equal
@@ -33,29 +25,16 @@ equation_is Below e = absurd (true≢false (sym e))
 
 pub lin_of : (sig : Signature) (earlier : List EqLine) (s t : Term) (d : ℤ) (ps : List Scaled) → d ≢ pos 0 → IsSum sig earlier (equal s t) d ps → AllowedLin sig earlier s t d ps
 lin_of sig earlier s t d ps n (fs, combined, joins, sums) =
-    (n, fs, combined, each_map (λ (f : ℤ × Fact). may_join Equal f.1 ≡ true) IsEqual fs (λ f e. equation_is (f.1).relation e) joins, sums)
+    (n, fs, combined, all_weaker (λ (f : ℤ × Fact). may_join Equal f.1 ≡ true) IsEqual (λ f e. equation_is (f.1).relation e) fs joins, sums)
 
 pub lin_sum : (sig : Signature) (earlier : List EqLine) (s t : Term) (d : ℤ) (ps : List Scaled) → AllowedLin sig earlier s t d ps → IsSum sig earlier (equal s t) d ps
 lin_sum sig earlier s t d ps (n, fs, combined, each, sums) =
-    (fs, combined, each_map IsEqual (λ (f : ℤ × Fact). may_join Equal f.1 ≡ true) fs (λ f e. ap (λ r. elim r [ Equal ↦ true | AtMost ↦ false | Below ↦ false ]) e) each, sums)
+    (fs, combined, all_weaker IsEqual (λ (f : ℤ × Fact). may_join Equal f.1 ≡ true) (λ f e. ap (λ r. elim r [ Equal ↦ true | AtMost ↦ false | Below ↦ false ]) e) fs each, sums)
 
 pub lin_times : (sig : Signature) (earlier : List EqLine) (s t : Term) (d : ℤ) (ps : List Scaled) → AllowedLin sig earlier s t d ps → d ≢ pos 0
 lin_times sig earlier s t d ps a = a.0
 
 -- ---- factors of inequalities
-zero_below : (n : ℕ) → nat_lt 0 (suc n) ≡ true
-zero_below n = grind (arith, nat_tests)
-
-positive_is : (x : ℤ) → int_lt (pos 0) x ≡ true → pos 0 <ℤ x
-positive_is (pos zero) e = absurd (true≢false (sym e))
-positive_is (pos (suc n)) e = omega (arith, ints)
-positive_is (negsuc n) e = absurd (true≢false (sym e))
-
-positive_of : (x : ℤ) → pos 0 <ℤ x → int_lt (pos 0) x ≡ true
-positive_of (pos zero) e = absurd (omega (arith, ints))
-positive_of (pos (suc n)) e = zero_below n
-positive_of (negsuc n) e = absurd (omega (arith, ints))
-
 abbrev Fits : Relation → Term → Term → ℤ → Bool
 Fits r s t x = is_equation (record { relation = r; left = s; right = t }) || int_lt (pos 0) x
 
@@ -89,13 +68,13 @@ counts_of : (earlier : List EqLine) (ps : List Scaled) (fs : List (ℤ × Fact))
 counts_of earlier [] [] c a = refl
 counts_of earlier [] (f ∷ fs) c a = absurd c
 counts_of earlier (p ∷ ps) [] c a = absurd c
-counts_of earlier (p ∷ ps) (f ∷ fs) c a = and_true (part_count earlier p f c.0 c.1 ∙ count_of (f.1).relation (f.1).left (f.1).right f.0 a.0) (counts_of earlier ps fs c.2 a.1)
+counts_of earlier (p ∷ ps) (f ∷ fs) c a = and_from _ _ (part_count earlier p f c.0 c.1 ∙ count_of (f.1).relation (f.1).left (f.1).right f.0 a.0) (counts_of earlier ps fs c.2 a.1)
 
 pub le_of : (sig : Signature) (earlier : List EqLine) (s t : Term) (d : ℤ) (ps : List Scaled) → pos 0 <ℤ d → list_all (may_count earlier) ps ≡ true → IsSum sig earlier (at_most s t) d ps → AllowedLeSum sig earlier s t d ps
 le_of sig earlier s t d ps n e (fs, combined, joins, sums) = (n, fs, combined, counts_are earlier ps fs combined e, sums)
 
 pub le_sum : (sig : Signature) (earlier : List EqLine) (s t : Term) (d : ℤ) (ps : List Scaled) → AllowedLeSum sig earlier s t d ps → IsSum sig earlier (at_most s t) d ps
-le_sum sig earlier s t d ps (n, fs, combined, each, sums) = (fs, combined, each_any (λ (f : ℤ × Fact). may_join AtMost f.1 ≡ true) fs (λ f. refl), sums)
+le_sum sig earlier s t d ps (n, fs, combined, each, sums) = (fs, combined, all_always (λ (f : ℤ × Fact). may_join AtMost f.1 ≡ true) (λ f. refl) fs, sums)
 
 pub le_counts : (sig : Signature) (earlier : List EqLine) (s t : Term) (d : ℤ) (ps : List Scaled) → AllowedLeSum sig earlier s t d ps → list_all (may_count earlier) ps ≡ true
 le_counts sig earlier s t d ps (n, fs, combined, each, sums) = counts_of earlier ps fs combined each
@@ -110,17 +89,6 @@ part_strict : (earlier : List EqLine) (p : Scaled) (f : Fact) → (slice_get ear
 part_strict earlier p f at =
     let s = stated_line (slice_get earlier p.line) f at in
     ap (λ o. elim o [ Some l ↦ is_strict (states l) | None ↦ false ]) s.1 ∙ ap is_strict s.2
-
-or_cases : (a b : Bool) → a || b ≡ true → (a ≡ true) ⊎ (b ≡ true)
-or_cases true b e = inl refl
-or_cases false b e = inr e
-
-or_left : (a b : Bool) → a ≡ true → a || b ≡ true
-or_left a b e = ap (λ a. a || b) e
-
-or_right : (a b : Bool) → b ≡ true → a || b ≡ true
-or_right true b e = refl
-or_right false b e = e
 
 some_are : (earlier : List EqLine) (ps : List Scaled) (fs : List (ℤ × Fact)) → Combined earlier ps fs → list_any (is_strict_part earlier) ps ≡ true → SomeBelow fs
 some_are earlier [] [] c e = absurd (true≢false (sym e))
@@ -147,7 +115,7 @@ pub lt_of : (sig : Signature) (earlier : List EqLine) (s t : Term) (d : ℤ) (ps
 lt_of sig earlier s t d ps n e o (fs, combined, joins, sums) = (n, fs, combined, counts_are earlier ps fs combined e, some_are earlier ps fs combined o, sums)
 
 pub lt_sum : (sig : Signature) (earlier : List EqLine) (s t : Term) (d : ℤ) (ps : List Scaled) → AllowedLtSum sig earlier s t d ps → IsSum sig earlier (below s t) d ps
-lt_sum sig earlier s t d ps (n, fs, combined, each, some, sums) = (fs, combined, each_any (λ (f : ℤ × Fact). may_join Below f.1 ≡ true) fs (λ f. refl), sums)
+lt_sum sig earlier s t d ps (n, fs, combined, each, some, sums) = (fs, combined, all_always (λ (f : ℤ × Fact). may_join Below f.1 ≡ true) (λ f. refl) fs, sums)
 
 pub lt_counts : (sig : Signature) (earlier : List EqLine) (s t : Term) (d : ℤ) (ps : List Scaled) → AllowedLtSum sig earlier s t d ps → list_all (may_count earlier) ps ≡ true
 lt_counts sig earlier s t d ps (n, fs, combined, each, some, sums) = counts_of earlier ps fs combined each

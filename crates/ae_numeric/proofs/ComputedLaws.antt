@@ -1,5 +1,5 @@
 -- What the computation of each kind of term is, and how the results of parts make that of the whole.
-use Rattle.std.specs.Prelude.{ℤ, pos, neg_ℤ, ◌≡◌, List, ◌++◌, Some, None, Ok, Err, IfOk, IfErr, OnOk}
+use Rattle.std.specs.Prelude.{ℤ, pos, neg_ℤ, ◌≡◌, List, ◌++◌, Some, None, Ok, Err, IfOk}
 use Rattle.std.specs.declared.result.Result.{Result}
 use Rattle.std.proofs.Common.{refl, sym, ap, ◌∙◌, append_assoc}
 use Rattle.ae_num.specs.declared.forms.Lin.{Lin}
@@ -100,20 +100,3 @@ module _ (a : Computation) (top bottom : ℤ) (before after : List Term) (x : Li
 
 pub multiple_part_wide : (a : Computation) (top bottom : ℤ) (before : List Term) (w : Wide) → first_wide (a before).steps ≡ Some w → first_wide (scaled top bottom a before).steps ≡ Some w
 multiple_part_wide a top bottom before w h = first_wide-some (a before).steps (scale_steps top bottom (a before).form) w h
-
--- ---- results
-pub if_ok_err : {A E : Type 0} (r : Result A E) (P Q : E → Type 0) → ((e : E) → P e → Q e) → IfErr r P → IfErr r Q
-if_ok_err (Ok a) P Q f p = tt
-if_ok_err (Err e) P Q f p = f e p
-
-pub on_ok : {A E : Type 0} (r : Result A E) (P : A → Type 0) (Q : Type 0) (R : A → Type 0) → ((a : A) → P a → Q → R a) → IfOk r P → OnOk r Q → IfOk r R
-on_ok (Ok a) P Q R f p q = f a p q
-on_ok (Err e) P Q R f p q = tt
-
-pub only_ok : {A E : Type 0} (r : Result A E) (P Q : Type 0) → (P → Q) → OnOk r P → OnOk r Q
-only_ok (Ok a) P Q f p = f p
-only_ok (Err e) P Q f p = tt
-
-pub always_ok : {A E : Type 0} (r : Result A E) (P : Type 0) → P → OnOk r P
-always_ok (Ok a) P p = p
-always_ok (Err e) P p = tt

@@ -1,5 +1,5 @@
 -- Where a form is a number that a relation denies.
-use Rattle.std.specs.Prelude.{ℕ, zero, suc, ℤ, pos, negsuc, neg_ℤ, ◌<ℤ◌, ◌≡◌, ◌≢◌, ◌↔◌, ◌&&◌, slice_get, Some, Ok, Bool, IsTrue, true, false, not, cond, nat_lt, int_lt, List, [], ◌∷◌}
+use Rattle.std.specs.Prelude.{ℕ, zero, suc, ℤ, pos, negsuc, neg_ℤ, ◌<ℤ◌, ◌≡◌, ◌≢◌, ◌↔◌, ◌&&◌, slice_get, Some, Ok, Bool, true, false, not, cond, nat_lt, int_lt, List, [], ◌∷◌}
 use Rattle.std.specs.Ordering.{int_eq, is_eq}
 use Rattle.std.specs.declared.cmp.Ordering.TheVariants.{Less, Greater, Equal as Same}
 use Rattle.std.proofs.Common.{refl, sym, ap, ◌∙◌, subst, true≢false, arith}
@@ -19,11 +19,13 @@ use Rattle.ae_rules.specs.Linear.{Linear, form}
 use Rattle.ae_rules.specs.Derivations.{IsNumber}
 use Rattle.ae_core.specs.Sorts.{sort_of, same_numeric}
 use Rattle.ae_base.specs.Options.{◌>>=◌}
+use Rattle.ae_base.proofs.Tests.{zero_below}
 use Rattle.ae_rules.specs.Lines.{Fact, equal, states, Stated, AreNumbers}
 use Rattle.ae_core.specs.declared.problems.Signature.{Signature}
 use Rattle.ae_core.specs.declared.proofs.EqLine.{EqLine}
 use Rattle.ae_numeric.specs.Stated.{of_one_sort}
 use Rattle.std.proofs.lemmas.Option.{same_Some}
+use Rattle.std.proofs.lemmas.Bool.{and_from, not-true, not_from_false}
 use Rattle.ae_core.specs.declared.terms.Term.{Term}
 use Rattle.ae_core.specs.declared.proofs.Relation.{Relation}
 use Rattle.ae_core.specs.declared.proofs.Relation.TheVariants.{Equal, AtMost, Below}
@@ -32,7 +34,7 @@ use Rattle.ae_numeric.specs.Inner.Sums.{meant, summed}
 use Rattle.ae_numeric.specs.Inner.Denials.{denies, Denies, IsDenied, denied_steps}
 use Rattle.ae_num.proofs.Checks.{StepChecks, states_no, states_like}
 use Rattle.ae_numeric.proofs.Meanings.{ratio_is_zero, no_parts_constant, part_occurs}
-use Rattle.ae_numeric.proofs.FitLaws.{Minus, minus_turned, one_sort, of_sort, sorted_of, and_true}
+use Rattle.ae_numeric.proofs.FitLaws.{Minus, minus_turned, one_sort, of_sort, sorted_of}
 
 -- ---- signs
 positive_ratio : (z : ℤ) (n : ℕ) → is_positive (frac z n) ≡ positive_z z
@@ -47,9 +49,6 @@ zero_ratio : (n : ℕ) → frac (pos 0) n ≡ zero_ℚ
 unfolding zero_ℚ
 zero_ratio n = frac_same (pos 0) (pos 0) n 0 (omega (arith, ints))
 
-zero_below : (n : ℕ) → nat_lt 0 (suc n) ≡ true
-zero_below n = grind (arith, nat_tests)
-
 none_below : (n : ℕ) → nat_lt (suc n) 0 ≡ false
 none_below n = grind (arith, nat_tests)
 
@@ -62,13 +61,6 @@ below_zero : (z : ℤ) → int_lt z (pos 0) ≡ positive_z (neg_ℤ z)
 below_zero (pos zero) = refl
 below_zero (pos (suc n)) = none_below n
 below_zero (negsuc n) = refl
-
-not_true : (b : Bool) → not b ≡ true → b ≡ false
-not_true false e = refl
-not_true true e = sym e
-
-not_of : (b : Bool) → b ≡ false → not b ≡ true
-not_of b e = ap not e
 
 zero_test : (z : ℤ) → not (int_eq z (pos 0)) ≡ true → z ≢ pos 0
 zero_test z e h = true≢false (sym (ap (λ z. not (int_eq z (pos 0))) (sym h) ∙ e))
@@ -89,7 +81,7 @@ number_test AtMost z (pos (suc n)) p =
     (λ e. is ∙ e, λ h. sym is ∙ h)
 number_test Below z (pos (suc n)) p =
     let is : is_positive (frac z n) ≡ int_lt (pos 0) z = positive_ratio z n ∙ sym (above_zero z) in
-    (λ e. is ∙ not_true (int_lt (pos 0) z) e, λ h. not_of (int_lt (pos 0) z) (sym is ∙ h))
+    (λ e. is ∙ not-true (int_lt (pos 0) z) e, λ h. not_from_false (int_lt (pos 0) z) (sym is ∙ h))
 
 -- ---- left minus right, and right minus left
 constant_turned : (s t : Linear) → IsNumber (minus s t) → IsNumber (minus t s)
@@ -131,7 +123,7 @@ known_parts : (sig : Signature) (s t : Term) → same_numeric (sort_of sig s) (s
 known_parts sig s t e =
     let o = one_sort (sort_of sig s) (sort_of sig t) e in
     let itself : same_numeric (sort_of sig s) (sort_of sig s) ≡ true = of_sort (sort_of sig s) (sort_of sig s) o.0 o.1 o.2 o.2 in
-    (and_true (and_true e itself) e, sorted_of sig s o.0 o.2, sorted_of sig t o.0 o.3, (o.0, o.1, (o.2, o.3)))
+    (and_from _ _ (and_from _ _ e itself) e, sorted_of sig s o.0 o.2, sorted_of sig t o.0 o.3, (o.0, o.1, (o.2, o.3)))
 
 module _ (sig : Signature) (f : Fact) where
   pub numbers_sorted : same_numeric (sort_of sig f.left) (sort_of sig f.right) ≡ true → record { left : IsSorted f.left; right : IsSorted f.right }

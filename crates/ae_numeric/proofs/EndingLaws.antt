@@ -1,11 +1,12 @@
 -- The endings that look at one difference.
-use Rattle.std.specs.Prelude.{ℕ, ◌≡◌, ◌&&◌, slice_get, Option, Some, None, Ok, Bool, true, false, cond, List, []}
+use Rattle.std.specs.Prelude.{ℕ, ◌≡◌, ◌&&◌, slice_get, Some, None, Ok, Bool, true, false, cond, List, []}
 use Rattle.std.proofs.Common.{refl, sym, ap, ◌∙◌, subst, true≢false}
 use Rattle.ae_math.specs.Fractions.{ℚ}
 use Rattle.ae_base.specs.Options.{◌>>=◌, when}
 use Rattle.ae_num.specs.Forms.{Step}
 use Rattle.ae_num.specs.declared.numbers.NumFail.{NumFail}
 use Rattle.std.specs.declared.result.Result.{Result}
+use Rattle.std.proofs.lemmas.Option.{none-some}
 use Rattle.ae_rules.specs.Lines.{Fact, equal, states, gap, Stated, AreNumbers}
 use Rattle.ae_rules.specs.Derivations.{CannotHold, EndsConst, EndsZero}
 use Rattle.ae_core.specs.declared.terms.Term.{Term}
@@ -133,11 +134,8 @@ module _ (sig : Signature) (lines : List EqLine) (k : ℕ) (l : EqLine) (at : sl
           ∙ ap (λ (c : Computation). cond (of_one_sort sig S S) ((c []).steps) []) (backward_of S.relation S.left S.right e)
 
 -- ---- where there is no such line
-none_fact : (f : Fact) → ◌≡◌ {A = Option Fact} None (Some f) → ⊥
-none_fact f e = cc
-
 not_stated : (lines : List EqLine) (k : ℕ) (f : Fact) → slice_get lines k ≡ None → Stated lines k f → ⊥
-not_stated lines k f at st = none_fact f (sym (ap (λ o. o >>= λ l. Some (states l)) at) ∙ st)
+not_stated lines k f at st = none-some f (sym (ap (λ o. o >>= λ l. Some (states l)) at) ∙ st)
 
 nothing_at : (sig : Signature) (lines : List EqLine) (kind : Fact → Bool) (k : ℕ) (steps : Fact → List Step) → slice_get lines k ≡ None → steps_of (numeric_fact sig lines kind k) steps ≡ []
 nothing_at sig lines kind k steps at = ap (λ o. steps_of ((o >>= λ l. Some (states l)) >>= λ f. when (kind f && of_one_sort sig f f) f) steps) at

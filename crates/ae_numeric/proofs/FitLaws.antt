@@ -1,9 +1,9 @@
 -- Which lines a sum may name, and what it states and means where they fit.
-use Rattle.std.specs.Prelude.{ℤ, Bool, true, false, cond, ◌&&◌, ◌||◌, ◌≡◌, ◌↔◌, List, [], ◌∷◌, map, slice_get, Option, Some, None, Ok}
+use Rattle.std.specs.Prelude.{ℤ, Bool, true, false, ◌&&◌, ◌||◌, ◌≡◌, ◌↔◌, List, [], ◌∷◌, map, slice_get, Option, Some, None, Ok}
 use Rattle.std.specs.List.{list_all, AllByRecursion}
 use Rattle.std.proofs.Common.{refl, sym, ap, ◌∙◌, subst, true≢false, inl, inr}
-use Rattle.std.proofs.lemmas.Bool.{and_parts}
-use Rattle.std.proofs.lemmas.Option.{same_Some}
+use Rattle.std.proofs.lemmas.Bool.{and_parts, and_from}
+use Rattle.std.proofs.lemmas.Option.{same_Some, none-some}
 use Rattle.ae_math.specs.Fractions.{ℚ, one_ℚ, neg_ℚ, ◌+ℚ◌, ◌*ℚ◌, whole}
 use Rattle.ae_math.specs.Forms.{plus, minus, scale}
 use Rattle.ae_math.proofs.FractionLaws.{field, mul_comm_q, mul_zero_q}
@@ -13,6 +13,9 @@ use Rattle.ae_core.specs.Decided.{Sort_discrete, Term_discrete}
 use Rattle.ae_rules.specs.Linear.{Linear, IsSame, form, factor_of}
 use Rattle.ae_core.specs.Sorts.{sort_of, same_numeric, is_numeric}
 use Rattle.ae_base.specs.Options.{known, ◌>>=◌, when}
+use Rattle.ae_base.proofs.Decided.{decided_yes, decided_of}
+use Rattle.ae_base.proofs.ListFacts.{list_all_weaker, list_all_both}
+use Rattle.ae_base.proofs.AllOf.{all_of_test}
 use Rattle.ae_rules.specs.Lines.{Fact, states, gap, total, Combined, IsNumeric, HaveSort}
 use Rattle.ae_core.specs.declared.terms.Sort.{Sort, Int, Real}
 use Rattle.ae_core.specs.declared.terms.Term.{Term}
@@ -30,14 +33,6 @@ use Rattle.ae_numeric.specs.Computing.{IsSorted}
 use Rattle.ae_numeric.specs.Inner.Sums.{may_join, summed, meant, meant_sum, facts_of, part_fits, sum_fits, IsSummand, IsSum}
 
 -- ---- numeric sorts
-decided_yes : {P : Type 0} (d : Dec P) → decided d ≡ true → P
-decided_yes (yes p) e = p
-decided_yes (no n) e = absurd (true≢false (sym e))
-
-decided_of : {P : Type 0} (d : Dec P) → P → decided d ≡ true
-decided_of (yes p) q = refl
-decided_of (no n) q = absurd (n q)
-
 numeric_is : (s : Sort) → is_numeric s ≡ true → IsNumeric s
 numeric_is s e = by_test (Sort_discrete s Int) e
   where
@@ -69,39 +64,14 @@ pub sorted_of : (sig : Signature) (t : Term) (s : Sort) → sort_of sig t ≡ So
 sorted_of sig t s e = (sig, ap known e)
 
 -- ---- lists of tests
-pub and_true : {a b : Bool} → a ≡ true → b ≡ true → a && b ≡ true
-and_true p q = λ i. p i && q i
-
-all_mono : {X : Type 0} (p q : X → Bool) (xs : List X) → ((x : X) → p x ≡ true → q x ≡ true) → list_all p xs ≡ true → list_all q xs ≡ true
-all_mono p q [] f e = refl
-all_mono p q (x ∷ xs) f e =
-    let h = and_parts (p x) (list_all p xs) e in
-    and_true (f x h.0) (all_mono p q xs f h.1)
-
-all_join : {X : Type 0} (p q s : X → Bool) (xs : List X) → ((x : X) → p x ≡ true → q x ≡ true → s x ≡ true) → list_all p xs ≡ true → list_all q xs ≡ true → list_all s xs ≡ true
-all_join p q s [] f e d = refl
-all_join p q s (x ∷ xs) f e d =
-    let h = and_parts (p x) (list_all p xs) e in
-    let k = and_parts (q x) (list_all q xs) d in
-    and_true (f x h.0 k.0) (all_join p q s xs f h.1 k.1)
-
-each_of : {X : Type 0} (p : X → Bool) (P : X → Type 0) (xs : List X) → ((x : X) → p x ≡ true → P x) → list_all p xs ≡ true → AllByRecursion P xs
-each_of p P [] f e = tt
-each_of p P (x ∷ xs) f e =
-    let h = and_parts (p x) (list_all p xs) e in
-    (f x h.0, each_of p P xs f h.1)
-
 all_of_each : {X : Type 0} (p : X → Bool) (P Q : X → Type 0) (xs : List X) → ((x : X) → P x → Q x → p x ≡ true) → AllByRecursion P xs → AllByRecursion Q xs → list_all p xs ≡ true
 all_of_each p P Q [] f a b = refl
-all_of_each p P Q (x ∷ xs) f a b = and_true (f x a.0 b.0) (all_of_each p P Q xs f a.1 b.1)
+all_of_each p P Q (x ∷ xs) f a b = and_from _ _ (f x a.0 b.0) (all_of_each p P Q xs f a.1 b.1)
 
 -- ---- what a part names
 pub stated_line : (o : Option EqLine) (f : Fact) → (o >>= λ l. Some (states l)) ≡ Some f → (l : EqLine) × (o ≡ Some l) × (states l ≡ f)
 stated_line (Some l) f e = (l, refl, same_Some (states l) f e)
-stated_line None f e = absurd (none_fact f e)
-  where
-    none_fact : (f : Fact) → ◌≡◌ {A = Option Fact} None (Some f) → ⊥
-    none_fact f e = cc
+stated_line None f e = absurd (none-some f e)
 
 facts_cons : (earlier : List EqLine) (p : Scaled) (ps : List Scaled) (l : EqLine) → slice_get earlier p.line ≡ Some l → facts_of earlier (p ∷ ps) ≡ (p.factor, states l) ∷ facts_of earlier ps
 facts_cons earlier p ps l e = ap (λ o. elim o [ Some l ↦ (p.factor, states l) ∷ facts_of earlier ps | None ↦ facts_of earlier ps ]) e
@@ -109,9 +79,6 @@ facts_cons earlier p ps l e = ap (λ o. elim o [ Some l ↦ (p.factor, states l)
 at_cons : (earlier : List EqLine) (p : Scaled) (ps : List Scaled) (l : EqLine) (fs : List (ℤ × Fact)) → slice_get earlier p.line ≡ Some l → facts_at earlier ps ≡ Some fs
     → facts_at earlier (p ∷ ps) ≡ Some ((p.factor, states l) ∷ fs)
 at_cons earlier p ps l fs e h = λ i. (e i >>= λ l. Some (p.factor, states l)) >>= λ x. h i >>= λ xs. Some (x ∷ xs)
-
-nothing_known : (fs : List (ℤ × Fact)) → ◌≡◌ {A = Option (List (ℤ × Fact))} None (Some fs) → ⊥
-nothing_known fs e = cc
 
 no_more : (f : ℤ × Fact) (fs : List (ℤ × Fact)) → ◌≡◌ {A = Option (List (ℤ × Fact))} (Some []) (Some (f ∷ fs)) → ⊥
 no_more f fs e = cc
@@ -125,8 +92,8 @@ at_combined earlier (p ∷ ps) fs e = by_parts (slice_get earlier p.line) (facts
         → ((o >>= λ l. Some (p.factor, states l)) >>= λ x. os >>= λ xs. Some (x ∷ xs)) ≡ Some fs → Combined earlier (p ∷ ps) fs
     by_parts (Some l) (Some gs) a b ih e =
         subst (Combined earlier (p ∷ ps)) (same_Some ((p.factor, states l) ∷ gs) fs e) (refl, ap (λ o. o >>= λ l. Some (states l)) a, ih gs b)
-    by_parts (Some l) None a b ih e = absurd (nothing_known fs e)
-    by_parts None os a b ih e = absurd (nothing_known fs e)
+    by_parts (Some l) None a b ih e = absurd (none-some fs e)
+    by_parts None os a b ih e = absurd (none-some fs e)
 
 pub combined_unique : (earlier : List EqLine) (ps : List Scaled) (fs : List (ℤ × Fact)) → Combined earlier ps fs → facts_of earlier ps ≡ fs
 combined_unique earlier [] [] c = refl
@@ -250,7 +217,7 @@ module _ (sig : Signature) (fact : Fact) (earlier : List EqLine) where
   parts_lines (p ∷ ps) e =
       let h = and_parts (PartFits p) (list_all PartFits ps) e in
       let l = part_line p h.0 in
-      subst (λ (fs : List (ℤ × Fact)). list_all (λ (f : ℤ × Fact). LineFits f.1) fs ≡ true) (sym (facts_cons earlier p ps l.0 l.1)) (and_true l.2 (parts_lines ps h.1))
+      subst (λ (fs : List (ℤ × Fact)). list_all (λ (f : ℤ × Fact). LineFits f.1) fs ≡ true) (sym (facts_cons earlier p ps l.0 l.1)) (and_from _ _ l.2 (parts_lines ps h.1))
 
   parts_combined : (ps : List Scaled) → list_all PartFits ps ≡ true → Combined earlier ps (facts_of earlier ps)
   parts_combined ps e = at_combined earlier ps (facts_of earlier ps) (parts_known ps e)
@@ -270,16 +237,16 @@ module _ (sig : Signature) (fact : Fact) (earlier : List EqLine) where
   combined_fits (p ∷ ps) (f ∷ fs) c e =
       let h = and_parts (LineFits f.1) (list_all (λ (f : ℤ × Fact). LineFits f.1) fs) e in
       let s = stated_line (slice_get earlier p.line) f.1 c.1 in
-      and_true (ap (λ o. elim o [ Some l ↦ LineFits (states l) | None ↦ false ]) s.1 ∙ ap LineFits s.2 ∙ h.0) (combined_fits ps fs c.2 h.1)
+      and_from _ _ (ap (λ o. elim o [ Some l ↦ LineFits (states l) | None ↦ false ]) s.1 ∙ ap LineFits s.2 ∙ h.0) (combined_fits ps fs c.2 h.1)
 
   -- the test that the stated steps make
   test_of : (fs : List (ℤ × Fact)) → same_numeric Own (sort_of sig fact.right) ≡ true → list_all (λ (f : ℤ × Fact). LineFits f.1) fs ≡ true → Test fs ≡ true
   test_of fs same e =
       let o = one_sort Own (sort_of sig fact.right) same in
       let itself : same_numeric Own Own ≡ true = of_sort Own Own o.0 o.1 o.2 o.2 in
-      and_true
-      (and_true (all_mono (λ (f : ℤ × Fact). LineFits f.1) (λ (f : ℤ × Fact). may_join fact.relation f.1) fs (λ f h. (line_parts f.1 h).0) e) (and_true (and_true same itself) same))
-      (all_mono (λ (f : ℤ × Fact). LineFits f.1) (λ (f : ℤ × Fact). of_one_sort sig fact f.1) fs (λ f h. and_true (and_true same (line_parts f.1 h).1) (line_parts f.1 h).2) e)
+      and_from _ _
+      (and_from _ _ (list_all_weaker (λ (f : ℤ × Fact). LineFits f.1) (λ (f : ℤ × Fact). may_join fact.relation f.1) (λ f h. (line_parts f.1 h).0) fs e) (and_from _ _ (and_from _ _ same itself) same))
+      (list_all_weaker (λ (f : ℤ × Fact). LineFits f.1) (λ (f : ℤ × Fact). of_one_sort sig fact f.1) (λ f h. and_from _ _ (and_from _ _ same (line_parts f.1 h).1) (line_parts f.1 h).2) fs e)
 
   test_parts : (fs : List (ℤ × Fact)) → Test fs ≡ true → (same_numeric Own (sort_of sig fact.right) ≡ true) × (list_all (λ (f : ℤ × Fact). LineFits f.1) fs ≡ true)
   test_parts fs e =
@@ -288,12 +255,12 @@ module _ (sig : Signature) (fact : Fact) (earlier : List EqLine) where
       let h = and_parts (list_all joins fs && of_one_sort sig fact fact) (list_all sorts fs) e in
       let k = and_parts (list_all joins fs) (of_one_sort sig fact fact) h.0 in
       let same = (and_parts (same_numeric Own (sort_of sig fact.right) && same_numeric Own Own) (same_numeric Own (sort_of sig fact.right)) k.1).1 in
-      (same, all_join joins sorts (λ (f : ℤ × Fact). LineFits f.1) fs (λ f a b. line_of f.1 a b) k.0 h.1)
+      (same, list_all_both joins sorts (λ (f : ℤ × Fact). LineFits f.1) (λ f a b. line_of f.1 a b) fs k.0 h.1)
     where
       line_of : (f : Fact) → may_join fact.relation f ≡ true → of_one_sort sig fact f ≡ true → LineFits f ≡ true
       line_of f a b =
           let h = and_parts (same_numeric Own (sort_of sig fact.right) && same_numeric Own (sort_of sig f.left)) (same_numeric Own (sort_of sig f.right)) b in
-          and_true (and_true a (and_parts (same_numeric Own (sort_of sig fact.right)) (same_numeric Own (sort_of sig f.left)) h.0).1) h.1
+          and_from _ _ (and_from _ _ a (and_parts (same_numeric Own (sort_of sig fact.right)) (same_numeric Own (sort_of sig f.left)) h.0).1) h.1
 
   module _ (ps : List Scaled) where
     fit_parts : sum_fits sig earlier fact ps ≡ true → (same_numeric Own (sort_of sig fact.right) ≡ true) × (list_all PartFits ps ≡ true)
@@ -303,7 +270,7 @@ module _ (sig : Signature) (fact : Fact) (earlier : List EqLine) where
     pub fit_sorted : sum_fits sig earlier fact ps ≡ true → record { left : IsSorted fact.left; right : IsSorted fact.right; parts : AllByRecursion (IsSummand earlier) ps }
     fit_sorted e =
         let o = one_sort Own (sort_of sig fact.right) (fit_parts e).0 in
-        record { left = sorted_of sig fact.left o.0 o.2; right = sorted_of sig fact.right o.0 o.3; parts = each_of PartFits (IsSummand earlier) ps summand_of (fit_parts e).1 }
+        record { left = sorted_of sig fact.left o.0 o.2; right = sorted_of sig fact.right o.0 o.3; parts = all_of_test PartFits (IsSummand earlier) summand_of ps (fit_parts e).1 }
 
     module _ (d : ℤ) where
       -- what is stated
@@ -321,7 +288,7 @@ module _ (sig : Signature) (fact : Fact) (earlier : List EqLine) where
           by_test : (fs : List (ℤ × Fact)) → facts_at earlier ps ≡ Some fs → (b : Bool) → Test fs ≡ b → steps_of (when b fs) Steps ≡ []
           by_test fs k true t =
               let h = test_parts fs t in
-              absurd (true≢false (sym (and_true h.0 (combined_fits ps fs (at_combined earlier ps fs k) h.1)) ∙ n))
+              absurd (true≢false (sym (and_from _ _ h.0 (combined_fits ps fs (at_combined earlier ps fs k) h.1)) ∙ n))
           by_test fs k false t = refl
 
           by_known : (o : Option (List (ℤ × Fact))) → facts_at earlier ps ≡ o → steps_of (o >>= λ fs. when (Test fs) fs) Steps ≡ []
@@ -332,10 +299,10 @@ module _ (sig : Signature) (fact : Fact) (earlier : List EqLine) where
       sum_fit : IsSum sig earlier fact d ps → sum_fits sig earlier fact ps ≡ true
       sum_fit (fs, combined, joins, sums) =
           let own : Own ≡ Some sums.sort = sums.sorted.0 in
-          and_true (of_sort Own (sort_of sig fact.right) sums.sort sums.numeric own sums.sorted.1)
+          and_from _ _ (of_sort Own (sort_of sig fact.right) sums.sort sums.numeric own sums.sorted.1)
           (combined_fits ps fs combined
           (all_of_each (λ (f : ℤ × Fact). LineFits f.1) (λ (f : ℤ × Fact). may_join fact.relation f.1 ≡ true) (λ (f : ℤ × Fact). HaveSort sig sums.sort f.1) fs
-          (λ f j h. and_true (and_true j (of_sort Own (sort_of sig (f.1).left) sums.sort sums.numeric own h.0)) (of_sort Own (sort_of sig (f.1).right) sums.sort sums.numeric own h.1)) joins sums.all_sorted))
+          (λ f j h. and_from _ _ (and_from _ _ j (of_sort Own (sort_of sig (f.1).left) sums.sort sums.numeric own h.0)) (of_sort Own (sort_of sig (f.1).right) sums.sort sums.numeric own h.1)) joins sums.all_sorted))
 
       fit_sum : sum_fits sig earlier fact ps ≡ true → IsSum sig earlier fact d ps ↔ IsSame (scale (whole d) (meant fact.relation fact.left fact.right)) (meant_sum fact.relation (facts_of earlier ps))
       fit_sum e =
@@ -346,12 +313,12 @@ module _ (sig : Signature) (fact : Fact) (earlier : List EqLine) where
             λ same. (
               facts_of earlier ps,
               parts_combined ps (fit_parts e).1,
-              each_of (λ (f : ℤ × Fact). LineFits f.1) (λ (f : ℤ × Fact). may_join r f.1 ≡ true) (facts_of earlier ps) (λ f h. (line_parts f.1 h).0) lines,
+              all_of_test (λ (f : ℤ × Fact). LineFits f.1) (λ (f : ℤ × Fact). may_join r f.1 ≡ true) (λ f h. (line_parts f.1 h).0) (facts_of earlier ps) lines,
               record {
                 sort = o.0;
                 numeric = o.1;
                 sorted = (o.2, o.3);
-                all_sorted = each_of (λ (f : ℤ × Fact). LineFits f.1) (λ (f : ℤ × Fact). HaveSort sig o.0 f.1) (facts_of earlier ps) (λ f h. sorts_of_line o.0 o.2 f.1 h) lines;
+                all_sorted = all_of_test (λ (f : ℤ × Fact). LineFits f.1) (λ (f : ℤ × Fact). HaveSort sig o.0 f.1) (λ f h. sorts_of_line o.0 o.2 f.1 h) (facts_of earlier ps) lines;
                 sums = (same_sums r d fact.left fact.right (facts_of earlier ps)).0 same;
               },
             ),

@@ -1,13 +1,14 @@
 -- Where terms stand among keys, and keys that were added behind others.
-use Rattle.std.specs.Prelude.{ℕ, zero, suc, ◌<◌, ◌≡◌, ◌≢◌, cond, false, List, [], ◌∷◌, ◌++◌, length, slice_get, get_or, Option, Some, None}
+use Rattle.std.specs.Prelude.{ℕ, zero, suc, ◌<◌, ◌≡◌, ◌≢◌, cond, List, [], ◌∷◌, ◌++◌, length, slice_get, get_or, Option, Some, None}
 use Rattle.std.specs.Option.{option_map}
-use Rattle.std.specs.declared.cmp.Ordering.{Ordering}
-use Rattle.std.specs.declared.cmp.Ordering.TheVariants.{Less, Equal, Greater}
 use Rattle.std.specs.Ordering.{is_eq}
 use Rattle.std.proofs.Common.{arith, refl, sym, ap, ◌∙◌, subst}
-use Rattle.std.proofs.lemmas.Option.{same_Some, get_or_from_slice_get, slice_get-get_or}
+use Rattle.std.proofs.lemmas.Option.{same_Some, get_or_from_slice_get, slice_get-get_or, none-some, slice_get_within}
 use Rattle.std.proofs.lemmas.List.Quantifiers.{all_pairs_push}
 use Rattle.ae_base.specs.Decided.{pick}
+use Rattle.ae_base.proofs.Decided.{pick_no}
+use Rattle.ae_base.proofs.Orders.{not_equal}
+use Rattle.ae_base.proofs.ListFacts.{get_before}
 use Rattle.ae_core.specs.Decided.{Term_discrete}
 use Rattle.ae_core.specs.Orders.{term_order}
 use Rattle.ae_core.proofs.OrderLaws.{term_exact}
@@ -17,19 +18,16 @@ use Rattle.ae_numeric.specs.Computing.{AreDistinct}
 use Rattle.ae_numeric.specs.Inner.Keyed.{place_in, IsIndex}
 use Rattle.ae_numeric.specs.Computing.{Keeps}
 
-none_some : {A B : Type 0} {x : A} → ◌≡◌ {A = Option A} None (Some x) → B
-none_some e = cc
-
 -- ---- a term that is there, and one that isn't
 abbrev IsThere : List Term → Term → ℕ → Type 0
 IsThere ks t n = (n ≡ place_of ks t) × (ks ≡ with_key ks t)
 
 pub place_found : (ks : List Term) (t : Term) (n : ℕ) → place_in ks t ≡ Some n → IsThere ks t n
-place_found [] t n e = none_some e
+place_found [] t n e = absurd (none-some n e)
 place_found (k ∷ ks) t n e = by_test (Term_discrete k t) (place_found ks t) e
   where
     by_rest : (o : Option ℕ) → ((m : ℕ) → o ≡ Some m → IsThere ks t m) → option_map suc o ≡ Some n → (n ≡ suc (place_of ks t)) × (k ∷ ks ≡ k ∷ with_key ks t)
-    by_rest None ih e = none_some e
+    by_rest None ih e = absurd (none-some n e)
     by_rest (Some m) ih e = let r = ih m refl in (sym (same_Some (suc m) n e) ∙ ap suc r.0, ap (λ u. k ∷ u) r.1)
 
     by_test : (d : Dec (k ≡ t)) → ((m : ℕ) → place_in ks t ≡ Some m → IsThere ks t m) → pick d (Some 0) (option_map suc (place_in ks t)) ≡ Some n
@@ -38,27 +36,18 @@ place_found (k ∷ ks) t n e = by_test (Term_discrete k t) (place_found ks t) e
     by_test (no m) ih e = by_rest (place_in ks t) ih e
 
 no_first : {P : Type 0} (d : Dec P) (o : Option ℕ) → pick d (Some 0) (option_map suc o) ≡ None → ¬ P × (o ≡ None)
-no_first (yes p) o e = none_some (sym e)
+no_first (yes p) o e = absurd (none-some zero (sym e))
 no_first (no n) None e = (n, refl)
-no_first (no n) (Some m) e = none_some (sym e)
-
-pick_other : {P A : Type 0} (d : Dec P) (x y : A) → ¬ P → pick d x y ≡ y
-pick_other (yes p) x y n = absurd (n p)
-pick_other (no m) x y n = refl
+no_first (no n) (Some m) e = absurd (none-some (suc m) (sym e))
 
 pub place_new : (ks : List Term) (t : Term) → place_in ks t ≡ None → (length ks ≡ place_of ks t) × (ks ++ t ∷ [] ≡ with_key ks t)
 place_new [] t e = (refl, refl)
 place_new (k ∷ ks) t e =
     let n = no_first (Term_discrete k t) (place_in ks t) e in
     let r = place_new ks t n.1 in
-    (ap suc r.0 ∙ sym (pick_other (Term_discrete k t) zero (suc (place_of ks t)) n.0), ap (λ u. k ∷ u) r.1 ∙ sym (pick_other (Term_discrete k t) (k ∷ ks) (k ∷ with_key ks t) n.0))
+    (ap suc r.0 ∙ sym (pick_no (Term_discrete k t) zero (suc (place_of ks t)) n.0), ap (λ u. k ∷ u) r.1 ∙ sym (pick_no (Term_discrete k t) (k ∷ ks) (k ∷ with_key ks t) n.0))
 
 -- ---- the index
-not_equal : (o : Ordering) → ¬ (o ≡ Equal) → is_eq o ≡ false
-not_equal Less n = refl
-not_equal Equal n = absurd (n refl)
-not_equal Greater n = refl
-
 same_test : {A : Type 0} (t s : Term) (x y : A) → cond (is_eq (term_order t s)) x y ≡ pick (Term_discrete t s) x y
 same_test t s x y = elim (Term_discrete t s) as (λ d. cond (is_eq (term_order t s)) x y ≡ pick d x y) [
   | yes e ↦ ap (λ o. cond (is_eq o) x y) ((term_exact t s).1 e)
@@ -75,7 +64,7 @@ at_end (k ∷ ks) t s h =
     let n = no_first (Term_discrete k t) (place_in ks t) h in
     let ih = at_end ks t s n.1 in
     elim (Term_discrete k s) as (λ d. pick d (Some 0) (option_map suc (place_in (ks ++ t ∷ []) s)) ≡ pick (Term_discrete t s) (Some (suc (length ks))) (pick d (Some 0) (option_map suc (place_in ks s)))) [
-      | yes e ↦ sym (pick_other (Term_discrete t s) (Some (suc (length ks))) (Some 0) (λ q. n.0 (e ∙ sym q)))
+      | yes e ↦ sym (pick_no (Term_discrete t s) (Some (suc (length ks))) (Some 0) (λ q. n.0 (e ∙ sym q)))
       | no d ↦ ap (option_map suc) ih ∙ shifted (Term_discrete t s) (length ks) (place_in ks s)
     ]
 
@@ -107,21 +96,11 @@ distinct_with ks t h = with_place AreDistinct ks t h (λ e. all_pairs_push (λ a
 pub keeps_same : (ks : List Term) → Keeps ks ks
 keeps_same ks k l = refl
 
-get_before : (ks ls : List Term) (k : ℕ) → k < length ks → slice_get (ks ++ ls) k ≡ slice_get ks k
-get_before [] ls k l = absurd (omega arith)
-get_before (x ∷ ks) ls zero l = refl
-get_before (x ∷ ks) ls (suc k) l = get_before ks ls k (omega arith)
-
 pub keeps_with : (ks : List Term) (t : Term) → Keeps ks (with_key ks t)
 keeps_with ks t = with_place (Keeps ks) ks t (keeps_same ks) (λ e k l. get_before ks (t ∷ []) k l)
 
-within_of : (ks : List Term) (k : ℕ) (x : Term) → slice_get ks k ≡ Some x → k < length ks
-within_of [] k x e = none_some e
-within_of (y ∷ ks) zero x e = omega arith
-within_of (y ∷ ks) (suc k) x e = let l = within_of ks k x e in omega arith
-
 pub keeps_within : (a b : List Term) (k : ℕ) → Keeps a b → k < length a → k < length b
-keeps_within a b k h l = let d : Term = first a k l in within_of b k (get_or a k d) (h k l ∙ slice_get-get_or a k d l)
+keeps_within a b k h l = let d : Term = first a k l in slice_get_within b k (get_or a k d) (h k l ∙ slice_get-get_or a k d l)
   where
     first : (a : List Term) (k : ℕ) → k < length a → Term
     first [] k l = absurd (omega arith)
@@ -142,12 +121,7 @@ place_at (k ∷ ks) t = elim (Term_discrete k t) as (λ d. slice_get (pick d (k 
 ]
 
 pub place_within : (ks : List Term) (t : Term) → place_of ks t < length (with_key ks t)
-place_within ks t = within_of (with_key ks t) (place_of ks t) t (place_at ks t)
+place_within ks t = slice_get_within (with_key ks t) (place_of ks t) t (place_at ks t)
 
 pub place_get : (ks : List Term) (t d : Term) → get_or (with_key ks t) (place_of ks t) d ≡ t
 place_get ks t d = get_or_from_slice_get (with_key ks t) (place_of ks t) t d (place_at ks t)
-
-pub same_default : (ts : List Term) (i : ℕ) (d e : Term) → i < length ts → get_or ts i d ≡ get_or ts i e
-same_default [] i d e l = absurd (omega arith)
-same_default (t ∷ ts) zero d e l = refl
-same_default (t ∷ ts) (suc i) d e l = same_default ts i d e (omega arith)

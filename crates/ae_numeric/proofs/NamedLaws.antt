@@ -3,6 +3,7 @@ use Rattle.std.specs.Prelude.{ℕ, ℤ, zero, suc, pos, negsuc, neg_ℤ, ◌<◌
 use Rattle.std.specs.List.{AllByRecursion, list_all}
 use Rattle.std.proofs.Common.{inl, inr, arith, refl, sym, ap, ◌∙◌, subst}
 use Rattle.std.proofs.lemmas.List.{map-append}
+use Rattle.std.proofs.lemmas.Bool.{and_parts}
 use native.Mathlib.Decide.{ℕ_discrete}
 use lib.IntN.{ℤ_discrete}
 use borrow.Author.Differences.{ints}
@@ -217,15 +218,11 @@ zero_is x e = by_test (ℚ_discrete x zero_ℚ) e
 pub is_zero_yes : (x : ℚ) → x ≡ zero_ℚ → is_zero x ≡ true
 is_zero_yes x e = pick_yes (ℚ_discrete x zero_ℚ) true false e
 
-parts_true : (a b : Bool) → a && b ≡ true → (a ≡ true) × (b ≡ true)
-parts_true true b h = (refl, h)
-parts_true false b h = cc
-
 module _ (m : Linear) where
   no_factor : (t : Term) (ps : List (Term × ℚ)) → list_all (λ p. is_zero (factor Term_discrete m p.0)) ps ≡ true → (factor_in Term_discrete ps t ≡ zero_ℚ) ⊎ (factor Term_discrete m t ≡ zero_ℚ)
   no_factor t [] h = inl refl
   no_factor t (p ∷ ps) h =
-      let b = parts_true (is_zero (factor Term_discrete m p.0)) (list_all (λ p. is_zero (factor Term_discrete m p.0)) ps) h in
+      let b = and_parts (is_zero (factor Term_discrete m p.0)) (list_all (λ p. is_zero (factor Term_discrete m p.0)) ps) h in
       let later = no_factor t ps b.1 in
       elim (Term_discrete p.0 t) as (λ d. (pick d (p.1 +ℚ factor_in Term_discrete ps t) (factor_in Term_discrete ps t) ≡ zero_ℚ) ⊎ (factor Term_discrete m t ≡ zero_ℚ)) [
         | yes e ↦ inr (ap (factor Term_discrete m) (sym e) ∙ zero_is (factor Term_discrete m p.0) b.0)

@@ -1,5 +1,5 @@
 -- What the normal forms of two gaps say of the gaps: common divisors of the factors, and quotients that are rounded down.
-use Rattle.std.specs.Prelude.{ℕ, zero, suc, ℤ, pos, negsuc, neg_ℤ, ◌≡◌, ◌≢◌, ◌<◌, ◌≤◌, ◌⊎◌, ◌*ℤ◌, ◌+ℤ◌, ◌<ℤ◌, ◌≤ℤ◌, cond, Bool, true, false, not, IsTrue, nat_eq, List, [], ◌∷◌, map, length, get_or, unsigned_abs}
+use Rattle.std.specs.Prelude.{ℕ, zero, suc, ℤ, pos, negsuc, neg_ℤ, ◌≡◌, ◌≢◌, ◌<◌, ◌≤◌, ◌*ℤ◌, ◌+ℤ◌, ◌<ℤ◌, ◌≤ℤ◌, cond, Bool, true, false, not, IsTrue, nat_eq, List, [], ◌∷◌, map, length, get_or, unsigned_abs}
 use Rattle.std.specs.List.{AllByRecursion}
 use Rattle.std.specs.Int.{◌∣◌}
 use Rattle.std.specs.Int.RustNames.{int_div}
@@ -24,7 +24,8 @@ use Rattle.ae_num.specs.declared.forms.Lin.{Lin}
 use Rattle.ae_num.specs.Forms.{factor_of, IsRising, IsNormal, DividesAll, IsCommonDivisor, AllAbove, sizes}
 use Rattle.ae_num.proofs.PairLaws.{absent, factor_head}
 use Rattle.ae_base.proofs.Tests.{nat_eq_below}
-use Rattle.std.proofs.lemmas.Bool.{eq-eqb, ne_eqb}
+use Rattle.ae_base.proofs.Integers.{size_zero, size_neg}
+use Rattle.std.proofs.lemmas.Bool.{eq-eqb, ne_eqb, cases_lt}
 use Rattle.ae_num.proofs.UniqueLaws.{all_divide, same_parts}
 use Rattle.ae_num.proofs.MeaningLaws.{ratio_zero, ratio_times, product_positive}
 use Rattle.ae_core.specs.Decided.{Term_discrete}
@@ -39,22 +40,13 @@ use Rattle.ae_rules.specs.Derivations.{HasNoSolution}
 use Rattle.ae_numeric.specs.Inner.Rounding.{IsRounded, lowered, IsQuotient, IsApart, factor_sizes, times_part}
 
 -- ---- numbers
-side : (m n : ℕ) → (m < n) ⊎ (n ≤ m)
-side m zero = inr (omega arith)
-side zero (suc n) = inl (omega arith)
-side (suc m) (suc n) = elim (side m n) [ inl h ↦ inl (omega arith) | inr h ↦ inr (omega arith) ]
-
-abs_zero : (z : ℤ) → unsigned_abs z ≡ 0 → z ≡ pos 0
-abs_zero (pos n) e = ap pos e
-abs_zero (negsuc n) e = absurd (omega arith)
-
 positive_one : (z : ℤ) → pos 0 <ℤ z → unsigned_abs z ≡ 1 → z ≡ pos 1
 positive_one (pos n) p e = ap pos e
 positive_one (negsuc n) p e = absurd (omega (arith, ints))
 
 -- a number whose size is a multiple is one
 multiple_of_size : (a : ℤ) (d : ℕ) → d ∣ unsigned_abs a → (z : ℤ) × (a ≡ z *ℤ pos d)
-multiple_of_size a zero h = (pos 0, abs_zero a (zero-dvd.0 h))
+multiple_of_size a zero h = (pos 0, size_zero a (zero-dvd.0 h))
 multiple_of_size a (suc d) h = (int_div a (pos (suc d)), sym (divided a (suc d) (omega arith) h))
 
 divides_multiple : (a z : ℤ) (d : ℕ) → a ≡ z *ℤ pos d → d ∣ unsigned_abs a
@@ -166,11 +158,6 @@ reading ks f m i = record {
   constant = sym i.means.constants;
 }
 
-abs_neg : (z : ℤ) → unsigned_abs (neg_ℤ z) ≡ unsigned_abs z
-abs_neg (pos zero) = refl
-abs_neg (pos (suc n)) = refl
-abs_neg (negsuc n) = refl
-
 turned : (a b : ℚ) → b +ℚ neg_ℚ one_ℚ *ℚ a ≡ neg_ℚ (a +ℚ neg_ℚ one_ℚ *ℚ b)
 turned a b = simp field
 
@@ -190,10 +177,10 @@ turned_reading ks f a b i =
       term = r.term;
       beyond = r.beyond;
       at = λ k. neg_ℤ (factor_of f.parts k);
-      size = λ k. abs_neg (factor_of f.parts k);
+      size = λ k. size_neg (factor_of f.parts k);
       factors = λ u. turned_factor a b u ∙ ap neg_ℚ (r.factors u) ∙ ratio_neg (factor_of f.parts (place_of ks u)) f.den;
       level = neg_ℤ f.constant;
-      level_size = abs_neg f.constant;
+      level_size = size_neg f.constant;
       constant = turned a.constant b.constant ∙ ap neg_ℚ r.constant ∙ ratio_neg f.constant f.den;
     }
 
@@ -215,7 +202,7 @@ den_one f n h c =
 module _ (f : Lin) (m : Linear) (n : IsNormal f) (r : Reading f m) where
   -- what divides each number of a term divides each factor
   by_terms : (d : ℕ) → ((u : Term) → d ∣ unsigned_abs (r.at (r.place u))) → (k : ℕ) → d ∣ unsigned_abs (factor_of f.parts k)
-  by_terms d h k = elim (side k r.bound) [ inl l ↦ inside l | inr l ↦ subst (λ z. d ∣ unsigned_abs z) (sym (r.beyond k l)) (dvd-zero d) ]
+  by_terms d h k = elim (cases_lt k r.bound) [ inl l ↦ inside l | inr l ↦ subst (λ z. d ∣ unsigned_abs z) (sym (r.beyond k l)) (dvd-zero d) ]
     where
       inside : k < r.bound → d ∣ unsigned_abs (factor_of f.parts k)
       inside l = let t = r.term k l in subst (λ s. d ∣ s) (r.size k) (subst (λ j. d ∣ unsigned_abs (r.at j)) t.1 (h t.0))
@@ -248,17 +235,17 @@ module _ (f : Lin) (m : Linear) (n : IsNormal f) (r : Reading f m) where
     pub occurs_there : f.parts ≢ [] → (u : Term) × (term_factor m u ≢ zero_ℚ)
     occurs_there h =
         let p = first_key f.parts n.nonzero h in
-        elim (side p.0 r.bound) [ inl l ↦ inside p.0 p.1 l | inr l ↦ absurd (p.1 (r.beyond p.0 l)) ]
+        elim (cases_lt p.0 r.bound) [ inl l ↦ inside p.0 p.1 l | inr l ↦ absurd (p.1 (r.beyond p.0 l)) ]
       where
         inside : (k : ℕ) → factor_of f.parts k ≢ pos 0 → k < r.bound → (u : Term) × (term_factor m u ≢ zero_ℚ)
         inside k ne l =
             let t = r.term k l in
-            (t.0, λ e. ne (abs_zero (factor_of f.parts k) (sym (r.size k) ∙ ap (λ j. unsigned_abs (r.at j)) (sym t.1) ∙ ap unsigned_abs (zero_frac (r.at (r.place t.0)) (sym (whole_factor t.0) ∙ e)))))
+            (t.0, λ e. ne (size_zero (factor_of f.parts k) (sym (r.size k) ∙ ap (λ j. unsigned_abs (r.at j)) (sym t.1) ∙ ap unsigned_abs (zero_frac (r.at (r.place t.0)) (sym (whole_factor t.0) ∙ e)))))
 
   pub occurs_here : (u : Term) → term_factor m u ≢ zero_ℚ → f.parts ≢ []
   occurs_here u ne e =
       let k = r.place u in
-      ne (r.factors u ∙ ap (λ z. ratio z f.den) (abs_zero (r.at k) (r.size k ∙ ap (λ (ps : List Part). unsigned_abs (factor_of ps k)) e)) ∙ ratio_zero f.den)
+      ne (r.factors u ∙ ap (λ z. ratio z f.den) (size_zero (r.at k) (r.size k ∙ ap (λ (ps : List Part). unsigned_abs (factor_of ps k)) e)) ∙ ratio_zero f.den)
 
   -- ---- an equation without a solution
   pub unsolvable_apart : HasNoSolution m → IsApart f
@@ -366,7 +353,7 @@ module _ (rel : Relation) (ks : List Term) (x y : Lin) (from to : Linear) (i : I
   -- what holds of the factors of each term holds of those of each key
   by_keys : (n : ℕ) → ((u : Term) → factor_of x.parts (place_of ks u) ≡ factor_of y.parts (place_of ks u) *ℤ pos n) → (k : ℕ) → factor_of x.parts k ≡ factor_of y.parts k *ℤ pos n
   by_keys n h k =
-      elim (side k (length ks)) [
+      elim (cases_lt k (length ks)) [
         | inl l ↦ subst (λ p. factor_of x.parts p ≡ factor_of y.parts p *ℤ pos n) (place_get ks k (Bound 0) l i.distinct) (h (get_or ks k (Bound 0)))
         | inr l ↦ no_key (length ks) x.parts k i.keys l ∙ sym (zero-*ℤ (pos n)) ∙ ap (λ z. z *ℤ pos n) (sym (no_key (length ks) y.parts k j.keys l))
       ]
@@ -444,7 +431,7 @@ positive_common f (negsuc m) n o c h = absurd (omega (arith, ints))
 positive_common f (pos (suc m)) n o c h = omega (arith, ints)
 positive_common f (pos zero) n o c h =
     let k = first_key f.parts n.nonzero o in
-    absurd (k.1 (abs_zero (factor_of f.parts k.0) (zero-dvd.0 (divides_key 0 f.parts c.0 k.0))))
+    absurd (k.1 (size_zero (factor_of f.parts k.0) (zero-dvd.0 (divides_key 0 f.parts c.0 k.0))))
 
 size_back : (g : ℤ) → pos 0 <ℤ g → pos (unsigned_abs g) ≡ g
 size_back (pos n) h = refl

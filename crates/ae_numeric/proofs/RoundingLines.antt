@@ -1,12 +1,13 @@
 -- Lines that round, and the ending by a common divisor: what they state, and when they are allowed.
-use Rattle.std.specs.Prelude.{ℕ, ◌≡◌, ◌≢◌, ◌⊎◌, Bool, true, false, cond, ◌&&◌, ◌<◌, List, [], length, get_or, Option, Some, None}
+use Rattle.std.specs.Prelude.{ℕ, ◌≡◌, ◌≢◌, ◌⊎◌, Bool, true, false, ◌&&◌, ◌<◌, List, [], length, get_or, Option, Some, None}
 use Rattle.std.proofs.Common.{refl, sym, ap, ◌∙◌, subst, inl, inr}
-use Rattle.std.proofs.lemmas.Option.{slice_get_read}
+use Rattle.std.proofs.lemmas.Option.{slice_get_read, same_Some}
 use Rattle.ae_num.specs.Forms.{Step}
-use Rattle.ae_base.specs.Decided.{decided}
 use Rattle.ae_core.specs.Decided.{Sort_discrete}
 use Rattle.ae_core.specs.Sorts.{sort_of, same_sort, same_numeric}
 use Rattle.ae_base.specs.Options.{known, only, when, ◌>>=◌}
+use Rattle.ae_base.proofs.Decided.{decided_yes, decided_of}
+use Rattle.ae_base.proofs.Tests.{false_true, three_parts}
 use Rattle.ae_core.proofs.SortFacts.{same_numeric_is}
 use Rattle.ae_rules.specs.Lines.{Fact, equal, at_most, states, HaveSort, Rounds, AllowedRound, gap}
 use Rattle.ae_rules.specs.Derivations.{EndsGcd, HasNoSolution}
@@ -23,27 +24,11 @@ use Rattle.ae_numeric.specs.Computing.{IsSorted}
 use Rattle.ae_numeric.specs.Inner.Rounding.{IsRounded}
 
 -- ---- sorts
-pub never : {A : Type 0} → false ≡ true → A
-never e = cc
-
-decided_yes : {P : Type 0} (d : Dec P) → decided d ≡ true → P
-decided_yes (yes p) e = p
-decided_yes (no n) e = never e
-
-decided_of : {P : Type 0} (d : Dec P) → P → decided d ≡ true
-decided_of (yes p) q = refl
-decided_of (no n) q = absurd (n q)
-
 pub is_int : (s : Sort) → same_sort s Int ≡ true → s ≡ Int
 is_int s e = decided_yes (Sort_discrete s Int) e
 
 pub of_int : (s : Sort) → s ≡ Int → same_sort s Int ≡ true
 of_int s e = decided_of (Sort_discrete s Int) e
-
-all_three : (a b c : Bool) → (a && b && c) ≡ true → (a ≡ true) × (b ≡ true) × (c ≡ true)
-all_three true true c e = (refl, refl, e)
-all_three true false c e = never e
-all_three false b c e = never e
 
 only_true : (b : Bool) (o : Option Sort) (s : Sort) → Some s ≡ only b o → (b ≡ true) × (o ≡ Some s)
 only_true true o s e = (refl, sym e)
@@ -73,7 +58,7 @@ module _ (l r f t s : Option Sort) (e : s ≡ only (same_numeric l r) l) where
           let first = ap (λ x. same_numeric x f) (sym same) ∙ p in
           let second = ap (λ x. same_numeric x t) (sym same) ∙ q in
           same ∙ (λ i. only (sym h i && sym first i && sym second i) l)
-      by_test false h = never (sym (ap (λ x. same_numeric x f) (e ∙ ap (λ b. only b l) h)) ∙ p)
+      by_test false h = false_true (sym (ap (λ x. same_numeric x f) (e ∙ ap (λ b. only b l) h)) ∙ p)
 
   pub shared_no : (same_numeric s f ≡ false) ⊎ (same_numeric s t ≡ false) → None ≡ only (same_numeric l r && same_numeric l f && same_numeric l t) l
   shared_no d = by_test (same_numeric l r) refl d
@@ -84,7 +69,7 @@ module _ (l r f t s : Option Sort) (e : s ≡ only (same_numeric l r) l) where
       third false b c e = refl
 
       second : (a b c : Bool) → b ≡ false → (a && b && c) ≡ false
-      second true true c e = never (sym e)
+      second true true c e = false_true (sym e)
       second true false c e = refl
       second false b c e = refl
 
@@ -100,9 +85,6 @@ module _ (l r f t s : Option Sort) (e : s ≡ only (same_numeric l r) l) where
 -- ---- facts
 pub fact_there : (lines : List EqLine) (k : ℕ) (l : EqLine) (f : Fact) → k < length lines → l ≡ get_or lines k l → states l ≡ f → fact_at lines k ≡ Some f
 fact_there lines k l f b e s = ap (λ o. o >>= λ l. Some (states l)) (slice_get_read lines (length lines) k l refl b e) ∙ ap Some s
-
-same_fact : (f g : Fact) → ◌≡◌ {A = Option Fact} (Some f) (Some g) → f ≡ g
-same_fact f g e = cc
 
 steps_there : (o : Option Fact) (f : Fact) (test : Fact → Bool) (steps : Fact → List Step) → o ≡ Some f → test f ≡ true → steps_of (o >>= λ f. when (test f) f) steps ≡ steps f
 steps_there o f test steps e t = ap (λ x. steps_of (x >>= λ f. when (test f) f) steps) e ∙ ap (λ b. steps_of (when b f) steps) t
@@ -121,17 +103,13 @@ inequality_test f n = by_relation f.relation n
 equation_test : (f : Fact) → f.relation ≡ Equal → is_equation f ≡ true
 equation_test f e = ap (λ r. elim r as (λ x. Bool) [ Equal ↦ true | AtMost ↦ false | Below ↦ false ]) e
 
--- no fact has an empty answer
-none_some : {A B : Type 0} {x : A} → ◌≡◌ {A = Option A} None (Some x) → B
-none_some e = cc
-
 -- ---- a line that rounds
 pub all_sorted : (sig : Signature) (s t p q : Term) (x : Sort) → Some x ≡ only (of_one_sort sig (at_most s t) (at_most p q)) (sort_of sig s)
     → (sort_of sig s ≡ Some x) × (sort_of sig t ≡ Some x) × (sort_of sig p ≡ Some x) × (sort_of sig q ≡ Some x) × (of_one_sort sig (at_most s t) (at_most p q) ≡ true)
 all_sorted sig s t p q x e =
     let own = sort_of sig s in
     let o = only_true (of_one_sort sig (at_most s t) (at_most p q)) own x e in
-    let each = all_three (same_numeric own (sort_of sig t)) (same_numeric own (sort_of sig p)) (same_numeric own (sort_of sig q)) o.0 in (
+    let each = three_parts (same_numeric own (sort_of sig t)) (same_numeric own (sort_of sig p)) (same_numeric own (sort_of sig q)) o.0 in (
       o.1,
       sym (same_numeric_is own (sort_of sig t) each.0) ∙ o.1,
       sym (same_numeric_is own (sort_of sig p) each.1) ∙ o.1,
@@ -159,7 +137,7 @@ module _ (sig : Signature) (lines : List EqLine) (s t : Term) (k : ℕ) (f : Fac
       (let i = inequality_test f n in λ j. sym (sym i) j && sym (sym e) j)
 
   stated_rounds : AllowedRound sig lines s t k → Rounds sig f s t
-  stated_rounds a = subst (λ g. Rounds sig g s t) (same_fact a.0 f (sym a.1 ∙ there)) a.2
+  stated_rounds a = subst (λ g. Rounds sig g s t) (same_Some a.0 f (sym a.1 ∙ there)) a.2
 
   pub allowed_rounded : AllowedRound sig lines s t k → IsRounded f.relation (gap f) (gap (at_most s t))
   allowed_rounded a =
@@ -178,10 +156,7 @@ module _ (sig : Signature) (lines : List EqLine) (s t : Term) (k : ℕ) (f : Fac
       }
 
   pub allowed_int : (x : Sort) → AllowedRound sig lines s t k → sort_of sig s ≡ Some x → x ≡ Int
-  allowed_int x a e = same_some x Int (sym e ∙ (stated_rounds a).sorted.1.0)
-    where
-      same_some : (x y : Sort) → ◌≡◌ {A = Option Sort} (Some x) (Some y) → x ≡ y
-      same_some x y e = cc
+  allowed_int x a e = same_Some x Int (sym e ∙ (stated_rounds a).sorted.1.0)
 
   pub rounded_allowed : f.relation ≢ Equal → HaveSort sig Int f × HaveSort sig Int (at_most s t) → IsRounded f.relation (gap f) (gap (at_most s t)) → AllowedRound sig lines s t k
   rounded_allowed n h r = (
@@ -230,14 +205,11 @@ module _ (sig : Signature) (lines : List EqLine) (s t : Term) (k : ℕ) (there :
 
   pub ends_unsolvable : EndsGcd sig lines k → HasNoSolution (gap (equal s t))
   ends_unsolvable a =
-      subst (λ f. HasNoSolution (gap f)) (same_fact (equal a.0 a.1) (equal s t) (sym a.2 ∙ there))
+      subst (λ f. HasNoSolution (gap f)) (same_Some (equal a.0 a.1) (equal s t) (sym a.2 ∙ there))
       a.4
 
   pub ends_int : (x : Sort) → EndsGcd sig lines k → sort_of sig s ≡ Some x → x ≡ Int
-  ends_int x a e = same_some x Int (sym e ∙ (subst (HaveSort sig Int) (same_fact (equal a.0 a.1) (equal s t) (sym a.2 ∙ there)) a.3).0)
-    where
-      same_some : (x y : Sort) → ◌≡◌ {A = Option Sort} (Some x) (Some y) → x ≡ y
-      same_some x y e = cc
+  ends_int x a e = same_Some x Int (sym e ∙ (subst (HaveSort sig Int) (same_Some (equal a.0 a.1) (equal s t) (sym a.2 ∙ there)) a.3).0)
 
   pub unsolvable_ends : HaveSort sig Int (equal s t) → HasNoSolution (gap (equal s t)) → EndsGcd sig lines k
   unsolvable_ends h u = (s, t, there, h, u)

@@ -4,11 +4,12 @@ use Rattle.std.specs.List.{AllByRecursion, list_all}
 use Rattle.std.specs.Ordering.{int_eq}
 use Rattle.std.proofs.Common.{arith, refl, sym, ap, ◌∙◌, subst}
 use Rattle.std.proofs.lemmas.Bool.Decides.{nat_tests, Decides-int_eq, Decides-ltb}
+use Rattle.std.proofs.lemmas.Bool.{eqb-true}
 use Rattle.ae_math.specs.Inner.Integers.{ring}
 use borrow.Author.Differences.{ints}
 use lib.IntN.{*ℤ_comm}
 use Rattle.ae_base.proofs.Decided.{pick_no}
-use Rattle.ae_math.specs.Fractions.{ℚ, zero_ℚ, one_ℚ, neg_ℚ, ratio, inverse_ℚ, ℚ_discrete}
+use Rattle.ae_math.specs.Fractions.{ℚ, zero_ℚ, one_ℚ, ratio, inverse_ℚ, ℚ_discrete}
 use Rattle.ae_math.proofs.FractionLaws.{cancel_q, times_inverse, frac_same}
 use Rattle.ae_num.proofs.MeaningLaws.{ratio_times, ratio_zero, product_positive}
 use Rattle.ae_num.proofs.ReductionLaws.{read_back}
@@ -18,10 +19,11 @@ use Rattle.ae_num.proofs.LowestLaws.{number_normal, number_value}
 use Rattle.ae_numeric.proofs.NamedLaws.{minus_ratio, one_ratio, ratio_none, is_zero_yes}
 use Rattle.ae_math.specs.Forms.{single, scale, is_zero}
 use Rattle.ae_rules.specs.Linear as linear
-use Rattle.ae_rules.specs.Linear.{Linear, form, times, over}
+use Rattle.ae_rules.specs.Linear.{Linear, form, over}
 use Rattle.ae_core.specs.Sorts.{sort_of, is_closed_sort, head_sort, numeral_ok, within}
 use Rattle.ae_base.specs.Options.{known}
 use Rattle.ae_base.specs.Options.{only, when, all_known, ◌>>=◌}
+use Rattle.ae_base.proofs.Integers.{positive_is}
 use Rattle.ae_core.proofs.SortLaws.{sort_in_num, sort_in_apply}
 use Rattle.ae_rules.proofs.LinearLaws.{form-Apply}
 use Rattle.ae_core.specs.declared.terms.Sort.{Sort, Int, Real}
@@ -36,7 +38,7 @@ use Rattle.ae_core.specs.declared.terms.Term.TheVariants.{rolls-Apply, rolls-Bou
 use Rattle.ae_numeric.specs.Stated as table
 use Rattle.ae_numeric.specs.Stated.{Computation, computed, computed_step, applied, opaque, known as known_form, numeral, scaled, divided_by, inverse_top, inverse_bottom}
 use Rattle.ae_numeric.specs.Computing.{IsSorted}
-use Rattle.ae_numeric.specs.Inner.Rules.{at, joined, joined_forms, ruled, ruled_form, Fits, pair_rule, operation_rule, divisor_rule, quotient_rule, rule_of}
+use Rattle.ae_numeric.specs.Inner.Rules.{at, ruled, ruled_form, Fits, pair_rule, operation_rule, divisor_rule, quotient_rule, rule_of}
 use Rattle.ae_numeric.specs.declared.forms.Rule.{Rule}
 use Rattle.ae_numeric.specs.declared.forms.Rule.TheVariants.{Opaque, Scale, Pair}
 use Rattle.ae_numeric.specs.declared.forms.Operation.{Operation}
@@ -181,11 +183,6 @@ within_means z h = below (unsigned_abs z) (2 ^ 127) h
     below : (m n : ℕ) → nat_lt m n ≡ true → m < n
     below m n h = grind (arith, nat_tests)
 
-positive_means : (z : ℤ) → int_lt (pos 0) z ≡ true → pos 0 <ℤ z
-positive_means (pos zero) h = cc
-positive_means (pos (suc n)) h = omega (arith, ints)
-positive_means (negsuc n) h = cc
-
 -- what holds of the numbers of a numeral
 pub record AreNumbers (top bottom : ℤ) : Type 0 where
   pub top_within : unsigned_abs top < 2 ^ 127
@@ -202,7 +199,7 @@ pub numbers_sorted : (top bottom : ℤ) (real : Bool) → IsSorted (Num top bott
 numbers_sorted a b r (sig, e) =
     let ok : numeral_ok a b r ≡ true = by_test (numeral_ok a b r) (cond r Real Int) (ap known (sym (sort_in_num sig (is_closed_sort sig) [] a b r)) ∙ e) in
     let parts = four_true (within a) (within b) (int_lt (pos 0) b) (r || not (int_lt (pos 1) b)) ok in
-    record { top_within = within_means a parts.0; bottom_within = within_means b parts.1; positive = positive_means b parts.2 }
+    record { top_within = within_means a parts.0; bottom_within = within_means b parts.1; positive = positive_is b parts.2 }
   where
     by_test : (t : Bool) (s : Sort) → known (when t s) ≡ true → t ≡ true
     by_test true s h = refl
@@ -304,14 +301,11 @@ divisor_fits (Num c d r) n l h = by_test (int_eq c (pos 0)) refl
     by_test false e = (l, size_positive (numeral c d).constant (λ z. int_ne c (pos 0) e (numeral_none c d (numbers_sorted c d r h) z)))
 divisor_fits _ n l h = tt
 
-test_means : (m n : ℕ) → nat_eq m n ≡ true → m ≡ n
-test_means m n h = grind (arith, nat_tests)
-
 pair_fits : (o : Operation) (n : ℕ) → Fits (pair_rule o n) n
 pair_fits o n = by_test (nat_eq n 2) refl
   where
     by_test : (b : Bool) → nat_eq n 2 ≡ b → Fits (cond b (Pair o) Opaque) n
-    by_test true e = test_means n 2 e
+    by_test true e = eqb-true n 2 e
     by_test false e = tt
 
 operation_fits : (o : Op) (n : ℕ) → Fits (operation_rule o n) n
@@ -320,7 +314,7 @@ operation_fits op.Sub n = pair_fits Difference n
 operation_fits op.Neg n = by_test (nat_eq n 1) refl
   where
     by_test : (b : Bool) → nat_eq n 1 ≡ b → Fits (cond b (Scale (neg_ℤ (pos 1)) (pos 1)) Opaque) n
-    by_test true e = (let q = test_means n 1 e in omega arith, omega (arith, ints))
+    by_test true e = (let q = eqb-true n 1 e in omega arith, omega (arith, ints))
     by_test false e = tt
 operation_fits op.Mul n = pair_fits Product n
 operation_fits op.Div n = tt
@@ -330,7 +324,7 @@ quotient_fits : (ts : List Term) → AllByRecursion IsSorted ts → Fits (quotie
 quotient_fits ts h = by_test (nat_eq (length ts) 2) refl
   where
     by_test : (b : Bool) → nat_eq (length ts) 2 ≡ b → Fits (cond b (divisor_rule (at ts 1)) Opaque) (length ts)
-    by_test true e = let q = test_means (length ts) 2 e in divisor_fits (at ts 1) (length ts) (omega (arith, q)) (two_sorted ts h q)
+    by_test true e = let q = eqb-true (length ts) 2 e in divisor_fits (at ts 1) (length ts) (omega (arith, q)) (two_sorted ts h q)
     by_test false e = tt
 
 pub rule_fits : (h : Head) (ts : List Term) → AllByRecursion IsSorted ts → Fits (rule_of h ts) (length ts)

@@ -3,7 +3,7 @@ use Rattle.std.specs.Prelude.{ℕ, zero, suc, ◌+◌, ℤ, pos, Bool, IsTrue, �
 use Rattle.std.specs.List.{AllByRecursion}
 use Rattle.std.proofs.Common.{arith, refl, sym, ap, ◌∙◌, subst, inl, inr}
 use Rattle.std.proofs.lemmas.List.{take_more, take-append-drop}
-use Rattle.std.proofs.lemmas.Option.{slice_get-get_or, slice_get_past, same_Some}
+use Rattle.std.proofs.lemmas.Option.{slice_get-get_or, slice_get_past, same_Some, none-some}
 use Rattle.std.proofs.lemmas.Bool.{cases_lt}
 use Rattle.ae_math.specs.Fractions.{zero_ℚ, whole}
 use Rattle.ae_math.specs.Forms.{plus, scale, number}
@@ -50,9 +50,6 @@ facts_split : (earlier : List EqLine) (ps : List Scaled) (i : ℕ) → facts_of 
 facts_split earlier ps i = ap (facts_of earlier) (sym (take-append-drop i ps)) ∙ facts_append earlier (take i ps) (drop i ps)
 
 -- ---- the line that a part names
-some_none : (l : EqLine) → ◌≡◌ None (Some l) → ⊥
-some_none l e = cc
-
 pub summand_at : (earlier : List EqLine) (ps : List Scaled) (i : ℕ) (d : Scaled) → i < length ps → AllByRecursion (IsSummand earlier) ps → IsSummand earlier (get_or ps i d)
 summand_at earlier [] i d b a = absurd (omega (arith, b))
 summand_at earlier (p ∷ ps) zero d b a = a.0
@@ -63,7 +60,7 @@ summand_within earlier p (l, e, a, b) = by_order (cases_lt p.line (length earlie
   where
     by_order : (p.line < length earlier) ⊎ (length earlier ≤ p.line) → p.line < length earlier
     by_order (inl h) = h
-    by_order (inr h) = absurd (some_none l (sym (slice_get_past earlier p.line h) ∙ e))
+    by_order (inr h) = absurd (none-some l (sym (slice_get_past earlier p.line h) ∙ e))
 
 pub summand_line : (earlier : List EqLine) (p : Scaled) (l : EqLine) → IsSummand earlier p → l ≡ get_or earlier p.line l → slice_get earlier p.line ≡ Some l
 summand_line earlier p l s e = slice_get-get_or earlier p.line l (summand_within earlier p s) ∙ ap Some (sym e)

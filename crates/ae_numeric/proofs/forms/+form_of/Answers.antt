@@ -13,7 +13,9 @@ use Rattle.ae_num.specs.declared.forms.Lin.{Lin}
 use Rattle.ae_num.specs.declared.numbers.Wide.{Wide}
 use Rattle.ae_num.specs.Forms.{first_wide, IfWide, multiple_of, scale_steps, IsNormal, meaning, SameMeaning, lowest}
 use Rattle.ae_num.proofs.StepLaws.{same_err}
-use Rattle.std.proofs.lemmas.Result.{IfOk-weaker}
+use Rattle.std.proofs.lemmas.Result.{IfOk-weaker, IfErr-weaker, on_ok_weaker}
+use Rattle.std.proofs.lemmas.List.{get_or_default}
+use Rattle.ae_base.proofs.Results.{if_ok_on}
 use Rattle.ae_rules.specs.Linear.{Linear, form}
 use Rattle.ae_rules.proofs.LinearLaws.{form-Bound, form-Num, form-Fresh}
 use Rattle.ae_numeric.specs.Stated.{Computation, computed, opaque, known, scaled}
@@ -22,9 +24,9 @@ use Rattle.ae_numeric.specs.Computing.{Keeps}
 use Rattle.ae_numeric.specs.Inner.Rules.{at, joined, joined_forms, ruled, ruled_form, Fits, AreResults, IsWideInBoth, rule_of}
 use Rattle.ae_numeric.specs.declared.forms.Rule.{Rule}
 use Rattle.ae_numeric.specs.declared.forms.Rule.TheVariants.{Scale, Pair}
-use Rattle.ae_numeric.proofs.KeyedLaws.{keeps_then, same_default}
+use Rattle.ae_numeric.proofs.KeyedLaws.{keeps_then}
 use Rattle.ae_numeric.proofs.NamedLaws.{kept_form, multiple_is_form, number_is_form}
-use Rattle.ae_numeric.proofs.ComputedLaws.{if_three, if_ok_err, both_results, first_part_wide, second_part_wide, joined_result, joined_wide, parts_wide, only_ok, multiple_result, multiple_wide, multiple_part_wide, on_ok}
+use Rattle.ae_numeric.proofs.ComputedLaws.{if_three, both_results, first_part_wide, second_part_wide, joined_result, joined_wide, parts_wide, multiple_result, multiple_wide, multiple_part_wide}
 use Rattle.ae_numeric.proofs.RuleLaws.{by_computed, by_form, by_args, by_fits, first_sorted, numbers_read, computed-Bound, computed-Num, computed-Fresh}
 use Rattle.ae_numeric.proofs.forms.+form_of.Goals as goal
 
@@ -32,7 +34,7 @@ pub both_forms-returns-in_err-left-clause-wide : goal.both_forms-returns-in_err-
 both_forms-returns-in_err-left-clause-wide t c =
     let us = c.args.args.now in
     let before = c.args.keys.now in
-    let e : c.index-args-0.result ≡ at us 0 = c.index-args-0.is ∙ same_default us 0 c.index-args-0.result (Bound 0) (omega (arith, c.requires.two)) in
+    let e : c.index-args-0.result ≡ at us 0 = c.index-args-0.is ∙ get_or_default us 0 c.index-args-0.result (Bound 0) (omega (arith, c.requires.two)) in
     let wide : IsWideIn (computed (at us 0)) before c.in_err-left.field-0.0 = subst (λ u. IsWideIn (computed u) before c.in_err-left.field-0.0) e c.in_err-left.ensures.wide in
     same_err c.from_residual.result c.in_err-left.field-0.0 (λ (w : Wide). first_wide (computed (at us 0) before).steps ≡ Some w)
     (λ (w : Wide). first_wide ((computed (at us 0) before).steps ++ (computed (at us 1) (computed (at us 0) before).keys).steps) ≡ Some w) c.from_residual.ensures.1
@@ -42,8 +44,8 @@ pub both_forms-returns-in_err-right-clause-wide : goal.both_forms-returns-in_err
 both_forms-returns-in_err-right-clause-wide t c =
     let us = c.args.args.now in
     let before = c.args.keys.now in
-    let e : c.index-args-0.result ≡ at us 0 = c.index-args-0.is ∙ same_default us 0 c.index-args-0.result (Bound 0) (omega (arith, c.requires.two)) in
-    let e1 : c.index-args-1.result ≡ at us 1 = c.index-args-1.is ∙ same_default us 1 c.index-args-1.result (Bound 0) (omega (arith, c.requires.two)) in
+    let e : c.index-args-0.result ≡ at us 0 = c.index-args-0.is ∙ get_or_default us 0 c.index-args-0.result (Bound 0) (omega (arith, c.requires.two)) in
+    let e1 : c.index-args-1.result ≡ at us 1 = c.index-args-1.is ∙ get_or_default us 1 c.index-args-1.result (Bound 0) (omega (arith, c.requires.two)) in
     let mid = c.form_of.new.keys in
     let x = c.in_ok-left.left in
     let p : IsResult (computed (at us 0)) before mid x = subst (λ u. IsResult (computed u) before mid x) e c.in_ok-left.ensures.result in
@@ -56,8 +58,8 @@ pub both_forms-returns-clause-result : goal.both_forms-returns-clause-result
 both_forms-returns-clause-result t c =
     let us = c.args.args.now in
     let before = c.args.keys.now in
-    let e : c.index-args-0.result ≡ at us 0 = c.index-args-0.is ∙ same_default us 0 c.index-args-0.result (Bound 0) (omega (arith, c.requires.two)) in
-    let e1 : c.index-args-1.result ≡ at us 1 = c.index-args-1.is ∙ same_default us 1 c.index-args-1.result (Bound 0) (omega (arith, c.requires.two)) in
+    let e : c.index-args-0.result ≡ at us 0 = c.index-args-0.is ∙ get_or_default us 0 c.index-args-0.result (Bound 0) (omega (arith, c.requires.two)) in
+    let e1 : c.index-args-1.result ≡ at us 1 = c.index-args-1.is ∙ get_or_default us 1 c.index-args-1.result (Bound 0) (omega (arith, c.requires.two)) in
     let mid = c.form_of.new.keys in
     let x = c.in_ok-left.left in
     let p : IsResult (computed (at us 0)) before mid x = subst (λ u. IsResult (computed u) before mid x) e c.in_ok-left.ensures.result in
@@ -67,7 +69,7 @@ both_forms-returns-clause-result t c =
 pub both_forms-returns-clause-left : goal.both_forms-returns-clause-left
 both_forms-returns-clause-left t c =
     let us = c.args.args.now in
-    let e : c.index-args-0.result ≡ at us 0 = c.index-args-0.is ∙ same_default us 0 c.index-args-0.result (Bound 0) (omega (arith, c.requires.two)) in
+    let e : c.index-args-0.result ≡ at us 0 = c.index-args-0.is ∙ get_or_default us 0 c.index-args-0.result (Bound 0) (omega (arith, c.requires.two)) in
     let mid = c.form_of.new.keys in
     let x = c.in_ok-left.left in
     let m : IsFormOf mid x (form (at us 0)) = subst (λ u. IsFormOf mid x (form u)) e c.in_ok-left.ensures.meaning in
@@ -104,7 +106,7 @@ form_of-form_of-requires t c =
     let bottom = c.in-Scale.bottom in
     let is : c.rule_of.result ≡ Scale top bottom = c.in-Scale.is in
     let some : 0 < length us = (subst (λ (r : Rule). Fits r (length us)) is (by_fits c.args.term.now c.in-Apply.head c.in-Apply.sorts c.in-Apply.args us c.rule_of.result c.in-Apply.is view c.rule_of.ensures c.requires.sorted)).0 in
-    let e : c.index-as_slice-0.result ≡ at us 0 = c.index-as_slice-0.is ∙ ap (λ ts. get_or ts 0 c.index-as_slice-0.result) two ∙ same_default us 0 c.index-as_slice-0.result (Bound 0) some in
+    let e : c.index-as_slice-0.result ≡ at us 0 = c.index-as_slice-0.is ∙ ap (λ ts. get_or ts 0 c.index-as_slice-0.result) two ∙ get_or_default us 0 c.index-as_slice-0.result (Bound 0) some in
     let fits : Fits (Scale top bottom) (length us) = subst (λ (r : Rule). Fits r (length us)) is (by_fits c.args.term.now c.in-Apply.head c.in-Apply.sorts c.in-Apply.args us c.rule_of.result c.in-Apply.is view c.rule_of.ensures c.requires.sorted) in
     let s : IsSorted c.index-as_slice-0.result = subst IsSorted (sym e) (first_sorted us (by_args c.args.term.now c.in-Apply.head c.in-Apply.sorts c.in-Apply.args us c.rule_of.result c.in-Apply.is view c.rule_of.ensures c.requires.sorted) fits.0) in
     (subst (λ k. 2 * size-Term c.index-as_slice-0.result + 0 < k) c.decreases (first_falls c.args.term.now c.in-Apply.head c.in-Apply.sorts c.in-Apply.args us c.index-as_slice-0.result (Bound 0) c.in-Apply.is view some e), (s, c.requires.keys))
@@ -118,7 +120,7 @@ form_of-returns-in_err-of-in-Scale-clause-wide t c =
     let bottom = c.in-Scale.bottom in
     let is : c.rule_of.result ≡ Scale top bottom = c.in-Scale.is in
     let some : 0 < length us = (subst (λ (r : Rule). Fits r (length us)) is (by_fits c.args.term.now c.in-Apply.head c.in-Apply.sorts c.in-Apply.args us c.rule_of.result c.in-Apply.is view c.rule_of.ensures c.requires.sorted)).0 in
-    let e : c.index-as_slice-0.result ≡ at us 0 = c.index-as_slice-0.is ∙ ap (λ ts. get_or ts 0 c.index-as_slice-0.result) two ∙ same_default us 0 c.index-as_slice-0.result (Bound 0) some in
+    let e : c.index-as_slice-0.result ≡ at us 0 = c.index-as_slice-0.is ∙ ap (λ ts. get_or ts 0 c.index-as_slice-0.result) two ∙ get_or_default us 0 c.index-as_slice-0.result (Bound 0) some in
     let law : computed c.args.term.now ≡ scaled top bottom (computed (at us 0)) = by_computed c.args.term.now c.in-Apply.head c.in-Apply.sorts c.in-Apply.args us c.rule_of.result c.in-Apply.is view c.rule_of.ensures ∙ ap (λ (r : Rule). ruled computed r c.args.term.now us) is in
     let before = c.args.keys.now in
     let wide : IsWideIn (computed (at us 0)) before c.in_err-of-in-Scale.field-0.0 = subst (λ u. IsWideIn (computed u) before c.in_err-of-in-Scale.field-0.0) e c.in_err-of-in-Scale.ensures.wide in
@@ -225,7 +227,7 @@ form_of-returns-in_ok-of-in-Scale-clause-result t c =
     let bottom = c.in-Scale.bottom in
     let is : c.rule_of.result ≡ Scale top bottom = c.in-Scale.is in
     let some : 0 < length us = (subst (λ (r : Rule). Fits r (length us)) is (by_fits c.args.term.now c.in-Apply.head c.in-Apply.sorts c.in-Apply.args us c.rule_of.result c.in-Apply.is view c.rule_of.ensures c.requires.sorted)).0 in
-    let e : c.index-as_slice-0.result ≡ at us 0 = c.index-as_slice-0.is ∙ ap (λ ts. get_or ts 0 c.index-as_slice-0.result) two ∙ same_default us 0 c.index-as_slice-0.result (Bound 0) some in
+    let e : c.index-as_slice-0.result ≡ at us 0 = c.index-as_slice-0.is ∙ ap (λ ts. get_or ts 0 c.index-as_slice-0.result) two ∙ get_or_default us 0 c.index-as_slice-0.result (Bound 0) some in
     let a : to_z w128 (of_z w128 top) ≡ top = to_z-of_z w128 top (search rules) in
     let b : to_z w128 (of_z w128 bottom) ≡ bottom = to_z-of_z w128 bottom (search rules) in
     let top' = to_z w128 (of_z w128 top) in
@@ -237,7 +239,7 @@ form_of-returns-in_ok-of-in-Scale-clause-result t c =
     let law : computed c.args.term.now ≡ scaled top bottom (computed (at us 0)) = by_computed c.args.term.now c.in-Apply.head c.in-Apply.sorts c.in-Apply.args us c.rule_of.result c.in-Apply.is view c.rule_of.ensures ∙ ap (λ (r : Rule). ruled computed r c.args.term.now us) is in
     let law' : computed c.args.term.now ≡ scaled top' bottom' (computed (at us 0)) = law ∙ (λ i. scaled (sym a i) (sym b i) (computed (at us 0))) in
     subst (λ (k : Computation). IfOk c.scale.result (λ f. IsResult k before after f)) (sym law')
-    (on_ok c.scale.result (λ f. f ≡ multiple_of top' bottom' x) (first_wide (scale_steps top' bottom' x) ≡ None) (λ f. IsResult (scaled top' bottom' (computed (at us 0))) before after f)
+    (if_ok_on c.scale.result (λ f. f ≡ multiple_of top' bottom' x) (first_wide (scale_steps top' bottom' x) ≡ None) (λ f. IsResult (scaled top' bottom' (computed (at us 0))) before after f)
     (λ (f : Lin) h n. multiple_result (computed (at us 0)) top' bottom' before after x p f h n) c.scale.ensures.form c.scale.ensures.fits)
 
 pub form_of-returns-in_ok-of-in-Scale-clause-meaning : goal.form_of-returns-in_ok-of-in-Scale-clause-meaning
@@ -249,7 +251,7 @@ form_of-returns-in_ok-of-in-Scale-clause-meaning t c =
     let bottom = c.in-Scale.bottom in
     let is : c.rule_of.result ≡ Scale top bottom = c.in-Scale.is in
     let some : 0 < length us = (subst (λ (r : Rule). Fits r (length us)) is (by_fits c.args.term.now c.in-Apply.head c.in-Apply.sorts c.in-Apply.args us c.rule_of.result c.in-Apply.is view c.rule_of.ensures c.requires.sorted)).0 in
-    let e : c.index-as_slice-0.result ≡ at us 0 = c.index-as_slice-0.is ∙ ap (λ ts. get_or ts 0 c.index-as_slice-0.result) two ∙ same_default us 0 c.index-as_slice-0.result (Bound 0) some in
+    let e : c.index-as_slice-0.result ≡ at us 0 = c.index-as_slice-0.is ∙ ap (λ ts. get_or ts 0 c.index-as_slice-0.result) two ∙ get_or_default us 0 c.index-as_slice-0.result (Bound 0) some in
     let a : to_z w128 (of_z w128 top) ≡ top = to_z-of_z w128 top (search rules) in
     let b : to_z w128 (of_z w128 bottom) ≡ bottom = to_z-of_z w128 bottom (search rules) in
     let top' = to_z w128 (of_z w128 top) in
@@ -276,7 +278,7 @@ form_of-returns-in_ok-of-in-Scale-clause-wide t c =
     let bottom = c.in-Scale.bottom in
     let is : c.rule_of.result ≡ Scale top bottom = c.in-Scale.is in
     let some : 0 < length us = (subst (λ (r : Rule). Fits r (length us)) is (by_fits c.args.term.now c.in-Apply.head c.in-Apply.sorts c.in-Apply.args us c.rule_of.result c.in-Apply.is view c.rule_of.ensures c.requires.sorted)).0 in
-    let e : c.index-as_slice-0.result ≡ at us 0 = c.index-as_slice-0.is ∙ ap (λ ts. get_or ts 0 c.index-as_slice-0.result) two ∙ same_default us 0 c.index-as_slice-0.result (Bound 0) some in
+    let e : c.index-as_slice-0.result ≡ at us 0 = c.index-as_slice-0.is ∙ ap (λ ts. get_or ts 0 c.index-as_slice-0.result) two ∙ get_or_default us 0 c.index-as_slice-0.result (Bound 0) some in
     let a : to_z w128 (of_z w128 top) ≡ top = to_z-of_z w128 top (search rules) in
     let b : to_z w128 (of_z w128 bottom) ≡ bottom = to_z-of_z w128 bottom (search rules) in
     let top' = to_z w128 (of_z w128 top) in
@@ -288,7 +290,7 @@ form_of-returns-in_ok-of-in-Scale-clause-wide t c =
     let law : computed c.args.term.now ≡ scaled top bottom (computed (at us 0)) = by_computed c.args.term.now c.in-Apply.head c.in-Apply.sorts c.in-Apply.args us c.rule_of.result c.in-Apply.is view c.rule_of.ensures ∙ ap (λ (r : Rule). ruled computed r c.args.term.now us) is in
     let law' : computed c.args.term.now ≡ scaled top' bottom' (computed (at us 0)) = law ∙ (λ i. scaled (sym a i) (sym b i) (computed (at us 0))) in
     subst (λ (k : Computation). IfErr c.scale.result (λ f. IsWideIn k before f)) (sym law')
-    (if_ok_err c.scale.result (λ f. IfWide f (λ w. first_wide (scale_steps top' bottom' x) ≡ Some w)) (λ f. IsWideIn (scaled top' bottom' (computed (at us 0))) before f)
+    (IfErr-weaker c.scale.result (λ f. IfWide f (λ w. first_wide (scale_steps top' bottom' x) ≡ Some w)) (λ f. IsWideIn (scaled top' bottom' (computed (at us 0))) before f)
     (λ f h. multiple_wide (computed (at us 0)) top' bottom' before after x p f h) c.scale.ensures.wide)
 
 pub form_of-returns-in_ok-left-in-Pair-clause-result : goal.form_of-returns-in_ok-left-in-Pair-clause-result
@@ -333,7 +335,7 @@ form_of-returns-in_ok-left-in-Pair-clause-kept t c =
     let before = c.args.keys.now in
     let mid = c.both_forms.new.keys in
     let after = c.joined_form.new.keys in
-    only_ok c.joined_form.result (Keeps mid after) (Keeps before after) (λ h. keeps_then before mid after c.in_ok-left-in-Pair.ensures.kept h) c.joined_form.ensures.kept
+    on_ok_weaker {P = Keeps mid after} {Q = Keeps before after} c.joined_form.result (λ h. keeps_then before mid after c.in_ok-left-in-Pair.ensures.kept h) c.joined_form.ensures.kept
 
 pub form_of-returns-in_ok-left-in-Pair-clause-wide : goal.form_of-returns-in_ok-left-in-Pair-clause-wide
 form_of-returns-in_ok-left-in-Pair-clause-wide t c =
@@ -349,5 +351,5 @@ form_of-returns-in_ok-left-in-Pair-clause-wide t c =
     let y = c.in_ok-left-in-Pair.right in
     let parts : AreResults (computed (at us 0)) (computed (at us 1)) before mid x y = subst (λ (ts : List Term). AreResults (computed (at ts 0)) (computed (at ts 1)) before mid x y) two c.in_ok-left-in-Pair.ensures.result in
     subst (λ (k : Computation). IfErr c.joined_form.result (λ f. IsWideIn k before f)) (sym law)
-    (if_ok_err c.joined_form.result (λ f. IsWideIn (joined o whole (known x) (known y)) mid f) (λ f. IsWideIn (joined o whole (computed (at us 0)) (computed (at us 1))) before f)
+    (IfErr-weaker c.joined_form.result (λ f. IsWideIn (joined o whole (known x) (known y)) mid f) (λ f. IsWideIn (joined o whole (computed (at us 0)) (computed (at us 1))) before f)
     (λ f h. joined_wide o whole (computed (at us 0)) (computed (at us 1)) before mid x y parts f h) c.joined_form.ensures.wide)

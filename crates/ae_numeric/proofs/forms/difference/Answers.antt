@@ -1,4 +1,6 @@
 use Rattle.std.specs.Prelude.{◌≡◌, ◌++◌, pos, neg_ℤ, Some, None}
+use Rattle.std.proofs.lemmas.Result.{IfErr-weaker}
+use Rattle.ae_base.proofs.Results.{if_ok_on, on_ok_always}
 use Rattle.ae_math.specs.Forms.{minus}
 use Rattle.ae_num.specs.declared.forms.Lin.{Lin}
 use Rattle.ae_num.specs.declared.numbers.Wide.{Wide}
@@ -13,7 +15,7 @@ use Rattle.ae_numeric.specs.Computing.{Keeps}
 use Rattle.ae_numeric.specs.declared.forms.Operation.TheVariants.{Difference}
 use Rattle.ae_numeric.proofs.KeyedLaws.{keeps_then}
 use Rattle.ae_numeric.proofs.NamedLaws.{kept_form, difference_is_form}
-use Rattle.ae_numeric.proofs.ComputedLaws.{always_ok, if_three, if_ok_err, on_ok, both_results, first_part_wide, second_part_wide, joined_result, joined_wide, parts_wide}
+use Rattle.ae_numeric.proofs.ComputedLaws.{if_three, both_results, first_part_wide, second_part_wide, joined_result, joined_wide, parts_wide}
 use Rattle.ae_numeric.proofs.forms.difference.Goals as goal
 
 pub returns-in_err-left-clause-wide : goal.returns-in_err-left-clause-wide
@@ -45,7 +47,7 @@ returns-clause-result c =
     let parts : AreResults a b before after x y = both_results a b before mid after x y c.in_ok-left.ensures.result c.in_ok-right.ensures.result in
     let turned = scale_steps (neg_ℤ (pos 1)) (pos 1) y in
     let last = plus_steps x (multiple_of (neg_ℤ (pos 1)) (pos 1) y) in
-    on_ok c.form_difference.result (λ f. f ≡ sum_of x (multiple_of (neg_ℤ (pos 1)) (pos 1) y)) (first_wide (turned ++ last) ≡ None) (λ f. IsResult (subtracted a b) before after f)
+    if_ok_on c.form_difference.result (λ f. f ≡ sum_of x (multiple_of (neg_ℤ (pos 1)) (pos 1) y)) (first_wide (turned ++ last) ≡ None) (λ f. IsResult (subtracted a b) before after f)
     (λ (f : Lin) e n. joined_result Difference (Bound 0) a b before after x y parts after f (record { form = e; keys = λ i. after; fits = n })) c.form_difference.ensures.form c.form_difference.ensures.fits
 
 pub returns-clause-meaning : goal.returns-clause-meaning
@@ -73,10 +75,10 @@ returns-clause-wide c =
     let parts : AreResults a b before after x y = both_results a b before mid after x y c.in_ok-left.ensures.result c.in_ok-right.ensures.result in
     let turned = scale_steps (neg_ℤ (pos 1)) (pos 1) y in
     let last = plus_steps x (multiple_of (neg_ℤ (pos 1)) (pos 1) y) in
-    if_ok_err c.form_difference.result (λ f. IfWide f (λ w. first_wide (turned ++ last) ≡ Some w)) (λ f. IsWideIn (subtracted a b) before f)
+    IfErr-weaker c.form_difference.result (λ f. IfWide f (λ w. first_wide (turned ++ last) ≡ Some w)) (λ f. IsWideIn (subtracted a b) before f)
     (λ f h. joined_wide Difference (Bound 0) a b before after x y parts f h) c.form_difference.ensures.wide
 
 pub returns-clause-kept : goal.returns-clause-kept
 returns-clause-kept c =
     let k : Keeps c.args.keys.now c.form_of-2.new.keys = keeps_then c.args.keys.now c.form_of.new.keys c.form_of-2.new.keys c.in_ok-left.ensures.kept c.in_ok-right.ensures.kept in
-    always_ok c.form_difference.result (Keeps c.args.keys.now c.form_of-2.new.keys) k
+    on_ok_always {P = Keeps c.args.keys.now c.form_of-2.new.keys} c.form_difference.result k

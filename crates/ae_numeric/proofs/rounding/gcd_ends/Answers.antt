@@ -1,5 +1,6 @@
 use Rattle.std.specs.Prelude.{◌≡◌, Some, []}
 use Rattle.std.proofs.Common.{rules, ap, sym, ◌∙◌}
+use Rattle.ae_base.proofs.Tests.{false_true}
 use Rattle.ae_num.specs.declared.numbers.Wide.{Wide}
 use Rattle.ae_num.specs.Forms.{first_wide}
 use Rattle.ae_num.proofs.StepLaws.{same_err}
@@ -7,7 +8,7 @@ use Rattle.ae_rules.specs.Lines.{equal, states}
 use Rattle.ae_core.specs.declared.proofs.Ending.TheVariants.{Gcd}
 use Rattle.ae_core.specs.declared.proofs.Relation.TheVariants.{Equal}
 use Rattle.ae_numeric.specs.Stated.{fact_at, ending_steps, forward}
-use Rattle.ae_numeric.proofs.RoundingLines.{never, sorted, fact_there, both_sorted, not_sorted, gcd_none, gcd_states, ends_unsolvable, ends_int, unsolvable_ends, is_int, of_int}
+use Rattle.ae_numeric.proofs.RoundingLines.{sorted, fact_there, both_sorted, not_sorted, gcd_none, gcd_states, ends_unsolvable, ends_int, unsolvable_ends, is_int, of_int}
 use Rattle.ae_numeric.proofs.rounding.gcd_ends.Goals as goal
 use Rattle.ae_numeric.proofs.rounding.gcd_ends.Goals.{then-unsolvable, else-unsolvable}
 
@@ -75,8 +76,8 @@ returns-clause-exact c =
         λ a. w.result-is ∙ w.is_sort.ensures ∙ of_int x (ends_int sig lines s t k there x a each.0),
       )
       | else-unsolvable w ↦ (
-        λ z. never (sym w.if-unsolvable.false ∙ sym w.result-is ∙ z),
-        λ a. never (sym w.if-unsolvable.false ∙ c.in_ok-unsolvable.ensures.exact.1 (ends_unsolvable sig lines s t k there a)),
+        λ z. false_true (sym w.if-unsolvable.false ∙ sym w.result-is ∙ z),
+        λ a. false_true (sym w.if-unsolvable.false ∙ c.in_ok-unsolvable.ensures.exact.1 (ends_unsolvable sig lines s t k there a)),
       )
     ]
 

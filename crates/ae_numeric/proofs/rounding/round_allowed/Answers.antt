@@ -1,5 +1,6 @@
 use Rattle.std.specs.Prelude.{◌≡◌, ◌≢◌, false, Some}
 use Rattle.std.proofs.Common.{rules, ap, sym, ◌∙◌}
+use Rattle.ae_base.proofs.Tests.{false_true}
 use Rattle.ae_num.specs.declared.numbers.Wide.{Wide}
 use Rattle.ae_num.specs.Forms.{first_wide}
 use Rattle.ae_num.proofs.StepLaws.{same_err}
@@ -8,7 +9,7 @@ use Rattle.ae_rules.specs.Lines.{Fact, at_most}
 use Rattle.ae_core.specs.declared.proofs.EqLine.TheVariants.{LeRound}
 use Rattle.ae_core.specs.declared.proofs.Relation.TheVariants.{Equal}
 use Rattle.ae_numeric.specs.Stated.{fact_at, line_steps, round_steps, of_one_sort}
-use Rattle.ae_numeric.proofs.RoundingLines.{never, sorted, fact_there, all_sorted, not_shared, round_none, round_states, allowed_rounded, allowed_int, rounded_allowed, is_int, of_int}
+use Rattle.ae_numeric.proofs.RoundingLines.{sorted, fact_there, all_sorted, not_shared, round_none, round_states, allowed_rounded, allowed_int, rounded_allowed, is_int, of_int}
 use Rattle.ae_numeric.proofs.rounding.round_allowed.Goals as goal
 use Rattle.ae_numeric.proofs.rounding.round_allowed.Goals.{then-fits, else-fits}
 
@@ -106,8 +107,8 @@ returns-clause-exact c =
         λ a. w.result-is ∙ w.is_sort.ensures ∙ of_int x (allowed_int sig lines s t k f there x a each.0),
       )
       | else-fits w ↦ (
-        λ z. never (sym w.if-fits.false ∙ sym w.result-is ∙ z),
-        λ a. never (sym w.if-fits.false ∙ c.in_ok-fits.ensures.exact.1 (allowed_rounded sig lines s t k f there a)),
+        λ z. false_true (sym w.if-fits.false ∙ sym w.result-is ∙ z),
+        λ a. false_true (sym w.if-fits.false ∙ c.in_ok-fits.ensures.exact.1 (allowed_rounded sig lines s t k f there a)),
       )
     ]
 
