@@ -1,0 +1,4 @@
+pub mod Terms
+pub mod Entered
+pub mod NoBlocks
+pub mod RuleJournal

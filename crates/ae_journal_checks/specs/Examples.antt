@@ -1,0 +1,62 @@
+-- The goal `u(a, b) = c -> u(a, d) = e -> u(c, d) = u(e, b)` for an associative and commutative u over an abstract type, and a journal of one line for it.
+use Rattle.std.specs.Prelude.{ℕ, List, [], ◌∷◌, Some, None}
+use Rattle.ae_core.specs.declared.terms.Sort.{Sort, Named}
+use Rattle.ae_core.specs.declared.terms.Term.{Term, Apply}
+use Rattle.ae_core.specs.declared.terms.Head.TheVariants as head
+use Rattle.ae_core.specs.declared.formulas.Formula.{Formula, Eq, Not, Or}
+use Rattle.ae_core.specs.declared.problems.Signature.{Signature}
+use Rattle.ae_core.specs.declared.problems.SymbolEntry.{SymbolEntry}
+use Rattle.ae_core.specs.declared.problems.Kind.TheVariants.{Abstract}
+use Rattle.ae_core.specs.declared.problems.Nature.TheVariants.{Free, Ac}
+use Rattle.ae_core.specs.declared.problems.Problem.{Problem}
+use Rattle.ae_core.specs.declared.problems.Item.TheVariants.{Goal}
+use Rattle.ae_core.specs.declared.problems.AcSymbol.{AcSymbol}
+use Rattle.ae_journal.specs.declared.lines.Oriented.TheVariants as oriented
+use Rattle.ae_journal.specs.declared.lines.Line.{Line}
+use Rattle.ae_journal.specs.declared.lines.Line.TheVariants as line
+use Rattle.ae_journal.specs.declared.lines.Story.{Story}
+
+-- the type `t`
+unfoldable pub T : Sort
+T = Named 0 []
+
+abbrev pub constant_entry : ℕ → SymbolEntry
+constant_entry n = record { name = n ∷ []; vars = 0; args = []; result = Some T; nature = Free }
+
+-- the symbols a, b, c, d, e and u
+abbrev pub signature : Signature
+signature =
+    record {
+      types = record { name = 116 ∷ []; arity = 0; kind = Abstract } ∷ [];
+      symbols = constant_entry 97 ∷ constant_entry 98 ∷ constant_entry 99 ∷ constant_entry 100 ∷ constant_entry 101
+          ∷ record { name = 117 ∷ []; vars = 0; args = T ∷ T ∷ []; result = Some T; nature = Ac } ∷ [];
+    }
+
+unfoldable pub constant : ℕ → Term
+constant n = Apply (head.Symbol n) [] []
+
+unfoldable pub u : Term → Term → Term
+u s t = Apply (head.Symbol 5) [] (s ∷ t ∷ [])
+
+-- the hypotheses of the goal
+unfoldable pub first_equation : Formula
+first_equation = Eq (u (constant 0) (constant 1)) (constant 2)
+
+unfoldable pub others : Formula
+others = Or (Not (Eq (u (constant 0) (constant 3)) (constant 4))) (Eq (u (constant 2) (constant 3)) (u (constant 4) (constant 1)))
+
+unfoldable pub goal : Formula
+goal = Or (Not first_equation) others
+
+abbrev pub problem : Problem
+problem = record { signature = signature; items = Goal (103 ∷ []) 0 goal ∷ [] }
+
+abbrev pub symbol : AcSymbol
+symbol = record { head = head.Symbol 5; sorts = [] }
+
+-- the rule from a, b to u(a, b), by the numbers of the names
+abbrev pub rule_line : Line
+rule_line = line.Orient (oriented.Rule symbol (0 ∷ 1 ∷ []) (2 ∷ []))
+
+abbrev pub story : Story
+story = record { names = constant 0 ∷ constant 1 ∷ u (constant 0) (constant 1) ∷ []; lines = rule_line ∷ [] }

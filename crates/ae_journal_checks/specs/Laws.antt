@@ -1,0 +1,17 @@
+-- The laws, as statements.
+use Rattle.std.specs.Prelude.{ℕ, List, [], ◌∷◌, ◌≡◌, ◌≢◌}
+use Rattle.ae_core.specs.declared.formulas.Formula.{Formula}
+use Rattle.ae_journal.specs.Journals.{counted_in}
+use Rattle.ae_journal.specs.Legal.{AreLegal, IsLegalJournal, setting}
+use Rattle.ae_journal_checks.specs.Examples.{problem, story, rule_line}
+
+-- the journal is legal for each bound, with exactly one counted line
+abbrev pub OneRuleIsLegal : Type 0
+OneRuleIsLegal = (bound : ℕ) → IsLegalJournal problem 0 bound story × (counted_in story.lines ≡ 1)
+
+-- with its line repeated it is legal for no choice of fresh constants, and without it no line is counted
+abbrev pub RepeatedRuleIsRefused : Type 0
+RepeatedRuleIsRefused = (bound : ℕ) (fresh : Formula → ℕ) → ¬ AreLegal (setting problem 0 story fresh) bound [] (rule_line ∷ rule_line ∷ [])
+
+abbrev pub NothingIsCounted : Type 0
+NothingIsCounted = counted_in [] ≢ 1
