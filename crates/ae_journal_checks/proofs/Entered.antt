@@ -18,7 +18,7 @@ use Rattle.ae_journal.specs.Legal.{setting}
 use Rattle.ae_journal.proofs.Splits.{contains_here, contains_later}
 use Rattle.ae_journal.specs.declared.lines.Line.{Line}
 use Rattle.ae_journal_checks.specs.Examples.{problem, story, constant, u, goal, first_equation, others}
-use Rattle.ae_journal_checks.proofs.Terms.{a, b, ab}
+use Rattle.ae_journal_checks.proofs.Terms.{a, b, ab, d, ad, c}
 
 outside_eq : (s t : Term) → outside (Eq s t) ≡ s ∷ t ∷ []
 unfolding outside
@@ -31,7 +31,7 @@ module _ (fresh : Formula → ℕ) (js : List Line) where
   abbrev x : Setting
   x = setting problem 0 story fresh
 
-  goal_is_formula : IsFormula x js goal
+  pub goal_is_formula : IsFormula x js goal
   unfolding goal
   goal_is_formula =
       subst (λ (l : Lit). IsFormula x js l.formula) (literal_or false (Not first_equation) others)
@@ -55,3 +55,33 @@ module _ (fresh : Formula → ℕ) (js : List Line) where
   pub b_is_name : IsEntered x js b
   unfolding u
   b_is_name = of_term js (head.Symbol 5) [] (a ∷ b ∷ []) b ab_is_name (contains_later a (b ∷ []) b (contains_here b []))
+
+  pub c_is_name : IsEntered x js c
+  unfolding first_equation
+  c_is_name = of_formula js first_equation c equation_is_formula (subst (λ (w : List Term). Contains w c) (sym (outside_eq ab c)) (contains_later ab (c ∷ []) c (contains_here c [])))
+
+  others_is_formula : IsFormula x js others
+  unfolding goal
+  others_is_formula =
+      of_part js goal others goal_is_formula
+      (subst (λ (w : List Formula). Contains w others) (sym (ap parts_by (outs-Or (Not first_equation) others))) (contains_later (Not first_equation) (others ∷ []) others (contains_here others [])))
+
+  abbrev second_equation : Formula
+  second_equation = Eq ad (constant 4)
+
+  abbrev last_equation : Formula
+  last_equation = Eq (u (constant 2) (constant 3)) (u (constant 4) (constant 1))
+
+  second_is_formula : IsFormula x js second_equation
+  unfolding others
+  second_is_formula =
+      of_part js (Not second_equation) second_equation
+      (of_part js others (Not second_equation) others_is_formula (first_of others (Not second_equation) (last_equation ∷ []) (ap parts_by (outs-Or (Not second_equation) last_equation))))
+      (first_of (Not second_equation) second_equation [] (ap parts_by (outs-Not second_equation)))
+
+  pub ad_is_name : IsEntered x js ad
+  ad_is_name = of_formula js second_equation ad second_is_formula (subst (λ (w : List Term). Contains w ad) (sym (outside_eq ad (constant 4))) (contains_here ad (constant 4 ∷ [])))
+
+  pub d_is_name : IsEntered x js d
+  unfolding u
+  d_is_name = of_term js (head.Symbol 5) [] (a ∷ d ∷ []) d ad_is_name (contains_later a (d ∷ []) d (contains_here d []))

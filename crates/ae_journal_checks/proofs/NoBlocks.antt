@@ -23,7 +23,7 @@ use Rattle.ae_journal.specs.Legal.{HaveOwnConstants, setting}
 use Rattle.ae_journal.proofs.Splits.{contains_one, contains_cases}
 use Rattle.ae_journal.specs.declared.lines.Line.{Line}
 use Rattle.ae_journal.specs.declared.lines.Line.TheVariants as line
-use Rattle.ae_journal_checks.specs.Examples.{signature, problem, story, rule_line, goal, first_equation, others}
+use Rattle.ae_journal_checks.specs.Examples.{signature, problem, story, goal, first_equation, others}
 
 data NoBlock : Formula → Type 0 where
   equation : (s t : Term) → NoBlock (Eq s t)
@@ -57,7 +57,7 @@ no_block_in_goal : NoBlock goal
 unfolding goal first_equation others
 no_block_in_goal = either _ _ (negation _ (equation _ _)) (either _ _ (negation _ (equation _ _)) (equation _ _))
 
-goal_literal : no_of goal ≡ record { positive = false; formula = goal }
+pub goal_literal : no_of goal ≡ record { positive = false; formula = goal }
 unfolding goal
 goal_literal = literal_or false (Not first_equation) others
 
@@ -104,25 +104,21 @@ module _ (fresh : Formula → ℕ) where
       let h = bind_some (choices_of signature (out-Sort s.0)) (λ hs. Some (map (choice_of t) hs)) c s.2 in
       choices t h.0 l (subst (λ (d : Clause). Contains d l) (sym (same_Some (map (choice_of t) h.0) c h.2)) i)
 
-  no_type_instance : (k : ℕ) (ss : List Sort) → rule_line ≡ line.TypeInstance k ss → ⊥
-  no_type_instance k ss e = cc
+  -- lines among which there is no instance
+  abbrev pub NoInstance : List Line → Type 0
+  NoInstance js = ((k : ℕ) (ss : List Sort) → ¬ Contains js (line.TypeInstance k ss)) × ((f : Formula) (ts : List Term) → ¬ Contains js (line.TermInstance f ts))
 
-  no_term_instance : (f : Formula) (ts : List Term) → rule_line ≡ line.TermInstance f ts → ⊥
-  no_term_instance f ts e = cc
-
-  no_block : (js : List Line) (f : Formula) → js ≡ rule_line ∷ [] → IsFormula x js f → NoBlock f
+  no_block : (js : List Line) (f : Formula) → NoInstance js → IsFormula x js f → NoBlock f
   no_block js _ q (of_clause _ _ l (by_hypothesis k f e) i) = absurd (no_hypothesis k f e)
   no_block js _ q (of_clause _ _ l (by_goal f e) i) = of_goal f l e i
-  no_block js _ q (of_clause _ _ l (by_type_instance k ss c h e) i) =
-      absurd (no_type_instance k ss (contains_one rule_line (line.TypeInstance k ss) (subst (λ (w : List Line). Contains w (line.TypeInstance k ss)) q h)))
-  no_block js _ q (of_clause _ _ l (by_term_instance f ts c h e) i) =
-      absurd (no_term_instance f ts (contains_one rule_line (line.TermInstance f ts) (subst (λ (w : List Line). Contains w (line.TermInstance f ts)) q h)))
+  no_block js _ q (of_clause _ _ l (by_type_instance k ss c h e) i) = absurd (q.0 k ss h)
+  no_block js _ q (of_clause _ _ l (by_term_instance f ts c h e) i) = absurd (q.1 f ts h)
   no_block js _ q (of_order _ s t c l a b e i) = orders s t c l e i
   no_block js _ q (of_choice _ t c l a e i) = exhausted t c l e i
   no_block js _ q (of_fresh _ f c l a e i) = absurd (no_fresh f (fresh f) c (no_block js f q a) e)
   no_block js _ q (of_part _ f h a i) = part f h (no_block js f q a) i
 
-  pub own_constants : HaveOwnConstants x story.lines
-  own_constants f h i j a b m n e =
-      let z : length (block_sorts (out-Formula f)) ≡ 0 = ap (λ (w : List Sort). length w) (no_sorts f (no_block story.lines f refl a)) in
+  pub own_constants : (js : List Line) → NoInstance js → HaveOwnConstants x js
+  own_constants js q f h i j a b m n e =
+      let z : length (block_sorts (out-Formula f)) ≡ 0 = ap (λ (w : List Sort). length w) (no_sorts f (no_block js f q a)) in
       absurd (omega (arith, m, z))

@@ -1,4 +1,4 @@
--- The goal `u(a, b) = c -> u(a, d) = e -> u(c, d) = u(e, b)` for an associative and commutative u over an abstract type, and a journal of one line for it.
+-- The goal `u(a, b) = c -> u(a, d) = e -> u(c, d) = u(e, b)` for an associative and commutative u over an abstract type, and two journals for it, of one line and of four.
 use Rattle.std.specs.Prelude.{ℕ, List, [], ◌∷◌, Some, None}
 use Rattle.ae_core.specs.declared.terms.Sort.{Sort, Named}
 use Rattle.ae_core.specs.declared.terms.Term.{Term, Apply}
@@ -11,6 +11,7 @@ use Rattle.ae_core.specs.declared.problems.Nature.TheVariants.{Free, Ac}
 use Rattle.ae_core.specs.declared.problems.Problem.{Problem}
 use Rattle.ae_core.specs.declared.problems.Item.TheVariants.{Goal}
 use Rattle.ae_core.specs.declared.problems.AcSymbol.{AcSymbol}
+use Rattle.ae_num.specs.declared.forms.Value.{Leaf}
 use Rattle.ae_journal.specs.declared.lines.Oriented.TheVariants as oriented
 use Rattle.ae_journal.specs.declared.lines.Line.{Line}
 use Rattle.ae_journal.specs.declared.lines.Line.TheVariants as line
@@ -58,5 +59,22 @@ symbol = record { head = head.Symbol 5; sorts = [] }
 abbrev pub rule_line : Line
 rule_line = line.Orient (oriented.Rule symbol (0 ∷ 1 ∷ []) (2 ∷ []))
 
+-- names of the journal, in an order of entry: a, b, u(a, b), d, u(a, d), c
+abbrev pub names : List Term
+names = constant 0 ∷ constant 1 ∷ u (constant 0) (constant 1) ∷ constant 3 ∷ u (constant 0) (constant 3) ∷ constant 2 ∷ []
+
 abbrev pub story : Story
-story = record { names = constant 0 ∷ constant 1 ∷ u (constant 0) (constant 1) ∷ []; lines = rule_line ∷ [] }
+story = record { names = names; lines = rule_line ∷ [] }
+
+-- a longer journal: the rule from a, d to u(a, d) too, the two rules paired, and u(a, b) as the value of c
+abbrev pub second_rule : Line
+second_rule = line.Orient (oriented.Rule symbol (0 ∷ 3 ∷ []) (4 ∷ []))
+
+abbrev pub pair_line : Line
+pair_line = line.Pair symbol (0 ∷ 1 ∷ []) (0 ∷ 3 ∷ [])
+
+abbrev pub solve_line : Line
+solve_line = line.Orient (oriented.Named 5 (Leaf 2))
+
+abbrev pub longer_story : Story
+longer_story = record { names = names; lines = rule_line ∷ second_rule ∷ pair_line ∷ solve_line ∷ [] }

@@ -1,5 +1,5 @@
 //! Laws of examples.
-ghost use Rattle.ae_journal_checks.specs.Laws.{OneRuleIsLegal, RepeatedRuleIsRefused, NothingIsCounted};
+ghost use Rattle.ae_journal_checks.specs.Laws.{OneRuleIsLegal, RepeatedRuleIsRefused, NothingIsCounted, FourLinesAreLegal};
 
 /// A journal of one rule is legal, with one counted line.
 pub fn one_rule_is_legal()
@@ -14,4 +14,9 @@ pub fn repeated_rule_is_refused()
 /// Without its line nothing is counted.
 pub fn nothing_is_counted()
     ensures { NothingIsCounted }
+{}
+
+/// A journal of two rules, their pair and a name with a new value is legal, with four counted lines.
+pub fn four_lines_are_legal()
+    ensures { FourLinesAreLegal }
 {}
