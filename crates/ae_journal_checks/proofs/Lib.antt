@@ -2,3 +2,4 @@ pub mod Terms
 pub mod Entered
 pub mod NoBlocks
 pub mod RuleJournal
+pub mod DecisionJournal

@@ -1,4 +1,4 @@
--- No formula of the example's journal is quantified.
+-- No formula of the examples' journals is quantified.
 use Rattle.std.proofs.Common.{◌≡◌, ℕ, zero, suc, ◌<◌, List, [], ◌∷◌, map, nat_lt, false, Bool, Option, Some, None, refl, sym, ◌∙◌, ap, subst, arith, inl, inr, ◌⊎◌, length}
 use Rattle.std.specs.List.{Contains}
 use Rattle.std.proofs.lemmas.Option.{same_Some}
@@ -15,17 +15,17 @@ use Rattle.ae_core.specs.Sorts.{sort_of}
 use Rattle.ae_rules.specs.Clauses.{Clause, is_true, no_of}
 use Rattle.ae_rules.specs.Instances.{hypothesis, fresh_clause, block_sorts, choices_of, exhaustion, trichotomy}
 use Rattle.ae_rules.specs.Derivations.{goal_body}
-use Rattle.ae_rules.proofs.ClauseLaws.{literal_or}
 use Rattle.ae_journal.specs.Standing.{Setting, IsFormula, parts_by, parts_of}
 use Rattle.ae_journal.specs.Standing.IsBrought.{by_hypothesis, by_goal, by_type_instance, by_term_instance}
 use Rattle.ae_journal.specs.Standing.IsFormula.{of_clause, of_order, of_choice, of_fresh, of_part}
-use Rattle.ae_journal.specs.Legal.{HaveOwnConstants, setting}
+use Rattle.ae_journal.specs.Legal.{HaveOwnConstants}
+use Rattle.ae_core.specs.declared.problems.Problem.{Problem}
+use Rattle.ae_journal.proofs.RowParts.{literal_part}
 use Rattle.ae_journal.proofs.Splits.{contains_one, contains_cases}
 use Rattle.ae_journal.specs.declared.lines.Line.{Line}
 use Rattle.ae_journal.specs.declared.lines.Line.TheVariants as line
-use Rattle.ae_journal_checks.specs.Examples.{signature, problem, story, goal, first_equation, others}
 
-data NoBlock : Formula → Type 0 where
+pub data NoBlock : Formula → Type 0 where
   equation : (s t : Term) → NoBlock (Eq s t)
   order : (s t : Term) → NoBlock (Lt s t)
   negation : (f : Formula) → NoBlock f → NoBlock (Not f)
@@ -53,33 +53,28 @@ no_fresh _ m c (order s t) e = never_some c (sym (ap (fresh_clause (Lt s t) m) (
 no_fresh _ m c (negation f n) e = never_some c (sym (ap (fresh_clause (Not f) m) (outs-Not f)) ∙ e)
 no_fresh _ m c (either f h n k) e = never_some c (sym (ap (fresh_clause (Or f h) m) (outs-Or f h)) ∙ e)
 
-no_block_in_goal : NoBlock goal
-unfolding goal first_equation others
-no_block_in_goal = either _ _ (negation _ (equation _ _)) (either _ _ (negation _ (equation _ _)) (equation _ _))
-
-pub goal_literal : no_of goal ≡ record { positive = false; formula = goal }
-unfolding goal
-goal_literal = literal_or false (Not first_equation) others
-
 not_below : (k : ℕ) → nat_lt k 0 ≡ false
 not_below k = grind (arith, nat_tests)
 
 none_below : {A B : Type 0} (b : Bool) (x : Option A) (f : A → Option B) (y : B) → b ≡ false → only b x >>= f ≡ Some y → ⊥
 none_below b x f y e h = never_some y (ap (λ c. only c x >>= f) (sym e) ∙ h)
 
-no_hypothesis : (k : ℕ) (f : Formula) → hypothesis problem 0 k [] ≡ Some f → ⊥
-no_hypothesis k f e = none_below (nat_lt k 0) _ _ f (not_below k) e
+pub no_hypothesis : (p : Problem) (k : ℕ) (f : Formula) → hypothesis p 0 k [] ≡ Some f → ⊥
+no_hypothesis p k f e = none_below (nat_lt k 0) _ _ f (not_below k) e
 
-module _ (fresh : Formula → ℕ) where
+-- lines among which there is no instance
+abbrev pub NoInstance : List Line → Type 0
+NoInstance js = ((k : ℕ) (ss : List Sort) → ¬ Contains js (line.TypeInstance k ss)) × ((f : Formula) (ts : List Term) → ¬ Contains js (line.TermInstance f ts))
+
+-- a problem without hypotheses, with a goal that has no block
+module _ (p : Problem) (goals : (f : Formula) → goal_body p 0 ≡ Some f → NoBlock f) (names : List Term) (fresh : Formula → ℕ) where
   abbrev x : Setting
-  x = setting problem 0 story fresh
+  x = record { problem = p; goal = 0; names = names; fresh = fresh }
 
-  of_goal : (f : Formula) (l : Lit) → goal_body problem 0 ≡ Some f → Contains (no_of f ∷ []) l → NoBlock l.formula
-  of_goal f l e i =
-      let same : no_of goal ≡ l = ap no_of (same_Some goal f e) ∙ contains_one (no_of f) l i in
-      subst (λ (k : Lit). NoBlock k.formula) (sym goal_literal ∙ same) no_block_in_goal
+  of_goal : (f : Formula) (l : Lit) → goal_body p 0 ≡ Some f → Contains (no_of f ∷ []) l → NoBlock l.formula
+  of_goal f l e i = subst (λ (k : Lit). NoBlock k.formula) (contains_one (no_of f) l i) (literal_part NoBlock part f (goals f e) false)
 
-  orders : (s t : Term) (c : Clause) (l : Lit) → trichotomy signature s t ≡ Some c → Contains c l → NoBlock l.formula
+  orders : (s t : Term) (c : Clause) (l : Lit) → trichotomy p.signature s t ≡ Some c → Contains c l → NoBlock l.formula
   orders s t c l e i =
       let w = when_some _ (is_true (Eq s t) ∷ is_true (Lt s t) ∷ is_true (Lt t s) ∷ []) c e in
       elim (contains_cases (is_true (Eq s t)) (is_true (Lt s t) ∷ is_true (Lt t s) ∷ []) l (subst (λ (d : Clause). Contains d l) (sym w.1) i)) [
@@ -98,18 +93,14 @@ module _ (fresh : Formula → ℕ) where
   choices t (h ∷ hs) l i =
       elim (contains_cases (choice_of t h) (map (choice_of t) hs) l i) [ inl e ↦ subst (λ (k : Lit). NoBlock k.formula) e (equation t (Apply h [] [])) | inr r ↦ choices t hs l r ]
 
-  exhausted : (t : Term) (c : Clause) (l : Lit) → exhaustion signature t ≡ Some c → Contains c l → NoBlock l.formula
+  exhausted : (t : Term) (c : Clause) (l : Lit) → exhaustion p.signature t ≡ Some c → Contains c l → NoBlock l.formula
   exhausted t c l e i =
-      let s = bind_some (sort_of signature t) (λ s. choices_of signature (out-Sort s) >>= λ hs. Some (map (choice_of t) hs)) c e in
-      let h = bind_some (choices_of signature (out-Sort s.0)) (λ hs. Some (map (choice_of t) hs)) c s.2 in
+      let s = bind_some (sort_of p.signature t) (λ s. choices_of p.signature (out-Sort s) >>= λ hs. Some (map (choice_of t) hs)) c e in
+      let h = bind_some (choices_of p.signature (out-Sort s.0)) (λ hs. Some (map (choice_of t) hs)) c s.2 in
       choices t h.0 l (subst (λ (d : Clause). Contains d l) (sym (same_Some (map (choice_of t) h.0) c h.2)) i)
 
-  -- lines among which there is no instance
-  abbrev pub NoInstance : List Line → Type 0
-  NoInstance js = ((k : ℕ) (ss : List Sort) → ¬ Contains js (line.TypeInstance k ss)) × ((f : Formula) (ts : List Term) → ¬ Contains js (line.TermInstance f ts))
-
   no_block : (js : List Line) (f : Formula) → NoInstance js → IsFormula x js f → NoBlock f
-  no_block js _ q (of_clause _ _ l (by_hypothesis k f e) i) = absurd (no_hypothesis k f e)
+  no_block js _ q (of_clause _ _ l (by_hypothesis k f e) i) = absurd (no_hypothesis p k f e)
   no_block js _ q (of_clause _ _ l (by_goal f e) i) = of_goal f l e i
   no_block js _ q (of_clause _ _ l (by_type_instance k ss c h e) i) = absurd (q.0 k ss h)
   no_block js _ q (of_clause _ _ l (by_term_instance f ts c h e) i) = absurd (q.1 f ts h)

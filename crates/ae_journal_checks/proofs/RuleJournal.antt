@@ -10,7 +10,9 @@ use Rattle.ae_core.specs.declared.formulas.Formula.{Formula, Eq, Not, Or}
 use Rattle.ae_core.specs.declared.formulas.Lit.{Lit}
 use Rattle.ae_rules.specs.Clauses.{Clause, opposite, is_true, is_false, no_of, row}
 use Rattle.ae_rules.specs.declared.rows.TheConstants.{OR_FROM_LEFT}
-use Rattle.ae_rules.proofs.ClauseLaws.{literal_not, literal_eq, row_or}
+use Rattle.ae_rules.proofs.ClauseLaws.{literal_not, literal_eq, literal_or, row_or}
+use Rattle.std.proofs.lemmas.Option.{same_Some}
+use Rattle.ae_rules.specs.Derivations.{goal_body}
 use Rattle.ae_rules.specs.Lines.{equal, fact_ok}
 use Rattle.ae_rules.specs.Lines.Follows.{by_hyp}
 use Rattle.ae_multiset.specs.Multisets.{count, IsPart}
@@ -41,7 +43,18 @@ use Rattle.ae_journal_checks.specs.Examples.{T, signature, names, problem, story
 use Rattle.ae_journal_checks.specs.Laws.{OneRuleIsLegal, RepeatedRuleIsRefused, NothingIsCounted, FourLinesAreLegal}
 use Rattle.ae_journal_checks.proofs.Terms.{a, b, ab, d, ad, c, sort_ab, sort_c, each_name, name_value, names_apart, own_representative, same_leaf}
 use Rattle.ae_journal_checks.proofs.Entered.{goal_is_formula, a_is_name, b_is_name, ab_is_name, c_is_name, d_is_name, ad_is_name}
-use Rattle.ae_journal_checks.proofs.NoBlocks.{own_constants, NoInstance, goal_literal}
+use Rattle.ae_journal_checks.proofs.NoBlocks.{own_constants, NoInstance, NoBlock, equation, negation, either}
+
+no_block : NoBlock goal
+unfolding goal first_equation others
+no_block = either _ _ (negation _ (equation _ _)) (either _ _ (negation _ (equation _ _)) (equation _ _))
+
+no_block_in_goal : (f : Formula) → goal_body problem 0 ≡ Some f → NoBlock f
+no_block_in_goal f e = subst NoBlock (same_Some goal f e) no_block
+
+goal_literal : no_of goal ≡ is_false goal
+unfolding goal
+goal_literal = literal_or false (Not first_equation) others
 
 no_end : (before after : List Line) (j : Line) → [] ≡ before ++ j ∷ after → ⊥
 no_end [] after j e = cc
@@ -163,19 +176,19 @@ module _ (fresh : Formula → ℕ) where
       }
 
 -- ---- no instance is among the lines
-one_line : (k : Line) → ¬ ((y : ℕ) × (z : List Sort) × (k ≡ line.TypeInstance y z)) → ¬ ((y : Formula) × (z : List Term) × (k ≡ line.TermInstance y z)) → (js : List Line) → NoInstance (λ f. 0) js → NoInstance (λ f. 0) (k ∷ js)
+pub one_line : (k : Line) → ¬ ((y : ℕ) × (z : List Sort) × (k ≡ line.TypeInstance y z)) → ¬ ((y : Formula) × (z : List Term) × (k ≡ line.TermInstance y z)) → (js : List Line) → NoInstance js → NoInstance (k ∷ js)
 one_line k p q js n = (
   λ y z h. elim (contains_cases k js (line.TypeInstance y z) h) [ inl e ↦ p (y, z, e) | inr r ↦ n.0 y z r ],
   λ y z h. elim (contains_cases k js (line.TermInstance y z) h) [ inl e ↦ q (y, z, e) | inr r ↦ n.1 y z r ],
 )
 
-no_line : NoInstance (λ f. 0) []
+pub no_line : NoInstance []
 no_line = (λ y z h. omega (arith, h.1), λ y z h. omega (arith, h.1))
 
-rule_is_none : (l r : List ℕ) (js : List Line) → NoInstance (λ f. 0) js → NoInstance (λ f. 0) (line.Orient (oriented.Rule symbol l r) ∷ js)
+rule_is_none : (l r : List ℕ) (js : List Line) → NoInstance js → NoInstance (line.Orient (oriented.Rule symbol l r) ∷ js)
 rule_is_none l r = one_line (line.Orient (oriented.Rule symbol l r)) (λ (y, z, e). cc) (λ (y, z, e). cc)
 
-four_lines : NoInstance (λ f. 0) longer_story.lines
+four_lines : NoInstance longer_story.lines
 four_lines =
     rule_is_none (0 ∷ 1 ∷ []) (2 ∷ []) (second_rule ∷ pair_line ∷ solve_line ∷ [])
     (rule_is_none (0 ∷ 3 ∷ []) (4 ∷ []) (pair_line ∷ solve_line ∷ [])
@@ -193,7 +206,7 @@ one_rule_is_legal bound = (
     fresh = λ f. 0;
     apart = names_apart;
     entered = all_names story.lines;
-    constants = own_constants (λ f. 0) story.lines (rule_is_none (0 ∷ 1 ∷ []) (2 ∷ []) [] no_line);
+    constants = own_constants problem no_block_in_goal names (λ f. 0) story.lines (rule_is_none (0 ∷ 1 ∷ []) (2 ∷ []) [] no_line);
     lines = (comes (λ f. 0), tt);
   },
   refl,
@@ -211,7 +224,7 @@ four_lines_are_legal bound = (
     fresh = λ f. 0;
     apart = names_apart;
     entered = all_names longer_story.lines;
-    constants = own_constants (λ f. 0) longer_story.lines four_lines;
+    constants = own_constants problem no_block_in_goal names (λ f. 0) longer_story.lines four_lines;
     lines = (comes (λ f. 0), (comes_second (λ f. 0), (some_pair symbol, (comes_solve (λ f. 0), tt))));
   },
   refl,

@@ -11,6 +11,7 @@ use Rattle.ae_core.specs.declared.problems.Nature.TheVariants.{Free, Ac}
 use Rattle.ae_core.specs.declared.problems.Problem.{Problem}
 use Rattle.ae_core.specs.declared.problems.Item.TheVariants.{Goal}
 use Rattle.ae_core.specs.declared.problems.AcSymbol.{AcSymbol}
+use Rattle.ae_rules.specs.Clauses.{is_true}
 use Rattle.ae_num.specs.declared.forms.Value.{Leaf}
 use Rattle.ae_journal.specs.declared.lines.Oriented.TheVariants as oriented
 use Rattle.ae_journal.specs.declared.lines.Line.{Line}
@@ -78,3 +79,19 @@ solve_line = line.Orient (oriented.Named 5 (Leaf 2))
 
 abbrev pub longer_story : Story
 longer_story = record { names = names; lines = rule_line ∷ second_rule ∷ pair_line ∷ solve_line ∷ [] }
+
+-- ---- the goal `not (a = b or a = c)`, and a journal that decides the first equation
+unfoldable pub one : Formula
+one = Eq (constant 0) (constant 1)
+
+unfoldable pub other : Formula
+other = Eq (constant 0) (constant 2)
+
+unfoldable pub one_or_other : Formula
+one_or_other = Or one other
+
+abbrev pub choice_problem : Problem
+choice_problem = record { signature = signature; items = Goal (103 ∷ []) 0 (Not one_or_other) ∷ [] }
+
+abbrev pub choice_story : Story
+choice_story = record { names = []; lines = line.Decide (is_true one) ∷ [] }

@@ -3,7 +3,7 @@ use Rattle.std.specs.Prelude.{ℕ, List, [], ◌∷◌, ◌≡◌, ◌≢◌}
 use Rattle.ae_core.specs.declared.formulas.Formula.{Formula}
 use Rattle.ae_journal.specs.Journals.{counted_in}
 use Rattle.ae_journal.specs.Legal.{AreLegal, IsLegalJournal, setting}
-use Rattle.ae_journal_checks.specs.Examples.{problem, story, longer_story, rule_line}
+use Rattle.ae_journal_checks.specs.Examples.{problem, story, longer_story, choice_problem, choice_story, rule_line}
 
 -- the journal is legal for each bound, with exactly one counted line
 abbrev pub OneRuleIsLegal : Type 0
@@ -19,3 +19,7 @@ NothingIsCounted = counted_in [] ≢ 1
 -- the longer journal is legal: two rules, their pair and a name with a new value, four counted lines
 abbrev pub FourLinesAreLegal : Type 0
 FourLinesAreLegal = (bound : ℕ) → IsLegalJournal problem 0 bound longer_story × (counted_in longer_story.lines ≡ 4)
+
+-- a journal of one decision is legal
+abbrev pub OneDecisionIsLegal : Type 0
+OneDecisionIsLegal = (bound : ℕ) → IsLegalJournal choice_problem 0 bound choice_story × (counted_in choice_story.lines ≡ 1)

@@ -1,5 +1,5 @@
 //! Laws of examples.
-ghost use Rattle.ae_journal_checks.specs.Laws.{OneRuleIsLegal, RepeatedRuleIsRefused, NothingIsCounted, FourLinesAreLegal};
+ghost use Rattle.ae_journal_checks.specs.Laws.{OneRuleIsLegal, RepeatedRuleIsRefused, NothingIsCounted, FourLinesAreLegal, OneDecisionIsLegal};
 
 /// A journal of one rule is legal, with one counted line.
 pub fn one_rule_is_legal()
@@ -19,4 +19,9 @@ pub fn nothing_is_counted()
 /// A journal of two rules, their pair and a name with a new value is legal, with four counted lines.
 pub fn four_lines_are_legal()
     ensures { FourLinesAreLegal }
+{}
+
+/// A journal of one decision is legal.
+pub fn one_decision_is_legal()
+    ensures { OneDecisionIsLegal }
 {}
