@@ -1,22 +1,20 @@
 -- The journal of one decision is legal.
-use Rattle.std.proofs.Common.{◌≡◌, ◌≢◌, ℕ, zero, suc, ◌<◌, List, [], ◌∷◌, Bool, true, false, nat_eq, cond, slice_get, Option, Some, None, refl, sym, ◌∙◌, ap, subst, arith, inl, inr, ◌⊎◌}
+use Rattle.std.proofs.Common.{◌≡◌, ◌≢◌, ℕ, [], ◌∷◌, Bool, true, false, nat_eq, cond, slice_get, Option, Some, None, refl, sym, ◌∙◌, ap, subst, arith, inl, inr, ◌⊎◌}
 use Rattle.std.specs.List.{Contains}
 use Rattle.std.proofs.lemmas.Option.{same_Some}
 use Rattle.ae_base.proofs.Options.{never_some}
-use Rattle.ae_core.specs.declared.terms.Term.{Term, Apply, out-Term}
+use Rattle.ae_core.specs.declared.terms.Term.{out-Term}
 use Rattle.ae_core.specs.declared.terms.Term.TheOpen as layer
 use Rattle.ae_core.specs.declared.terms.Term.TheVariants.{outs-Apply}
 use Rattle.ae_core.specs.declared.terms.Head.TheVariants as head
-use Rattle.ae_core.specs.declared.formulas.Formula.{Formula, Eq, Not, Or, out-Formula}
+use Rattle.ae_core.specs.declared.formulas.Formula.{Formula, Not, out-Formula}
 use Rattle.ae_core.specs.declared.formulas.Formula.TheOpen as formula_layer
-use Rattle.ae_core.specs.declared.formulas.Formula.TheVariants.{outs-Eq, outs-Or, outs-Not}
+use Rattle.ae_core.specs.declared.formulas.Formula.TheVariants.{outs-Eq, outs-Or}
 use Rattle.ae_core.specs.declared.formulas.Lit.{Lit}
 use Rattle.ae_rules.specs.Clauses.{Clause, opposite, is_true, is_false, yes_of, no_of, row, row_at}
 use Rattle.ae_rules.specs.declared.rows.TheConstants.{OR_FROM_LEFT, OR_FROM_RIGHT, OR_TO_EITHER}
 use Rattle.ae_rules.proofs.ClauseLaws.{literal_not, literal_eq, literal_or, row_or}
 use Rattle.ae_rules.specs.Derivations.{goal_body}
-use Rattle.ae_rules.specs.Instances.{hypothesis}
-use Rattle.ae_journal.specs.declared.lines.Line.{Line}
 use Rattle.ae_journal.specs.declared.lines.Line.TheVariants as line
 use Rattle.ae_journal.specs.Standing.{Setting, IsGiven, IsFormula, SurelyStands}
 use Rattle.ae_journal.specs.Standing.IsBrought.{by_hypothesis, by_goal, by_type_instance, by_term_instance}
@@ -28,7 +26,7 @@ use Rattle.ae_journal.specs.Legal.{setting}
 use Rattle.ae_journal.proofs.Splits.{contains_one, contains_cases, contains_here, contains_later}
 use Rattle.ae_journal_checks.specs.Examples.{constant, one, other, one_or_other, choice_problem, choice_story}
 use Rattle.ae_journal_checks.specs.Laws.{OneDecisionIsLegal}
-use Rattle.ae_journal_checks.proofs.NoBlocks.{own_constants, NoInstance, NoBlock, equation, negation, either, no_hypothesis}
+use Rattle.ae_journal_checks.proofs.NoBlocks.{own_constants, NoBlock, equation, negation, either, no_hypothesis}
 use Rattle.ae_journal_checks.proofs.RuleJournal.{one_line, no_line}
 
 goal : Formula

@@ -1,10 +1,10 @@
 -- The three names of the example are names of its journal.
-use Rattle.std.proofs.Common.{◌≡◌, ℕ, List, [], ◌∷◌, false, Some, refl, sym, ◌∙◌, ap, subst}
+use Rattle.std.proofs.Common.{◌≡◌, ℕ, List, [], ◌∷◌, false, refl, sym, ap, subst}
 use Rattle.std.specs.List.{Contains}
 use Rattle.ae_core.proofs.Recursion.{fold_eq}
 use Rattle.ae_core.specs.declared.terms.Term.{Term}
 use Rattle.ae_core.specs.declared.terms.Head.TheVariants as head
-use Rattle.ae_core.specs.declared.formulas.Formula.{Formula, Eq, Not, Or}
+use Rattle.ae_core.specs.declared.formulas.Formula.{Formula, Eq, Not}
 use Rattle.ae_core.specs.declared.formulas.Formula.TheVariants.{outs-Not, outs-Or}
 use Rattle.ae_core.specs.declared.formulas.Lit.{Lit}
 use Rattle.ae_rules.specs.Clauses.{no_of}

@@ -3,3 +3,4 @@ pub mod Entered
 pub mod NoBlocks
 pub mod RuleJournal
 pub mod DecisionJournal
+pub mod InstanceLine

@@ -1,12 +1,12 @@
 -- The journals of the example are legal; the one of one rule isn't with its line repeated.
-use Rattle.std.proofs.Common.{◌≡◌, ◌≢◌, ℕ, zero, suc, ◌<◌, ◌≤◌, List, [], ◌∷◌, ◌++◌, length, slice_get, true, false, Some, refl, sym, ◌∙◌, ap, subst, arith, inl, inr, ◌⊎◌}
+use Rattle.std.proofs.Common.{◌≡◌, ℕ, ◌≤◌, List, [], ◌∷◌, ◌++◌, slice_get, true, false, Some, refl, sym, ◌∙◌, ap, subst, arith, inl, inr}
 use Rattle.std.specs.List.{AllByRecursion, Contains}
 use Rattle.ae_base.proofs.Decided.{decided_of}
 use Rattle.ae_core.specs.Decided.{Sort_discrete}
 use Rattle.ae_core.specs.Sorts.{same_known}
 use Rattle.ae_core.specs.declared.terms.Sort.{Sort}
 use Rattle.ae_core.specs.declared.terms.Term.{Term}
-use Rattle.ae_core.specs.declared.formulas.Formula.{Formula, Eq, Not, Or}
+use Rattle.ae_core.specs.declared.formulas.Formula.{Formula, Not}
 use Rattle.ae_core.specs.declared.formulas.Lit.{Lit}
 use Rattle.ae_rules.specs.Clauses.{Clause, opposite, is_true, is_false, no_of, row}
 use Rattle.ae_rules.specs.declared.rows.TheConstants.{OR_FROM_LEFT}
@@ -25,7 +25,7 @@ use Rattle.ae_journal.specs.declared.lines.Line.{Line}
 use Rattle.ae_journal.specs.declared.lines.Line.TheVariants as line
 use Rattle.ae_journal.specs.declared.lines.Oriented.TheVariants as oriented
 use Rattle.ae_journal.specs.Values.{Val, leaf, meaning, meaning_step}
-use Rattle.ae_journal.specs.Systems.{IsNormalValue, forms_in, forms_step}
+use Rattle.ae_journal.specs.Systems.{forms_in, forms_step}
 use Rattle.ae_journal.specs.TermValues.{solved, value_by}
 use Rattle.ae_journal.specs.Standing.{Setting, IsEntered, MayStand, MayFollow}
 use Rattle.ae_journal.specs.Standing.IsBrought.{by_goal}
@@ -39,7 +39,7 @@ use Rattle.ae_journal.specs.SolverLines.Solves.{a_leaf}
 use Rattle.ae_journal.specs.Legal.{setting}
 use Rattle.ae_journal.proofs.Splits.{contains_one, contains_cases, contains_here, contains_later}
 use Rattle.ae_journal.proofs.Refusals.{no_second_rule, some_pair}
-use Rattle.ae_journal_checks.specs.Examples.{T, signature, names, problem, story, longer_story, symbol, rule_line, second_rule, pair_line, solve_line, u, constant, goal, first_equation, others}
+use Rattle.ae_journal_checks.specs.Examples.{T, signature, names, problem, story, longer_story, symbol, rule_line, second_rule, pair_line, solve_line, u, goal, first_equation, others}
 use Rattle.ae_journal_checks.specs.Laws.{OneRuleIsLegal, RepeatedRuleIsRefused, NothingIsCounted, FourLinesAreLegal}
 use Rattle.ae_journal_checks.proofs.Terms.{a, b, ab, d, ad, c, sort_ab, sort_c, each_name, name_value, names_apart, own_representative, same_leaf}
 use Rattle.ae_journal_checks.proofs.Entered.{goal_is_formula, a_is_name, b_is_name, ab_is_name, c_is_name, d_is_name, ad_is_name}

@@ -1,8 +1,8 @@
 -- The terms of the example: their sorts, their leaves and their values before the first line.
-use Rattle.std.proofs.Common.{◌≡◌, ◌≢◌, ℕ, zero, suc, ◌+◌, ◌<◌, ◌≤◌, List, [], ◌∷◌, length, slice_get, Bool, true, false, cond, ◌||◌, Option, Some, None, refl, sym, ◌∙◌, ap, subst, arith}
+use Rattle.std.proofs.Common.{◌≡◌, ◌≢◌, ℕ, zero, suc, ◌+◌, List, [], ◌∷◌, length, slice_get, true, false, cond, ◌||◌, Option, Some, None, refl, sym, ◌∙◌, ap, subst, arith}
 use Rattle.std.proofs.lemmas.Option.{same_Some}
 use Rattle.ae_base.specs.Options.{or_else, only, all_known, ◌>>=◌}
-use Rattle.ae_base.specs.Decided.{decided, pick}
+use Rattle.ae_base.specs.Decided.{decided}
 use Rattle.ae_base.proofs.Decided.{decided_of, decided_not, pick_yes, pick_no}
 use Rattle.ae_core.specs.Decided.{Sort_discrete, Sorts_discrete, Term_discrete}
 use Rattle.ae_core.specs.Putting.{put_sort}

@@ -1,9 +1,10 @@
 -- The goal `u(a, b) = c -> u(a, d) = e -> u(c, d) = u(e, b)` for an associative and commutative u over an abstract type, and two journals for it, of one line and of four.
-use Rattle.std.specs.Prelude.{ℕ, List, [], ◌∷◌, Some, None}
+use Rattle.std.specs.Prelude.{ℕ, List, [], ◌∷◌, Some}
 use Rattle.ae_core.specs.declared.terms.Sort.{Sort, Named}
-use Rattle.ae_core.specs.declared.terms.Term.{Term, Apply}
+use Rattle.ae_core.specs.declared.terms.Term.{Term, Bound, Apply}
 use Rattle.ae_core.specs.declared.terms.Head.TheVariants as head
-use Rattle.ae_core.specs.declared.formulas.Formula.{Formula, Eq, Not, Or}
+use Rattle.ae_core.specs.declared.formulas.Formula.{Formula, Eq, Not, Or, Ex}
+use Rattle.ae_core.specs.declared.formulas.Quant.{Quant}
 use Rattle.ae_core.specs.declared.problems.Signature.{Signature}
 use Rattle.ae_core.specs.declared.problems.SymbolEntry.{SymbolEntry}
 use Rattle.ae_core.specs.declared.problems.Kind.TheVariants.{Abstract}
@@ -95,3 +96,35 @@ choice_problem = record { signature = signature; items = Goal (103 ∷ []) 0 (No
 
 abbrev pub choice_story : Story
 choice_story = record { names = []; lines = line.Decide (is_true one) ∷ [] }
+
+-- ---- the goal `(exists x : t [f(x)]. f(x) = x) or f(a) = a`, whose negation is instantiated with a
+abbrev pub function_signature : Signature
+function_signature =
+    record {
+      types = record { name = 116 ∷ []; arity = 0; kind = Abstract } ∷ [];
+      symbols = constant_entry 97 ∷ record { name = 102 ∷ []; vars = 0; args = T ∷ []; result = Some T; nature = Free } ∷ [];
+    }
+
+unfoldable pub f_of : Term → Term
+f_of t = Apply (head.Symbol 1) [] (t ∷ [])
+
+unfoldable pub fixed : Term → Formula
+fixed t = Eq (f_of t) t
+
+abbrev pub block : Quant
+block = record { sorts = T ∷ []; triggers = (f_of (Bound 0) ∷ []) ∷ []; body = fixed (Bound 0) }
+
+unfoldable pub some_fixed : Formula
+some_fixed = Ex block
+
+unfoldable pub fixed_goal : Formula
+fixed_goal = Or some_fixed (fixed (constant 0))
+
+abbrev pub instance_problem : Problem
+instance_problem = record { signature = function_signature; items = Goal (103 ∷ []) 0 fixed_goal ∷ [] }
+
+abbrev pub instance_line : Line
+instance_line = line.TermInstance some_fixed (constant 0 ∷ [])
+
+abbrev pub instance_story : Story
+instance_story = record { names = []; lines = instance_line ∷ [] }

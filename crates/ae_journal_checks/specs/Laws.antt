@@ -1,9 +1,9 @@
 -- The laws, as statements.
-use Rattle.std.specs.Prelude.{ℕ, List, [], ◌∷◌, ◌≡◌, ◌≢◌}
+use Rattle.std.specs.Prelude.{ℕ, ◌<◌, [], ◌∷◌, ◌≡◌, ◌≢◌}
 use Rattle.ae_core.specs.declared.formulas.Formula.{Formula}
 use Rattle.ae_journal.specs.Journals.{counted_in}
-use Rattle.ae_journal.specs.Legal.{AreLegal, IsLegalJournal, setting}
-use Rattle.ae_journal_checks.specs.Examples.{problem, story, longer_story, choice_problem, choice_story, rule_line}
+use Rattle.ae_journal.specs.Legal.{IsLegalLine, AreLegal, IsLegalJournal, setting}
+use Rattle.ae_journal_checks.specs.Examples.{problem, story, longer_story, choice_problem, choice_story, instance_problem, instance_story, instance_line, rule_line}
 
 -- the journal is legal for each bound, with exactly one counted line
 abbrev pub OneRuleIsLegal : Type 0
@@ -23,3 +23,7 @@ FourLinesAreLegal = (bound : ℕ) → IsLegalJournal problem 0 bound longer_stor
 -- a journal of one decision is legal
 abbrev pub OneDecisionIsLegal : Type 0
 OneDecisionIsLegal = (bound : ℕ) → IsLegalJournal choice_problem 0 bound choice_story × (counted_in choice_story.lines ≡ 1)
+
+-- an instance may come where the bound on generations allows one, and not twice
+abbrev pub OneInstanceMayCome : Type 0
+OneInstanceMayCome = (bound : ℕ) (fresh : Formula → ℕ) → 0 < bound → IsLegalLine (setting instance_problem 0 instance_story fresh) bound [] instance_line

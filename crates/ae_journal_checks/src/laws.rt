@@ -1,5 +1,5 @@
 //! Laws of examples.
-ghost use Rattle.ae_journal_checks.specs.Laws.{OneRuleIsLegal, RepeatedRuleIsRefused, NothingIsCounted, FourLinesAreLegal, OneDecisionIsLegal};
+ghost use Rattle.ae_journal_checks.specs.Laws.{OneRuleIsLegal, RepeatedRuleIsRefused, NothingIsCounted, FourLinesAreLegal, OneDecisionIsLegal, OneInstanceMayCome};
 
 /// A journal of one rule is legal, with one counted line.
 pub fn one_rule_is_legal()
@@ -24,4 +24,9 @@ pub fn four_lines_are_legal()
 /// A journal of one decision is legal.
 pub fn one_decision_is_legal()
     ensures { OneDecisionIsLegal }
+{}
+
+/// An instance may come where the bound on generations allows one.
+pub fn one_instance_may_come()
+    ensures { OneInstanceMayCome }
 {}
