@@ -4,3 +4,4 @@ pub mod NoBlocks
 pub mod RuleJournal
 pub mod DecisionJournal
 pub mod InstanceLine
+pub mod LearntJournal

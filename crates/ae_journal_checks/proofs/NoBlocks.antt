@@ -8,8 +8,8 @@ use Rattle.ae_base.proofs.Options.{when_some, bind_some, never_some}
 use Rattle.ae_core.specs.declared.terms.Sort.{Sort, out-Sort}
 use Rattle.ae_core.specs.declared.terms.Term.{Term, Apply}
 use Rattle.ae_core.specs.declared.terms.Head.{Head}
-use Rattle.ae_core.specs.declared.formulas.Formula.{Formula, Eq, Lt, Not, Or, out-Formula}
-use Rattle.ae_core.specs.declared.formulas.Formula.TheVariants.{outs-Eq, outs-Lt, outs-Not, outs-Or}
+use Rattle.ae_core.specs.declared.formulas.Formula.{Formula, True, Eq, Lt, Not, Or, out-Formula}
+use Rattle.ae_core.specs.declared.formulas.Formula.TheVariants.{outs-True, outs-Eq, outs-Lt, outs-Not, outs-Or}
 use Rattle.ae_core.specs.declared.formulas.Lit.{Lit}
 use Rattle.ae_core.specs.Sorts.{sort_of}
 use Rattle.ae_rules.specs.Clauses.{Clause, is_true, no_of}
@@ -26,12 +26,14 @@ use Rattle.ae_journal.specs.declared.lines.Line.{Line}
 use Rattle.ae_journal.specs.declared.lines.Line.TheVariants as line
 
 pub data NoBlock : Formula → Type 0 where
+  truth : NoBlock True
   equation : (s t : Term) → NoBlock (Eq s t)
   order : (s t : Term) → NoBlock (Lt s t)
   negation : (f : Formula) → NoBlock f → NoBlock (Not f)
   either : (f h : Formula) → NoBlock f → NoBlock h → NoBlock (Or f h)
 
 no_sorts : (f : Formula) → NoBlock f → block_sorts (out-Formula f) ≡ []
+no_sorts _ truth = ap block_sorts outs-True
 no_sorts _ (equation s t) = ap block_sorts (outs-Eq s t)
 no_sorts _ (order s t) = ap block_sorts (outs-Lt s t)
 no_sorts _ (negation f n) = ap block_sorts (outs-Not f)
@@ -41,6 +43,7 @@ moved : (f h : Formula) (fs : List Formula) → parts_of f ≡ fs → Contains (
 moved f h fs e i = subst (λ (w : List Formula). Contains w h) e i
 
 part : (f h : Formula) → NoBlock f → Contains (parts_of f) h → NoBlock h
+part _ h truth i = let c = moved True h [] (ap parts_by outs-True) i in absurd (omega (arith, c.1))
 part _ h (equation s t) i = let c = moved (Eq s t) h [] (ap parts_by (outs-Eq s t)) i in absurd (omega (arith, c.1))
 part _ h (order s t) i = let c = moved (Lt s t) h [] (ap parts_by (outs-Lt s t)) i in absurd (omega (arith, c.1))
 part _ h (negation f n) i = subst NoBlock (contains_one f h (moved (Not f) h (f ∷ []) (ap parts_by (outs-Not f)) i)) n
@@ -48,6 +51,7 @@ part _ h (either f g n m) i =
     elim (contains_cases f (g ∷ []) h (moved (Or f g) h (f ∷ g ∷ []) (ap parts_by (outs-Or f g)) i)) [ inl e ↦ subst NoBlock e n | inr r ↦ subst NoBlock (contains_one g h r) m ]
 
 no_fresh : (f : Formula) (m : ℕ) (c : Clause) → NoBlock f → fresh_clause f m (out-Formula f) ≡ Some c → ⊥
+no_fresh _ m c truth e = never_some c (sym (ap (fresh_clause True m) outs-True) ∙ e)
 no_fresh _ m c (equation s t) e = never_some c (sym (ap (fresh_clause (Eq s t) m) (outs-Eq s t)) ∙ e)
 no_fresh _ m c (order s t) e = never_some c (sym (ap (fresh_clause (Lt s t) m) (outs-Lt s t)) ∙ e)
 no_fresh _ m c (negation f n) e = never_some c (sym (ap (fresh_clause (Not f) m) (outs-Not f)) ∙ e)

@@ -3,7 +3,7 @@ use Rattle.std.specs.Prelude.{ℕ, List, [], ◌∷◌, Some}
 use Rattle.ae_core.specs.declared.terms.Sort.{Sort, Named}
 use Rattle.ae_core.specs.declared.terms.Term.{Term, Bound, Apply}
 use Rattle.ae_core.specs.declared.terms.Head.TheVariants as head
-use Rattle.ae_core.specs.declared.formulas.Formula.{Formula, Eq, Not, Or, Ex}
+use Rattle.ae_core.specs.declared.formulas.Formula.{Formula, True, Eq, Not, Or, Ex}
 use Rattle.ae_core.specs.declared.formulas.Quant.{Quant}
 use Rattle.ae_core.specs.declared.problems.Signature.{Signature}
 use Rattle.ae_core.specs.declared.problems.SymbolEntry.{SymbolEntry}
@@ -128,3 +128,10 @@ instance_line = line.TermInstance some_fixed (constant 0 ∷ [])
 
 abbrev pub instance_story : Story
 instance_story = record { names = []; lines = instance_line ∷ [] }
+
+-- ---- the goal `true`, and a journal that learns what its row says
+abbrev pub true_problem : Problem
+true_problem = record { signature = signature; items = Goal (103 ∷ []) 0 True ∷ [] }
+
+abbrev pub true_story : Story
+true_story = record { names = []; lines = line.Learn (is_true True ∷ []) ∷ [] }

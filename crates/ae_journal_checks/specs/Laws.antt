@@ -3,7 +3,7 @@ use Rattle.std.specs.Prelude.{ℕ, ◌<◌, [], ◌∷◌, ◌≡◌, ◌≢◌}
 use Rattle.ae_core.specs.declared.formulas.Formula.{Formula}
 use Rattle.ae_journal.specs.Journals.{counted_in}
 use Rattle.ae_journal.specs.Legal.{IsLegalLine, AreLegal, IsLegalJournal, setting}
-use Rattle.ae_journal_checks.specs.Examples.{problem, story, longer_story, choice_problem, choice_story, instance_problem, instance_story, instance_line, rule_line}
+use Rattle.ae_journal_checks.specs.Examples.{problem, story, longer_story, choice_problem, choice_story, true_problem, true_story, instance_problem, instance_story, instance_line, rule_line}
 
 -- the journal is legal for each bound, with exactly one counted line
 abbrev pub OneRuleIsLegal : Type 0
@@ -27,3 +27,7 @@ OneDecisionIsLegal = (bound : ℕ) → IsLegalJournal choice_problem 0 bound cho
 -- an instance may come where the bound on generations allows one, and not twice
 abbrev pub OneInstanceMayCome : Type 0
 OneInstanceMayCome = (bound : ℕ) (fresh : Formula → ℕ) → 0 < bound → IsLegalLine (setting instance_problem 0 instance_story fresh) bound [] instance_line
+
+-- a journal of one learnt clause is legal
+abbrev pub OneLearntClauseIsLegal : Type 0
+OneLearntClauseIsLegal = (bound : ℕ) → IsLegalJournal true_problem 0 bound true_story × (counted_in true_story.lines ≡ 1)

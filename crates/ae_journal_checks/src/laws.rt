@@ -1,5 +1,5 @@
 //! Laws of examples.
-ghost use Rattle.ae_journal_checks.specs.Laws.{OneRuleIsLegal, RepeatedRuleIsRefused, NothingIsCounted, FourLinesAreLegal, OneDecisionIsLegal, OneInstanceMayCome};
+ghost use Rattle.ae_journal_checks.specs.Laws.{OneRuleIsLegal, RepeatedRuleIsRefused, NothingIsCounted, FourLinesAreLegal, OneDecisionIsLegal, OneInstanceMayCome, OneLearntClauseIsLegal};
 
 /// A journal of one rule is legal, with one counted line.
 pub fn one_rule_is_legal()
@@ -29,4 +29,9 @@ pub fn one_decision_is_legal()
 /// An instance may come where the bound on generations allows one.
 pub fn one_instance_may_come()
     ensures { OneInstanceMayCome }
+{}
+
+/// A journal of one learnt clause is legal.
+pub fn one_learnt_clause_is_legal()
+    ensures { OneLearntClauseIsLegal }
 {}
