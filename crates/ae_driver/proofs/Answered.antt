@@ -1,219 +1,130 @@
--- A refuted chain is a valid goal of its form's problem.
-use Rattle.std.specs.Prelude.{ℕ, zero, suc, ◌+◌, ◌<◌, ◌≤◌, ◌⊎◌, true, List, [], ◌∷◌, ◌++◌, ◌≡◌, map, length, get_or, take, slice_get, ◌≢◌, Option, Some, None, IfSome, Result, Ok, Err, IfOk}
+-- A refuted chain is a valid goal of its text's problem, and a chain that values tell apart is one that has a saturated state.
+use Rattle.std.specs.Prelude.{ℕ, zero, suc, ◌+◌, ◌<◌, ◌≤◌, ◌⊎◌, Bool, true, false, List, [], ◌∷◌, ◌++◌, ◌≡◌, map, length, get_or, take, slice_get, ◌≢◌, Option, Some, None, IfSome, Result, Ok, Err, IfOk}
 use Rattle.std.specs.List.{AllByRecursion}
 use Rattle.std.proofs.Common.{refl, sym, ap, ◌∙◌, subst, arith, inl, inr, ⊎_elim, append_assoc, append-nil, length-append}
 use Rattle.ae_core.specs.Decided.{Sorts_discrete}
-use Rattle.ae_core.specs.Sorts.{◌>>=◌, or_else, only, known, sort_of, term_ok, is_closed_sort, put_sort, symbol_sort}
-use Rattle.ae_core.specs.Clauses.{no_of}
-use Rattle.ae_core.specs.Derivations.{Derives, goal_body}
-use Rattle.ae_core.proofs.SortLaws.{sort_in_apply, put_named}
+use Rattle.ae_base.specs.Options.{◌>>=◌, or_else, only, known}
+use Rattle.ae_core.specs.Sorts.{sort_of, term_ok, is_closed_sort, symbol_sort}
+use Rattle.ae_core.specs.Putting.{put_sort}
+use Rattle.ae_rules.specs.Clauses.{no_of}
+use Rattle.ae_rules.specs.Derivations.{Derives, goal_body}
+use Rattle.ae_core.proofs.SortLaws.{sort_in_apply}
+use Rattle.ae_core.proofs.PuttingLaws.{put_named}
 use Rattle.ae_core.specs.declared.terms.Term.{Term}
 use Rattle.ae_core.specs.declared.terms.Head.TheVariants.{Symbol}
 use Rattle.ae_core.specs.declared.formulas.Formula.{Formula}
 use Rattle.ae_core.specs.declared.problems.Problem.{Problem}
 use Rattle.ae_core.specs.declared.proofs.Proof.{Proof}
 use Rattle.ae_core.specs.declared.problems.Item.TheVariants.{Axiom, Goal}
-use Rattle.ae_driver.specs.declared.form.Chain.{Chain}
-use Rattle.ae_driver.specs.declared.form.Form.{Form}
+use Rattle.ae_driver.specs.declared.first_text.Chain.{Chain}
+use Rattle.ae_driver.specs.declared.first_text.FirstText.{FirstText}
 use Rattle.ae_driver.specs.declared.search.Named.{Named}
 use Rattle.ae_driver.specs.declared.search.Refutation.{Refutation}
-use Rattle.ae_driver.specs.Form.{IsForm, IsGoal}
-use Rattle.ae_driver.specs.Chains.{constant, chain, symbol_entry, goal_item, signature, problem, the_type, chain_proof}
-use Rattle.ae_driver.specs.Search.{Refutes, IsOpen, block_of}
+use Rattle.ae_driver.specs.Inner.Places.{IsWellPlaced, IsGoalOver}
+use Rattle.ae_driver.specs.Problems.{constant, chain, symbol_entry, goal_item, signature, problem, the_type}
+use Rattle.ae_driver.specs.Inner.ChainProofs.{chain_proof}
+use Rattle.ae_driver.specs.Inner.Search.{Refutes, IsOpen, block_of}
 use Rattle.ae_driver.specs.Texts.{proof_text}
-use Rattle.ae_driver.specs.Bytes.{proof_bytes}
-use Rattle.ae_driver.specs.Values.{numbers_of}
-use Rattle.ae_driver.specs.Truth.{truth}
+use Rattle.ae_driver.specs.Inner.Bytes.{proof_bytes, valid_bytes}
+use Rattle.ae_driver.specs.Inner.Merging.{numbers_of}
 use Rattle.ae_driver.specs.StateTexts.{state_text}
-use Rattle.ae_driver.specs.StateChains.{constants_from, state_of}
-use Rattle.ae_driver.specs.StateBytes.{state_bytes, unknown_bytes}
-use Rattle.ae_driver.specs.States.{alike, IsConstant, IsCompleted, IsSaturated}
-use Rattle.ae_driver.specs.Output.{goal_name, IsValidPart, IsUnknownPart, IsPart, IsPartOf, by_refutation, by_values, AreParts, PartEnds, HasParts, GoalsEnd, RefusalEnds, TextEnds, IsDone, IsFileOf, Reads, IsRefused, by_lexis, by_syntax, by_form, IsRefusedText, IsOutOfMemory, IsCutOff, IsOffered, IsRead, IsTooLong, writes_parts, writes_refusal, valid_bytes}
+use Rattle.ae_driver.specs.Inner.StateChains.{constant_system, state_literals, state_of}
+use Rattle.ae_journal.specs.States.{IsSaturated}
+use Rattle.ae_journal.specs.Evaluate.{is_true_at, unassigned}
+use Rattle.ae_driver.specs.Inner.StateBytes.{state_bytes, unknown_bytes}
+use Rattle.ae_driver.specs.Output.{goal_name, IsValidPart, IsUnknownPart, IsPart, AreParts, IsDone, IsFileOf, Reads, IsRefused, by_lexis, by_syntax, by_form, IsRefusedText, IsOutOfMemory, IsCutOff, IsOffered, IsRead, IsTooLong, writes_parts, writes_refusal}
+use Rattle.ae_driver.specs.Inner.Endings.{IsPartOf, by_refutation, by_values, PartEnds, HasParts, GoalsEnd, RefusalEnds, TextEnds}
 use Rattle.ae_report.specs.declared.refusal.Refusal.{Refusal}
 use Rattle.ae_lex.proofs.Unique.{one_list, never_both as never_both_in_lexis}
 use Rattle.ae_syntax.proofs.FileLaws.{one_tree, never_both}
 use Rattle.ae_syntax.specs.declared.decls.File.{File}
-use Rattle.ae_syntax.specs.Files.{IsParsed, fault_place, lex_fault_place}
-use Rattle.ae_lex.specs.declared.kinds.LexFault.{LexFault}
-use Rattle.ae_lex.specs.declared.kinds.LexFault.TheVariants as lex
-use Rattle.ae_syntax.specs.declared.faults.SyntaxFault.{SyntaxFault}
-use Rattle.ae_syntax.specs.declared.faults.SyntaxFault.TheVariants as syntax
-use Rattle.ae_report.specs.Lines.{IsWithin, lex_refused_at, syntax_refused_at}
-use Rattle.ae_driver.specs.Form.{IsFormOf}
+use Rattle.ae_syntax.specs.Files.{IsParsed}
+use Rattle.ae_driver.specs.FirstTexts.{IsFirstTextOf}
+use Rattle.ae_driver.specs.declared.program.TheConstants.{INPUT_LIMIT}
 use Rattle.ae_driver.specs.declared.program.Status.{Status}
 use Rattle.ae_driver.specs.declared.program.Status.TheVariants as status
 use Rattle.ae_io.specs.Moves.{Written, Lost, Untold, Told, Gets, GetsPrefix, Rose}
 use Rattle.ae_io.proofs.Moves.{gets_then}
-use Rattle.ae_driver.proofs.Propagates.{decided_true}
-use Rattle.ae_driver.proofs.ChainProof.{derives, no_chain}
-use Rattle.ae_driver.proofs.Soundness.{get_map, body_is, sound}
+use Rattle.ae_driver.proofs.ChainProof.{derives}
+use Rattle.ae_driver.proofs.FromModels.{body_is, sound}
 use Rattle.ae_driver.proofs.TextProof.{text_proof}
 use Rattle.ae_driver.proofs.StateTextProof.{text_state}
-use Rattle.ae_driver.proofs.ValueFacts.{IsValues, Same, values_are, hypotheses_same}
-use Rattle.ae_driver.proofs.Saturated.{constant_inj, all_among, first_literal, consistent, equal_sides, apart_sides, goal_is_false, all_named, all_apart}
-
-none_some : {Y : Type 0} {y : Y} → ◌≡◌ {A = Option Y} None (Some y) → ⊥
-none_some e = cc
-
-all_at : {X : Type 0} (P : X → Type 0) (xs : List X) (k : ℕ) (x : X) → AllByRecursion P xs → slice_get xs k ≡ Some x → P x
-all_at P [] k x a e = absurd (none_some e)
-all_at P (y ∷ ys) zero x a e = subst P (ap (λ o. or_else o y) e) a.0
-all_at P (y ∷ ys) (suc k) x a e = all_at P ys k x a.1 e
-
-name_at : (cs : List (List ℕ)) (c : ℕ) → c < length cs → (name : List ℕ) × (slice_get cs c ≡ Some name)
-name_at [] c lt = absurd (omega (arith, lt))
-name_at (x ∷ xs) zero lt = (x, refl)
-name_at (x ∷ xs) (suc c) lt = name_at xs c (omega (arith, lt))
+use Rattle.ae_driver.proofs.MergedValues.{IsValues, Same, values_are, hypotheses_same}
+use Rattle.ae_driver.proofs.ConstantSystems.{constants_fit}
+use Rattle.ae_driver.proofs.Saturated.{saturated}
+use Rattle.ae_driver.proofs.ConstantTruth.{goal_is_false}
+use Rattle.ae_base.proofs.AllOf.{all_at}
+use Rattle.ae_base.proofs.ListFacts.{get_map}
+use Rattle.ae_base.proofs.Options.{never_some}
 
 names_are : (cs : List (List ℕ)) → map (λ e. e.name) (map symbol_entry cs) ≡ cs
 names_are [] = refl
 names_are (c ∷ cs) = ap (λ z. c ∷ z) (names_are cs)
 
-symbol_fits : (name : List ℕ) → symbol_sort [] [] (symbol_entry name) ≡ Some the_type
-symbol_fits name =
-    ap (λ b. only b (Some the_type) >>= λ s. Some (put_sort [] s)) (decided_true (Sorts_discrete [] []) refl)
-    ∙ ap Some (put_named [] 0 [])
-
-module _ (f : Form) where
-  constants_fit : (c : ℕ) → c < length f.constants → sort_of (signature f) (constant c) ≡ Some the_type
-  constants_fit c lt =
-      let n = name_at f.constants c lt in
-      sort_in_apply (signature f) (is_closed_sort (signature f)) [] (Symbol c) [] []
-      ∙ ap (λ o. o >>= symbol_sort [] []) (get_map symbol_entry f.constants c n.0 n.1)
-      ∙ symbol_fits n.0
-
+module _ (f : FirstText) where
   name_is : (k : ℕ) (g : Chain) → slice_get f.goals k ≡ Some g → goal_name (problem f) k ≡ Some g.name
   name_is k g e = ap (λ o. o >>= λ i. elim i [ Axiom n v b ↦ None | Goal n v b ↦ Some n ]) (get_map goal_item f.goals k g e)
 
   body_of : (k : ℕ) (g : Chain) (b : Formula) → slice_get f.goals k ≡ Some g → goal_body (problem f) k ≡ Some b → chain g.hyps g.last ≡ b
   body_of k g b e h = ap (λ o. or_else o (chain g.hyps g.last)) (sym (body_is f k g e) ∙ h)
 
-  -- the items are goals, so no axiom is among them
-  no_axiom : (gs : List Chain) (i : ℕ) (name : List ℕ) (b : Formula) → slice_get (map goal_item gs) i ≡ Some (Axiom name 0 b) → ⊥
-  no_axiom [] i name b e = none_some e
-  no_axiom (g ∷ gs) zero name b e = goal_is_no_axiom (ap (λ o. or_else o (goal_item g)) e)
-    where
-      goal_is_no_axiom : goal_item g ≡ Axiom name 0 b → ⊥
-      goal_is_no_axiom h = cc
-  no_axiom (g ∷ gs) (suc i) name b e = no_axiom gs i name b e
-
   -- the part of a goal that is refuted
-  valid_part : (k : ℕ) (g : Chain) (r : Refutation) → IsForm f → slice_get f.goals k ≡ Some g → Refutes (length f.constants) g.hyps g.last r
+  valid_part : (k : ℕ) (g : Chain) (r : Refutation) → IsWellPlaced f → slice_get f.goals k ≡ Some g → Refutes (length f.constants) g.hyps g.last r
       → IsValidPart (problem f) k (valid_bytes f.constants g r)
   valid_part k g r is e h =
-      let ok : IsGoal (length f.constants) g = all_at (IsGoal (length f.constants)) f.goals k g is.goals e in
+      let ok : IsGoalOver (length f.constants) g = all_at (IsGoalOver (length f.constants)) f.goals k g is.goals e in
       record {
         name = g.name;
         is_name = name_is k g e;
         proof = chain_proof g.hyps g.last (block_of g.hyps r);
-        derives = derives (problem f) k (length f.constants) the_type g.hyps g.last constants_fit (body_is f k g e) r ok.hyps ok.last h;
+        derives = derives (problem f) k (length f.constants) the_type g.hyps g.last (constants_fit f) (body_is f k g e) r ok.hyps ok.last h;
         text = proof_bytes f.constants g.hyps g.last r;
         is_text = ap (λ n. proof_text n (chain_proof g.hyps g.last (block_of g.hyps r))) (names_are f.constants) ∙ text_proof f.constants g.hyps g.last r ok.hyps ok.last h;
         written = refl;
       }
 
-  -- ---- the system of the constants
-  get_constants : (n k i : ℕ) (t : Term) → slice_get (constants_from k n) i ≡ Some t → (i < n) × (t ≡ constant (k + i))
-  get_constants zero k i t e = absurd (none_some e)
-  get_constants (suc n) k zero t e = (omega arith, sym (ap (λ o. or_else o (constant k)) e) ∙ ap constant (let h : k ≡ k + 0 = omega arith in h))
-  get_constants (suc n) k (suc i) t e =
-      let r = get_constants n (k + 1) i t e in (omega (arith, r.0), r.1 ∙ ap constant (let h : (k + 1) + i ≡ k + suc i = omega arith in h))
-
-  constants_ok : (n k : ℕ) → k + n ≤ length f.constants → AllByRecursion (λ t. term_ok (signature f) t ≡ true) (constants_from k n)
-  constants_ok zero k le = tt
-  constants_ok (suc n) k le = (ap known (constants_fit k (omega (arith, le))), constants_ok n (k + 1) (omega (arith, le)))
-
-  constants_plain : (n k : ℕ) → AllByRecursion IsConstant (constants_from k n)
-  constants_plain zero k = tt
-  constants_plain (suc n) k = (record { head = Symbol k; sorts = []; is = refl }, constants_plain n (k + 1))
-
-  length_constants : (n k : ℕ) → length (constants_from k n) ≡ n
-  length_constants zero k = refl
-  length_constants (suc n) k = ap (λ m. suc m) (length_constants n (k + 1))
-
-  get_within : (vs : List ℕ) (k v : ℕ) → slice_get vs k ≡ Some v → (k < length vs) × (get_or vs k 0 ≡ v)
-  get_within [] k v e = absurd (none_some e)
-  get_within (x ∷ vs) zero v e = (omega arith, ap (λ o. or_else o x) e)
-  get_within (x ∷ vs) (suc k) v e = let r = get_within vs k v e in (omega (arith, r.0), r.1)
-
-  get_some : (vs : List ℕ) (k : ℕ) → k < length vs → slice_get vs k ≡ Some (get_or vs k 0)
-  get_some [] k lt = absurd (omega (arith, lt))
-  get_some (x ∷ vs) zero lt = refl
-  get_some (x ∷ vs) (suc k) lt = get_some vs k (omega (arith, lt))
-
-  leaf_values : (n : ℕ) (vs : List ℕ) → IsValues n vs → (k v : ℕ) → slice_get vs k ≡ Some v → slice_get vs v ≡ Some v
-  leaf_values n vs is k v e =
-      let r = get_within vs k v e in
-      let lt : k < n = subst (λ m. k < m) is.count r.0 in
-      let within : v < n = subst (λ u. u < n) r.1 (is.within k lt) in
-      let leaf : get_or vs v 0 ≡ v = subst (λ u. get_or vs u 0 ≡ u) r.1 (is.leaf k lt) in
-      get_some vs v (subst (λ m. v < m) (sym is.count) within) ∙ ap Some leaf
-
-  pub completed : (vs : List ℕ) → IsValues (length f.constants) vs → IsCompleted (signature f) (record { names = constants_from 0 (length f.constants); values = vs })
-  completed vs is =
-      let n = length f.constants in
-      let number : (i : ℕ) (t : Term) → slice_get (constants_from 0 n) i ≡ Some t → (i < n) × (t ≡ constant i) =
-      λ i t e. let r = get_constants n 0 i t e in (r.0, r.1 ∙ ap constant (let h : 0 + i ≡ i = omega arith in h)) in
-      record {
-        counted = is.count ∙ sym (length_constants n 0);
-        well_sorted = constants_ok n 0 (omega arith);
-        different = λ i j t e h. constant_inj i j (sym (number i t e).1 ∙ (number j t h).1);
-        constants = constants_plain n 0;
-        leaves = all_among (λ v. slice_get vs v ≡ Some v) vs (leaf_values n vs is);
-        sorts = λ k v t u e a b.
-            let x = number k t a in
-            let y = number v u b in
-            ap (sort_of (signature f)) x.1 ∙ constants_fit k x.0 ∙ sym (ap (sort_of (signature f)) y.1 ∙ constants_fit v y.0);
-      }
-
   -- the state of a goal whose sides have different values
-  pub saturated : (k : ℕ) (g : Chain) (vs : List Named) → IsForm f → slice_get f.goals k ≡ Some g → IsOpen (length f.constants) g.hyps g.last vs
-      → IsSaturated (problem f) k (state_of (length f.constants) g.hyps g.last (numbers_of vs))
-  saturated k g vs is e open_values =
-      let n = length f.constants in
-      let ok : IsGoal n g = all_at (IsGoal n) f.goals k g is.goals e in
-      let values : IsValues n (numbers_of vs) = subst (IsValues n) (sym open_values.numbers) (values_are n g.hyps ok.hyps) in
-      let same : AllByRecursion (Same (numbers_of vs)) g.hyps = subst (λ z. AllByRecursion (Same z) g.hyps) (sym open_values.numbers) (hypotheses_same n g.hyps ok.hyps) in
-      record {
-        completed = completed (numbers_of vs) values;
-        named = all_named n g.hyps g.last (numbers_of vs) ok.hyps ok.last values same open_values.apart;
-        consistent = consistent n g.hyps g.last (numbers_of vs) ok.hyps ok.last values same open_values.apart;
-        hypotheses = λ i name b lt h. absurd (no_axiom f.goals i name b h);
-        goal = λ b h. (0, first_literal g.hyps g.last ∙ ap Some (sym (no_chain g.hyps g.last) ∙ ap no_of (body_of k g b e h)));
-        taken_apart = all_apart n g.hyps g.last (numbers_of vs) ok.hyps ok.last values same open_values.apart;
-        equal = equal_sides n g.hyps g.last (numbers_of vs) ok.hyps ok.last values same open_values.apart;
-        apart = apart_sides n g.hyps g.last (numbers_of vs) ok.hyps ok.last values same open_values.apart;
-        goal_false = λ b h. ap (truth (alike (record { names = constants_from 0 n; values = numbers_of vs }))) (sym (body_of k g b e h)) ∙ goal_is_false n g.hyps g.last (numbers_of vs) ok.hyps ok.last values same open_values.apart;
-      }
+  module _ (k : ℕ) (g : Chain) (vs : List Named) (is : IsWellPlaced f) (e : slice_get f.goals k ≡ Some g) (open_values : IsOpen (length f.constants) g.hyps g.last vs) where
+    abbrev n : ℕ
+    n = length f.constants
 
-  -- these values of constants are as the hypotheses say, and tell the sides of the last equation apart
-  none_derive : (k : ℕ) (g : Chain) (vs : List Named) → IsForm f → slice_get f.goals k ≡ Some g → IsOpen (length f.constants) g.hyps g.last vs → (proof : Proof) → Derives (problem f) k proof → ⊥
-  none_derive k g vs is e open_values proof derives =
-      let n = length f.constants in
-      let ok : IsGoal n g = all_at (IsGoal n) f.goals k g is.goals e in
-      let same : AllByRecursion (Same (numbers_of vs)) g.hyps = subst (λ z. AllByRecursion (Same z) g.hyps) (sym open_values.numbers) (hypotheses_same n g.hyps ok.hyps) in
-      open_values.apart (sound f k g proof (λ c. get_or (numbers_of vs) c 0) derives e same)
+    ok : IsGoalOver n g
+    ok = all_at (IsGoalOver n) f.goals k g is.goals e
 
-  unknown_part : (k : ℕ) (g : Chain) (vs : List Named) → IsForm f → slice_get f.goals k ≡ Some g → IsOpen (length f.constants) g.hyps g.last vs
-      → IsUnknownPart (problem f) k (unknown_bytes f.constants g vs)
-  unknown_part k g vs is e open_values =
-      let n = length f.constants in
-      let ok : IsGoal n g = all_at (IsGoal n) f.goals k g is.goals e in
-      let state = state_of n g.hyps g.last (numbers_of vs) in
-      let sat = saturated k g vs is e open_values in
-      record {
-        name = g.name;
-        is_name = name_is k g e;
-        state = state;
-        saturated = sat;
-        none_derives = λ proof d. none_derive k g vs is e open_values proof d;
-        text = state_bytes f.constants g.hyps g.last vs;
-        is_text = ap (λ m. state_text m state) (names_are f.constants) ∙ text_state f.constants g.hyps g.last vs ok.hyps ok.last;
-        written = refl;
-      }
+    values : IsValues n (numbers_of vs)
+    values = subst (IsValues n) (sym open_values.numbers) (values_are n g.hyps ok.hyps)
+
+    same : AllByRecursion (Same (numbers_of vs)) g.hyps
+    same = subst (λ z. AllByRecursion (Same z) g.hyps) (sym open_values.numbers) (hypotheses_same n g.hyps ok.hyps)
+
+    saturated_here : (bound : ℕ) → IsSaturated (problem f) k (state_of n g.hyps g.last (numbers_of vs)) bound
+    saturated_here = saturated f k g (numbers_of vs) values (λ b h. body_of k g b e h) ok.hyps ok.last same open_values.apart
+
+    false_here : (way : Bool) (b : Formula) → goal_body (problem f) k ≡ Some b
+        → is_true_at (signature f) (constant_system n (numbers_of vs)) way unassigned (state_literals g.hyps g.last) b ≡ false
+    false_here way b h =
+        ap (is_true_at (signature f) (constant_system n (numbers_of vs)) way unassigned (state_literals g.hyps g.last)) (sym (body_of k g b e h))
+        ∙ goal_is_false f (numbers_of vs) values way (state_literals g.hyps g.last) g.last ok.last open_values.apart g.hyps ok.hyps same
+
+    -- these values of constants are as the hypotheses say, and tell the sides of the last equation apart
+    none_derive : (proof : Proof) → Derives (problem f) k proof → ⊥
+    none_derive proof derives = open_values.apart (sound f k g proof (λ c. get_or (numbers_of vs) c 0) derives e same)
+
+    unknown_part : IsUnknownPart (problem f) k (unknown_bytes f.constants g vs)
+    unknown_part = record {
+      name = g.name;
+      is_name = name_is k g e;
+      state = state_of n g.hyps g.last (numbers_of vs);
+      saturated = saturated_here;
+      goal_false = false_here;
+      none_derives = none_derive;
+      text = state_bytes f.constants g.hyps g.last vs;
+      is_text = ap (λ m. state_text m (state_of n g.hyps g.last (numbers_of vs))) (names_are f.constants) ∙ text_state f.constants g.hyps g.last vs ok.hyps ok.last;
+      written = refl;
+    }
 
   -- the part of a goal
-  pub goal_is_part : (k : ℕ) (g : Chain) (part : List ℕ) → IsForm f → slice_get f.goals k ≡ Some g → IsPartOf f.constants g part → IsPart (problem f) k part
+  pub goal_is_part : (k : ℕ) (g : Chain) (part : List ℕ) → IsWellPlaced f → slice_get f.goals k ≡ Some g → IsPartOf f.constants g part → IsPart (problem f) k part
   goal_is_part k g part is e (by_refutation r h are) = inl (subst (IsValidPart (problem f) k) (sym are) (valid_part k g r is e h))
   goal_is_part k g part is e (by_values vs h are) = inr (subst (IsUnknownPart (problem f) k) (sym are) (unknown_part k g vs is e h))
 
@@ -239,7 +150,7 @@ gets_nothing Lost = tt
 gets_nothing Untold = tt
 gets_nothing (Told xs) = sym (append-nil xs)
 
-module _ (f : Form) (is : IsForm f) where
+module _ (f : FirstText) (is : IsWellPlaced f) where
   pub nothing_yet : (a : Written) → HasParts f 0 a a
   nothing_yet a = record { bytes = []; parts = refl; written = gets_nothing a }
 
@@ -282,11 +193,11 @@ cut_off_is left text a c r (bytes, may, got) =
 pub no_memory_yet : (left : Option (List ℕ)) (a : Written) → IsOutOfMemory left a a
 no_memory_yet left a = record { bytes = []; begun = inl refl; written = gets_nothing a }
 
-pub is_read : (left : Option (List ℕ)) (text : List ℕ) → IfSome left (λ xs. text ≡ xs) → length text ≤ 16777216 → IsRead left text
+pub is_read : (left : Option (List ℕ)) (text : List ℕ) → IfSome left (λ xs. text ≡ xs) → length text ≤ INPUT_LIMIT → IsRead left text
 is_read None text told le = record { told = tt; within = le }
 is_read (Some xs) text told le = record { told = sym told; within = le }
 
-pub is_too_long : (left : Option (List ℕ)) → IfSome left (λ xs. 16777216 < length xs) → IsTooLong left
+pub is_too_long : (left : Option (List ℕ)) → IfSome left (λ xs. INPUT_LIMIT < length xs) → IsTooLong left
 is_too_long None h = tt
 is_too_long (Some xs) h = h
 
@@ -310,7 +221,7 @@ item_at xs ys i x e lt same = (subst (λ zs. slice_get zs i ≡ Some x) same (go
 
 -- a text that was told
 told_is : (left : Option (List ℕ)) (text told : List ℕ) → left ≡ Some told → IfSome left (λ xs. text ≡ xs) → text ≡ told
-told_is None text told e h = absurd (none_some e)
+told_is None text told e h = absurd (never_some _ e)
 told_is (Some xs) text told e h = h ∙ ap (λ o. or_else o xs) e
 
 -- how a refusal ends a text's answer
@@ -325,38 +236,25 @@ refusal_ends text why a c status.Usage r e = absurd e
 pub nothing_written : (text : List ℕ) (a : Written) → TextEnds text a a status.Memory
 nothing_written text a = ([], inl refl, gets_nothing a)
 
-pub lexis_place : (text : List ℕ) (f : LexFault) → lex_fault_place f ≤ length text → IsWithin text (lex_refused_at f)
-lexis_place text (lex.BadByte at) le = le
-lexis_place text (lex.OpenComment at) le = le
-lexis_place text (lex.WideLiteral at) le = le
-lexis_place text (lex.OutsideProfile at) le = le
-lexis_place text lex.Memory le = tt
-
-pub syntax_place : (text : List ℕ) (f : SyntaxFault) → fault_place f ≤ length text → IsWithin text (syntax_refused_at f)
-syntax_place text (syntax.Unexpected at) le = le
-syntax_place text (syntax.TooDeep at) le = le
-syntax_place text (syntax.OutsideProfile at) le = le
-syntax_place text syntax.Memory le = tt
-
--- a text of the form isn't refused
+-- a first text isn't refused
 file_one : (text : List ℕ) (f g : File) → IsFileOf text f → IsFileOf text g → f ≡ g
 file_one text f g p q = one_tree p.tokens f g p.parsed (subst (λ ts. IsParsed ts g) (one_list text q.tokens p.tokens q.tokenized p.tokenized) q.parsed)
 
-not_refused : (text : List ℕ) (form : Form) (why : Refusal) → Reads text form → IsRefused text why → ⊥
-not_refused text form why r (by_lexis f h) = never_both_in_lexis text r.is_file.tokens f r.is_file.tokenized h
-not_refused text form why r (by_syntax ts f t h) = never_both text ts r.file f (subst (λ us. IsParsed us r.file) (one_list text r.is_file.tokens ts r.is_file.tokenized t) r.is_file.parsed) h
-not_refused text form why r (by_form file h none) = none form (subst (λ g. IsFormOf text g form) (file_one text r.file file r.is_file h) r.is_form)
+not_refused : (text : List ℕ) (first : FirstText) (why : Refusal) → Reads text first → IsRefused text why → ⊥
+not_refused text first why r (by_lexis f h) = never_both_in_lexis text r.is_file.tokens f r.is_file.tokenized h
+not_refused text first why r (by_syntax ts f t h) = never_both text ts r.file f (subst (λ us. IsParsed us r.file) (one_list text r.is_file.tokens ts r.is_file.tokenized t) r.is_file.parsed) h
+not_refused text first why r (by_form file h none) = none first (subst (λ g. IsFirstTextOf text g first) (file_one text r.file file r.is_file h) r.is_first)
 
--- a text of the form is answered where no write fails
+-- a first text is answered where no write fails
 pub complete_is : (left : Option (List ℕ)) (text : List ℕ) (a c : Written) (s : Status) (R : Type 0) → IsOffered left → IfSome left (λ xs. text ≡ xs) → TextEnds text a c s → (s ≡ status.WriteFault → R) → ¬ R
     → (s ≡ status.Done) ⊎ (s ≡ status.Memory)
 complete_is left text a c status.Done R o h e f n = inl refl
 complete_is left text a c status.Memory R o h e f n = inr refl
 complete_is left text a c status.WriteFault R o h e f n = absurd (n (f refl))
-complete_is left text a c status.Refused R o h (why, refused, rest) f n = absurd (not_refused text o.form why (subst (λ t. Reads t o.form) (sym (told_is left text o.text o.told h)) o.reads) refused)
+complete_is left text a c status.Refused R o h (why, refused, rest) f n = absurd (not_refused text o.first why (subst (λ t. Reads t o.first) (sym (told_is left text o.text o.told h)) o.reads) refused)
 complete_is left text a c status.ReadFault R o h e f n = absurd e
 complete_is left text a c status.Usage R o h e f n = absurd e
 
 -- no text within the limit is too long
-pub not_too_long : (left : Option (List ℕ)) → IsOffered left → IfSome left (λ xs. 16777216 < length xs) → ⊥
-not_too_long left o h = absurd (omega (arith, o.within, subst (λ z. IfSome z (λ xs. 16777216 < length xs)) o.told h))
+pub not_too_long : (left : Option (List ℕ)) → IsOffered left → IfSome left (λ xs. INPUT_LIMIT < length xs) → ⊥
+not_too_long left o h = absurd (omega (arith, o.within, subst (λ z. IfSome z (λ xs. INPUT_LIMIT < length xs)) o.told h))

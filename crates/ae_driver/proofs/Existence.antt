@@ -1,31 +1,35 @@
--- Each goal of a form has a part, whatever a search finds: so the parts of the first goals are always the front of a legal output.
+-- Each goal of a first text has a part, whatever a search finds: so the parts of the first goals are always the front of a legal output.
 use Rattle.std.specs.Prelude.{◌≡◌, ◌≢◌, ℕ, zero, suc, ◌+◌, ◌<◌, ◌≤◌, cond, min, max, List, [], ◌∷◌, ◌++◌, map, length, get_or, slice_get, Some, None}
 use Rattle.std.specs.List.{AllByRecursion}
 use Rattle.std.proofs.Common.{refl, sym, ap, ◌∙◌, subst, arith, ⊎_elim, inl, inr, append_assoc}
 use Rattle.std.proofs.lemmas.Bool.Decides.{eqb_tells}
-use Rattle.ae_core.specs.Lines.{equal, states, Stated, Allowed}
+use Rattle.ae_rules.specs.Lines.{equal, states, Stated, Allowed}
 use Rattle.ae_core.specs.declared.formulas.Lit.{Lit}
 use Rattle.ae_core.specs.declared.proofs.EqLine.{EqLine}
 use Rattle.ae_core.specs.declared.proofs.EqLine.TheVariants.{EqHyp, EqRefl, EqSym, EqTrans}
-use Rattle.ae_driver.specs.declared.form.Equation.{Equation}
-use Rattle.ae_driver.specs.declared.form.Chain.{Chain}
-use Rattle.ae_driver.specs.declared.form.Form.{Form}
+use Rattle.ae_driver.specs.declared.first_text.Equation.{Equation}
+use Rattle.ae_driver.specs.declared.first_text.Chain.{Chain}
+use Rattle.ae_driver.specs.declared.first_text.FirstText.{FirstText}
 use Rattle.ae_driver.specs.declared.search.Named.{Named}
 use Rattle.ae_driver.specs.declared.search.Refutation.{Refutation}
-use Rattle.ae_driver.specs.Form.{IsForm, IsGoal, IsWithin}
-use Rattle.ae_driver.specs.Chains.{constant, assumed, problem}
-use Rattle.ae_driver.specs.Search.{IsStep, IsDerivation, Refutes, IsOpen, no_signature}
-use Rattle.ae_driver.specs.Values.{from, merged, values_after, numbers_of}
-use Rattle.ae_driver.specs.StateBytes.{unknown_bytes}
-use Rattle.ae_driver.specs.Output.{Reads, IsPart, by_refutation, by_values, AreParts, IsBegun, GoalsEnd, TextEnds, valid_bytes}
-use Rattle.ae_driver.proofs.Reading.{is_form}
+use Rattle.ae_driver.specs.Inner.Places.{IsWellPlaced, IsGoalOver, IsEquationOver}
+use Rattle.ae_driver.specs.Problems.{constant, problem}
+use Rattle.ae_driver.specs.Inner.ChainProofs.{assumed}
+use Rattle.ae_driver.specs.Inner.Search.{IsStep, IsDerivation, Refutes, IsOpen, no_signature}
+use Rattle.ae_driver.specs.Inner.Merging.{from, merged, values_after, numbers_of}
+use Rattle.ae_driver.specs.Inner.StateBytes.{unknown_bytes}
+use Rattle.ae_driver.specs.Output.{Reads, IsPart, AreParts, IsBegun}
+use Rattle.ae_driver.specs.Inner.Endings.{by_refutation, by_values, GoalsEnd, TextEnds}
+use Rattle.ae_driver.specs.Inner.Bytes.{valid_bytes}
+use Rattle.ae_driver.proofs.Reading.{well_placed}
 use Rattle.ae_core.specs.declared.problems.Problem.{Problem}
 use Rattle.ae_io.specs.Moves.{Written}
 use Rattle.ae_driver.specs.declared.program.Status.{Status}
 use Rattle.ae_driver.specs.declared.program.Status.TheVariants as status
-use Rattle.ae_driver.proofs.Growing.{push, stated_more, stated_last, each_assumed}
-use Rattle.ae_driver.proofs.ValueFacts.{IsValues, by_order, first_are, values_are, get_first, merged_are, merged_at}
+use Rattle.ae_driver.proofs.Growing.{push, stated_last, each_assumed}
+use Rattle.ae_driver.proofs.MergedValues.{IsValues, by_order, first_are, values_are, get_first, merged_are, merged_at}
 use Rattle.ae_driver.proofs.Answered.{goal_is_part}
+use Rattle.ae_rules.proofs.Written.{stated_before}
 
 -- ---- equations that lines show
 -- more lines lead to one that equates two constants
@@ -75,12 +79,12 @@ module _ (n : ℕ) (es : List Equation) (g : Equation) where
       from_before n (assumed es g) lines s.more c d
       (from_before n (assumed es g) (lines ++ s.more) t.more c d
       (one_line n (assumed es g) ((lines ++ s.more) ++ t.more) (EqTrans (constant c) (constant d) s.at t.at) c d t.all lc ld refl tt
-      (constant m, stated_more (lines ++ s.more) t.more s.at (equal (constant c) (constant m)) s.is, t.is)))
+      (constant m, stated_before (lines ++ s.more) t.more s.at (equal (constant c) (constant m)) s.is, t.is)))
 
   Explained : List ℕ → Type 0
   Explained vs = (k : ℕ) → k < n → Equals (get_or vs k 0) k
 
-  step : (vs : List ℕ) (e : Equation) → IsValues n vs → IsWithin n e → Equals e.left e.right → Explained vs → Explained (merged vs e)
+  step : (vs : List ℕ) (e : Equation) → IsValues n vs → IsEquationOver n e → Equals e.left e.right → Explained vs → Explained (merged vs e)
   unfolding Explained
   step vs e is w h x k lt =
       let a = get_or vs e.left 0 in
@@ -103,7 +107,7 @@ module _ (n : ℕ) (es : List Equation) (g : Equation) where
       (eqb_tells v l))
 
   -- each hypothesis follows
-  given : (hs : List Equation) (k : ℕ) → ((i : ℕ) (e : Equation) → slice_get hs i ≡ Some e → slice_get es (k + i) ≡ Some e) → AllByRecursion (IsWithin n) hs → AllByRecursion (λ e. Equals e.left e.right) hs
+  given : (hs : List Equation) (k : ℕ) → ((i : ℕ) (e : Equation) → slice_get hs i ≡ Some e → slice_get es (k + i) ≡ Some e) → AllByRecursion (IsEquationOver n) hs → AllByRecursion (λ e. Equals e.left e.right) hs
   unfolding Equals
   given [] k at ws = tt
   given (e ∷ hs) k at ws = (
@@ -113,7 +117,7 @@ module _ (n : ℕ) (es : List Equation) (g : Equation) where
     given hs (k + 1) (λ i d h. subst (λ j. slice_get es j ≡ Some d) (let z : k + suc i ≡ k + 1 + i = omega arith in z) (at (suc i) d h)) ws.1,
   )
 
-  explained : (vs : List ℕ) (hs : List Equation) → IsValues n vs → AllByRecursion (IsWithin n) hs → AllByRecursion (λ e. Equals e.left e.right) hs → Explained vs → Explained (values_after vs hs)
+  explained : (vs : List ℕ) (hs : List Equation) → IsValues n vs → AllByRecursion (IsEquationOver n) hs → AllByRecursion (λ e. Equals e.left e.right) hs → Explained vs → Explained (values_after vs hs)
   explained vs [] is ws hold x = x
   explained vs (e ∷ hs) is ws hold x = explained (merged vs e) hs (merged_are n vs is e ws.0) ws.1 hold.1 (step vs e is ws.0 hold.0 x)
 
@@ -132,7 +136,7 @@ module _ (n : ℕ) (es : List Equation) (g : Equation) where
       )
 
   -- a refutation, where the values of the two sides of the end are equal
-  refuted : AllByRecursion (IsWithin n) es → IsWithin n g → get_or (values_after (from 0 n) es) g.left 0 ≡ get_or (values_after (from 0 n) es) g.right 0 → (r : Refutation) × Refutes n es g r
+  refuted : AllByRecursion (IsEquationOver n) es → IsEquationOver n g → get_or (values_after (from 0 n) es) g.left 0 ≡ get_or (values_after (from 0 n) es) g.right 0 → (r : Refutation) × Refutes n es g r
   unfolding Explained Equals
   refuted ws w same =
       let x = explained (from 0 n) es (first_are n) ws (given es 0 (λ i e h. subst (λ j. slice_get es j ≡ Some e) (let z : i ≡ 0 + i = omega arith in z) h) ws) at_first in
@@ -166,8 +170,8 @@ parts_append p k (suc m) n xs ys (first, rest, cut, one, more) b =
       parts_append p (suc k) m n rest ys more (subst (λ j. AreParts p j n ys) (let z : k + suc m ≡ suc k + m = omega arith in z) b),
     )
 
-module _ (f : Form) (is : IsForm f) where
-  some_part : (k : ℕ) (g : Chain) → slice_get f.goals k ≡ Some g → IsGoal (length f.constants) g → (part : List ℕ) × IsPart (problem f) k part
+module _ (f : FirstText) (is : IsWellPlaced f) where
+  some_part : (k : ℕ) (g : Chain) → slice_get f.goals k ≡ Some g → IsGoalOver (length f.constants) g → (part : List ℕ) × IsPart (problem f) k part
   some_part k g e ok =
       let n = length f.constants in
       let vs = values_after (from 0 n) g.hyps in
@@ -181,7 +185,7 @@ module _ (f : Form) (is : IsForm f) where
       (unknown_bytes f.constants g (named_values vs), goal_is_part f k g _ is e (by_values (named_values vs) open_values refl)))
       (eqb_tells (get_or vs g.last.left 0) (get_or vs g.last.right 0))
 
-  rest_parts : (gs : List Chain) (k : ℕ) → ((i : ℕ) (g : Chain) → slice_get gs i ≡ Some g → slice_get f.goals (k + i) ≡ Some g) → AllByRecursion (IsGoal (length f.constants)) gs
+  rest_parts : (gs : List Chain) (k : ℕ) → ((i : ℕ) (g : Chain) → slice_get gs i ≡ Some g → slice_get f.goals (k + i) ≡ Some g) → AllByRecursion (IsGoalOver (length f.constants)) gs
       → (bytes : List ℕ) × AreParts (problem f) k (length gs) bytes
   rest_parts [] k at ok = ([], refl)
   rest_parts (g ∷ gs) k at ok =
@@ -189,7 +193,7 @@ module _ (f : Form) (is : IsForm f) where
       let more = rest_parts gs (suc k) (λ i d h. subst (λ j. slice_get f.goals j ≡ Some d) (let z : k + suc i ≡ suc k + i = omega arith in z) (at (suc i) d h)) ok.1 in
       (one.0 ++ more.0, (one.0, more.0, refl, one.1, more.1))
 
-  rest_from : (gs : List Chain) (m : ℕ) → m ≤ length gs → (k : ℕ) → ((i : ℕ) (g : Chain) → slice_get gs i ≡ Some g → slice_get f.goals (k + i) ≡ Some g) → AllByRecursion (IsGoal (length f.constants)) gs
+  rest_from : (gs : List Chain) (m : ℕ) → m ≤ length gs → (k : ℕ) → ((i : ℕ) (g : Chain) → slice_get gs i ≡ Some g → slice_get f.goals (k + i) ≡ Some g) → AllByRecursion (IsGoalOver (length f.constants)) gs
       → (n : ℕ) × (m + n ≡ length gs) × (bytes : List ℕ) × AreParts (problem f) (k + m) n bytes
   rest_from gs zero le k at ok =
       let r = rest_parts gs k at ok in (length gs, omega arith, r.0, subst (λ j. AreParts (problem f) j (length gs) r.0) (let z : k ≡ k + 0 = omega arith in z) r.1)
@@ -204,14 +208,14 @@ module _ (f : Form) (is : IsForm f) where
       let r = rest_from f.goals m le 0 (λ i g h. subst (λ j. slice_get f.goals j ≡ Some g) (let z : i ≡ 0 + i = omega arith in z) h) is.goals in
       (r.2, subst (λ n. AreParts (problem f) 0 n (bytes ++ r.2)) r.1 (parts_append (problem f) 0 m r.0 bytes r.2 parts r.3))
 
-begun : (text : List ℕ) (f : Form) (count : ℕ) (bytes : List ℕ) → Reads text f → count ≤ length f.goals → AreParts (problem f) 0 count bytes → IsBegun text bytes
+begun : (text : List ℕ) (f : FirstText) (count : ℕ) (bytes : List ℕ) → Reads text f → count ≤ length f.goals → AreParts (problem f) 0 count bytes → IsBegun text bytes
 begun text f count bytes reads le parts =
-    let r = goes_on f (is_form text reads.file f reads.is_form) count bytes le parts in
-    record { form = f; reads = reads; count = count; at_most = le; parts = parts; rest = r.0; legal = record { form = f; reads = reads; parts = r.1 } }
+    let r = goes_on f (well_placed text reads.file f reads.is_first) count bytes le parts in
+    record { first = f; reads = reads; count = count; at_most = le; parts = parts; rest = r.0; legal = record { first = f; reads = reads; parts = r.1 } }
 
--- the goals of a form that a text has
-pub text_ends : (text : List ℕ) (f : Form) (a c : Written) (s : Status) → Reads text f → GoalsEnd f a c s → TextEnds text a c s
-text_ends text f a c status.Done reads e = (e.bytes, record { form = f; reads = reads; parts = e.parts }, e.written)
+-- the goals of a first text
+pub text_ends : (text : List ℕ) (f : FirstText) (a c : Written) (s : Status) → Reads text f → GoalsEnd f a c s → TextEnds text a c s
+text_ends text f a c status.Done reads e = (e.bytes, record { first = f; reads = reads; parts = e.parts }, e.written)
 text_ends text f a c status.WriteFault reads (k, le, h) = (h.bytes, inl (begun text f k h.bytes reads le h.parts), h.written)
 text_ends text f a c status.Memory reads (k, le, h) = (h.bytes, inr (begun text f k h.bytes reads le h.parts), h.written)
 text_ends text f a c status.Refused reads e = absurd e

@@ -10,49 +10,30 @@ use Rattle.std.proofs.lemmas.Bool.{cases_lt}
 use Rattle.std.proofs.lemmas.Bool.Decides.{eqb_tells}
 use Rattle.std.proofs.lemmas.List.{get_or-set_other, length-set}
 use Rattle.std.proofs.lemmas.Grind.{get_or-set_at}
-use Rattle.ae_core.specs.Clauses.{is_true, is_false}
-use Rattle.ae_core.specs.Lines.{Fact, equal, states, Stated, Allowed}
-use Rattle.ae_core.proofs.Written.{all_append}
+use Rattle.ae_rules.specs.Clauses.{is_true, is_false}
+use Rattle.ae_rules.specs.Lines.{Fact, equal, states, Stated, Allowed}
+use Rattle.ae_rules.proofs.Written.{all_append, stated_before}
 use Rattle.ae_core.specs.declared.formulas.Lit.{Lit}
 use Rattle.ae_core.specs.declared.proofs.EqLine.{EqLine}
-use Rattle.ae_core.specs.Sorts.{◌>>=◌}
-use Rattle.ae_driver.specs.Chains.{constant, equation, assumed}
-use Rattle.ae_driver.specs.declared.form.Equation.{Equation}
+use Rattle.ae_base.specs.Options.{◌>>=◌}
+use Rattle.ae_driver.specs.Problems.{constant, equation}
+use Rattle.ae_driver.specs.Inner.ChainProofs.{assumed}
+use Rattle.ae_driver.specs.declared.first_text.Equation.{Equation}
 use Rattle.ae_driver.specs.declared.search.Named.{Named}
-use Rattle.ae_driver.specs.Search.{Known, At, Holds, HoldsBy, Grows, IsValue, Valued, OfConstants, IsDerivation, no_signature, any}
+use Rattle.ae_driver.specs.Inner.Search.{Known, At, Holds, HoldsBy, Grows, IsValue, Valued, OfConstants, IsDerivation, no_signature, any}
+use Rattle.ae_base.proofs.AllOf.{all_push}
+use Rattle.ae_base.proofs.ListFacts.{get_append, get_seam}
+use Rattle.ae_base.proofs.Options.{never_some}
 
 -- ---- one more line
-every_push : {X : Type 0} (P : X → Type 0) (xs : List X) (x : X) → AllByRecursion P xs → P x → AllByRecursion P (xs ++ x ∷ [])
-every_push P [] x a p = (p, tt)
-every_push P (y ∷ ys) x a p = (a.0, every_push P ys x a.1 p)
-
 pub push : (n : ℕ) (hyps : List Lit) (lines : List EqLine) (l : EqLine) → IsDerivation n hyps lines → OfConstants n l → Allowed no_signature hyps lines l → IsDerivation n hyps (lines ++ l ∷ [])
 push n hyps lines l d c a = record {
-  of_constants = every_push (OfConstants n) lines l d.of_constants c;
+  of_constants = all_push (OfConstants n) lines l d.of_constants c;
   allowed = all_append no_signature any hyps [] lines (l ∷ []) d.allowed ((refl, a), tt);
 }
 
-pub get_seam : {X : Type 0} (pre : List X) (c : X) (post : List X) (k : ℕ) → k ≡ length pre → slice_get (pre ++ c ∷ post) k ≡ Some c
-get_seam [] c post zero e = refl
-get_seam [] c post (suc k) e = absurd (omega arith)
-get_seam (x ∷ pre) c post zero e = absurd (omega arith)
-get_seam (x ∷ pre) c post (suc k) e = get_seam pre c post k (omega arith)
-
-none_some : {Y : Type 0} {y : Y} → ◌≡◌ {A = Option Y} None (Some y) → ⊥
-none_some e = cc
-
-pub get_append : {X : Type 0} (xs ys : List X) (k : ℕ) (x : X) → slice_get xs k ≡ Some x → slice_get (xs ++ ys) k ≡ Some x
-get_append [] ys k x e = absurd (none_some e)
-get_append (z ∷ zs) ys zero x e = e
-get_append (z ∷ zs) ys (suc k) x e = get_append zs ys k x e
-
-pub stated_more : (lines more : List EqLine) (k : ℕ) (f : Fact) → Stated lines k f → Stated (lines ++ more) k f
-stated_more [] more k f h = absurd (none_some h)
-stated_more (l ∷ ls) more zero f h = h
-stated_more (l ∷ ls) more (suc k) f h = stated_more ls more k f h
-
 pub stated_last : (lines : List EqLine) (l : EqLine) (k : ℕ) (f : Fact) → k ≡ length lines → states l ≡ f → Stated (lines ++ l ∷ []) k f
-stated_last lines l k f e s = ap (λ o. o >>= λ m. Some (states m)) (get_seam lines l [] k e) ∙ ap Some s
+stated_last lines l k f e s = ap (λ o. o >>= λ m. Some (states m)) (ap (slice_get (lines ++ l ∷ [])) e ∙ get_seam lines [] l) ∙ ap Some s
 
 -- ---- what holds of a derivation holds when it has more lines
 pub grows_same : (a : Known) → Grows a a
@@ -70,7 +51,7 @@ pub at_grows : (a b : Known) (k left right : ℕ) → Grows a b → At a k left 
 at_grows a b k left right g h = record {
   left_within = subst (λ n. left < n) (sym g.count) h.left_within;
   right_within = subst (λ n. right < n) (sym g.count) h.right_within;
-  stated = subst (λ ls. Stated ls k (equal (constant left) (constant right))) (sym g.lines) (stated_more a.lines g.more k _ h.stated);
+  stated = subst (λ ls. Stated ls k (equal (constant left) (constant right))) (sym g.lines) (stated_before a.lines g.more k _ h.stated);
 }
 
 by_grows : (a b : Known) (step : Option ℕ) (left right : ℕ) → Grows a b → HoldsBy a step left right → HoldsBy b step left right
@@ -116,10 +97,11 @@ valued_set a values i v h here = record {
 
 -- ---- the end of a block
 pub last_assumed : (es : List Equation) (g : Equation) → slice_get (assumed es g) (length es) ≡ Some (is_false (equation g))
-last_assumed es g = get_seam (map (λ e. is_true (equation e)) es) (is_false (equation g)) [] (length es) (sym (length-map es (λ e. is_true (equation e))))
+last_assumed es g =
+    ap (slice_get (assumed es g)) (sym (length-map es (λ e. is_true (equation e)))) ∙ get_seam (map (λ e. is_true (equation e)) es) [] (is_false (equation g))
 
 get_map_go : (es : List Equation) (more : List Lit) (i : ℕ) (e : Equation) → slice_get es i ≡ Some e → slice_get (map (λ e. is_true (equation e)) es ++ more) i ≡ Some (is_true (equation e))
-get_map_go [] more i e h = absurd (none_some h)
+get_map_go [] more i e h = absurd (never_some _ h)
 get_map_go (x ∷ xs) more zero e h = ap (λ o. o >>= λ y. Some (is_true (equation y))) h
 get_map_go (x ∷ xs) more (suc i) e h = get_map_go xs more i e h
 

@@ -3,16 +3,19 @@
 use Rattle.std.specs.Prelude.{Bool, true, false, not, cond, ◌&&◌, ◌||◌, List, [], ◌∷◌, ◌++◌, ◌≡◌, map, Option, Some, None, ◌⊎◌}
 use Rattle.std.specs.List.{list_all}
 use Rattle.std.proofs.Common.{refl, sym, ap, ◌∙◌, subst, true≢false, inl, inr, ⊎_elim}
-use Rattle.ae_core.specs.Decided.{decided, Lit_discrete}
-use Rattle.ae_core.specs.Sorts.{when}
-use Rattle.ae_core.specs.Clauses.{Clause, opposite, is_true, is_false, stands, has_true, is_or_stands, next_false, refutes}
+use Rattle.ae_base.specs.Decided.{decided}
+use Rattle.ae_core.specs.Decided.{Lit_discrete}
+use Rattle.ae_base.specs.Options.{when}
+use Rattle.ae_rules.specs.Clauses.{Clause, opposite, is_true, is_false, stands, has_true, is_or_stands, next_false, refutes}
 use Rattle.ae_core.specs.declared.formulas.Formula.{Formula, Formula-F, out-Formula, Or}
 use Rattle.ae_core.specs.declared.formulas.Formula.TheOpen as layer
 use Rattle.ae_core.specs.declared.formulas.Formula.TheVariants.{outs-Eq, outs-Or}
 use Rattle.ae_core.specs.declared.formulas.Quant.{Quant}
 use Rattle.ae_core.specs.declared.formulas.Lit.{Lit}
-use Rattle.ae_driver.specs.declared.form.Equation.{Equation}
-use Rattle.ae_driver.specs.Chains.{equation, chain}
+use Rattle.ae_driver.specs.declared.first_text.Equation.{Equation}
+use Rattle.ae_driver.specs.Problems.{equation, chain}
+use Rattle.std.proofs.lemmas.Bool.{and_from, or_left, or_right, or_cases}
+use Rattle.ae_base.proofs.Decided.{decided_yes, decided_of}
 
 -- ---- which literals become false on the way
 abbrev may_layer : Bool → Formula-F Formula Quant → Bool
@@ -73,26 +76,6 @@ unfolding may
 may_opposite l e = may_one l.positive (out-Formula l.formula) e
 
 -- ---- what stands among the false literals
-decided_yes : {P : Type 0} (d : Dec P) → decided d ≡ true → P
-decided_yes (yes p) e = p
-decided_yes (no n) e = absurd (true≢false (sym e))
-
-pub decided_true : {P : Type 0} (d : Dec P) → P → decided d ≡ true
-decided_true (yes p) q = refl
-decided_true (no n) q = absurd (n q)
-
-or_left : (a b : Bool) → a ≡ true → a || b ≡ true
-or_left true b e = refl
-or_left false b e = absurd (true≢false (sym e))
-
-or_right : (a b : Bool) → b ≡ true → a || b ≡ true
-or_right true b e = refl
-or_right false b e = e
-
-or_cases : (a b : Bool) → a || b ≡ true → (a ≡ true) ⊎ (b ≡ true)
-or_cases true b e = inl refl
-or_cases false b e = inr e
-
 and_left : (a b : Bool) → a && b ≡ true → a ≡ true
 and_left true b e = refl
 and_left false b e = e
@@ -100,10 +83,6 @@ and_left false b e = e
 and_right : (a b : Bool) → a && b ≡ true → b ≡ true
 and_right true b e = e
 and_right false b e = absurd (true≢false (sym e))
-
-pub both_true : (a b : Bool) → a ≡ true → b ≡ true → a && b ≡ true
-both_true true b e f = f
-both_true false b e f = absurd (true≢false (sym e))
 
 is_bool : (b : Bool) → (b ≡ true) ⊎ (b ≡ false)
 is_bool true = inl refl
@@ -134,13 +113,13 @@ stands_more (m ∷ fs) gs l s =
     (or_cases (decided (Lit_discrete m l)) (stands fs l) s)
 
 stands_last : (fs : List Lit) (l : Lit) → stands (fs ++ l ∷ []) l ≡ true
-stands_last [] l = or_left (decided (Lit_discrete l l)) false (decided_true (Lit_discrete l l) refl)
+stands_last [] l = or_left (decided (Lit_discrete l l)) false (decided_of (Lit_discrete l l) refl)
 stands_last (m ∷ fs) l = or_right (decided (Lit_discrete m l)) (stands (fs ++ l ∷ []) l) (stands_last fs l)
 
 all_may_more : (fs : List Lit) (l : Lit) → AllMay fs → may l ≡ true → AllMay (fs ++ l ∷ [])
 unfolding AllMay
-all_may_more [] l a m = both_true (may l) true m refl
-all_may_more (x ∷ fs) l a m = both_true (may x) _ (and_left (may x) (list_all may fs) a) (all_may_more fs l (and_right (may x) (list_all may fs) a) m)
+all_may_more [] l a m = and_from (may l) true m refl
+all_may_more (x ∷ fs) l a m = and_from (may x) _ (and_left (may x) (list_all may fs) a) (all_may_more fs l (and_right (may x) (list_all may fs) a) m)
 
 -- ---- one clause: all its literals but the last are false
 -- the false literals after the clause whose last literal is l
@@ -234,7 +213,7 @@ WillStand fs later ls = (m : Lit) → IsAmong m ls → (stands fs m ≡ true) �
 all_stand : (fs ls : List Lit) → WillStand fs [] ls → AllStand fs ls
 unfolding AllStand WillStand IsAmong
 all_stand fs [] w = refl
-all_stand fs (l ∷ ls) w = both_true (stands fs l) _ (⊎_elim (λ s. s) (λ n. absurd n) (w l (inl refl))) (all_stand fs ls (λ m h. w m (inr h)))
+all_stand fs (l ∷ ls) w = and_from (stands fs l) _ (⊎_elim (λ s. s) (λ n. absurd n) (w l (inl refl))) (all_stand fs ls (λ m h. w m (inr h)))
 
 will_after : (fs fs' : List Lit) (x : Lit) (later ls : List Lit) → ((m : Lit) → stands fs m ≡ true → stands fs' m ≡ true) → stands fs' x ≡ true → WillStand fs (x ∷ later) ls → WillStand fs' later ls
 unfolding WillStand IsAmong
@@ -243,17 +222,17 @@ will_after fs fs' x later ls keeps has w m h =
 
 last_false : (fs pre : List Lit) (l : Lit) → AllStand fs pre → stands fs l ≡ true → refutes fs ((pre ++ l ∷ []) ∷ []) ≡ true
 unfolding AllStand
-last_false fs [] l a s = both_true (stands fs l) true s refl
-last_false fs (m ∷ pre) l a s = both_true (stands fs m) _ (and_left (stands fs m) _ a) (last_false fs pre l (and_right (stands fs m) _ a) s)
+last_false fs [] l a s = and_from (stands fs l) true s refl
+last_false fs (m ∷ pre) l a s = and_from (stands fs m) _ (and_left (stands fs m) _ a) (last_false fs pre l (and_right (stands fs m) _ a) s)
 
 keeps_all : (fs fs' pre : List Lit) → ((m : Lit) → stands fs m ≡ true → stands fs' m ≡ true) → AllStand fs pre → AllStand fs' pre
 unfolding AllStand
 keeps_all fs fs' [] keeps a = refl
-keeps_all fs fs' (m ∷ pre) keeps a = both_true (stands fs' m) _ (keeps m (and_left (stands fs m) _ a)) (keeps_all fs fs' pre keeps (and_right (stands fs m) _ a))
+keeps_all fs fs' (m ∷ pre) keeps a = and_from (stands fs' m) _ (keeps m (and_left (stands fs m) _ a)) (keeps_all fs fs' pre keeps (and_right (stands fs m) _ a))
 
 single : (gs : List Lit) (m : Lit) → stands gs m ≡ true → AllStand gs (m ∷ [])
 unfolding AllStand
-single gs m h = both_true (stands gs m) true h refl
+single gs m h = and_from (stands gs m) true h refl
 
 -- the clause {A -> B, A}, where the implication is false already
 next : (gs : List Lit) (e : Equation) (es : List Equation) (g : Equation) (block : Clause) → AllMay gs → AllStand gs (is_true (chain (e ∷ es) g) ∷ [])

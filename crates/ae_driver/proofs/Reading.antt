@@ -1,4 +1,4 @@
--- The reader of the first form.
+-- The reader of first texts.
 use Rattle.std.proofs.Common.{◌≡◌, ◌≢◌, ℕ, ◌+◌, ◌<◌, ◌≤◌, List, [], ◌∷◌, ◌++◌, length, take, drop, get_or, Some, None, zero, suc, sym, ap, ◌∙◌, subst, arith, refl, rules, append_assoc}
 use Rattle.std.specs.Prelude.{◌↔◌, Bool, false, IsTrue, slice_get, Option, MatchOption, option_map, slice_index_or}
 use Rattle.std.proofs.lemmas.List.{append-nil, take_more, take_all}
@@ -8,104 +8,103 @@ use Rattle.ae_syntax.specs.declared.spans.Span.{Span}
 use Rattle.ae_syntax.specs.declared.decls.Decl.{Decl}
 use Rattle.ae_syntax.specs.declared.decls.SymbolResult.{SymbolResult}
 use Rattle.ae_syntax.specs.declared.types.WrittenType.{WrittenType}
-use Rattle.ae_syntax.specs.declared.decls.DeclForm.{DeclForm}
-use Rattle.ae_syntax.specs.declared.decls.DeclForm.TheVariants as decl
+use Rattle.ae_syntax.specs.declared.decls.DeclKind.{DeclKind}
+use Rattle.ae_syntax.specs.declared.decls.DeclKind.TheVariants as decl
 use Rattle.ae_syntax.specs.declared.decls.TypedName.{TypedName}
 use Rattle.ae_syntax.specs.declared.decls.File.{File}
-use Rattle.ae_driver.specs.declared.form.Form.{Form}
+use Rattle.ae_driver.specs.declared.first_text.FirstText.{FirstText}
 use Rattle.ae_syntax.specs.declared.exprs.BinaryOp.{BinaryOp}
 use Rattle.ae_syntax.specs.declared.exprs.BinaryOp.TheVariants as op
 use Rattle.ae_syntax.specs.declared.exprs.Expr.{Expr}
-use Rattle.ae_syntax.specs.declared.exprs.Form as form
-use Rattle.ae_syntax.specs.declared.exprs.Form.{out-Form}
-use Rattle.ae_syntax.specs.declared.exprs.Form.TheVariants.{outs-Binary}
-use Rattle.ae_syntax.specs.declared.exprs.Form.TheOpen as layer
-use Rattle.ae_syntax.specs.declared.exprs.Form.TheOpen.{Form-F}
-use Rattle.ae_driver.specs.declared.form.Equation.{Equation}
-use Rattle.ae_driver.specs.declared.form.Chain.{Chain}
-use Rattle.ae_driver.specs.Form.{Stands, Each, IsConstant, IsEquation, IsChain, IsGoalDecl, IsTypeName, IsTypeDecl, IsResult, IsLogicDecl, IsFormOf, IsWithin, IsGoal, IsForm}
+use Rattle.ae_syntax.specs.declared.exprs.ExprKind as expr
+use Rattle.ae_syntax.specs.declared.exprs.ExprKind.{out-ExprKind}
+use Rattle.ae_syntax.specs.declared.exprs.ExprKind.TheVariants.{outs-Binary}
+use Rattle.ae_syntax.specs.declared.exprs.ExprKind.TheOpen as layer
+use Rattle.ae_syntax.specs.declared.exprs.ExprKind.TheOpen.{ExprKind-F}
+use Rattle.ae_driver.specs.declared.first_text.TheConstants.{MOST_HYPOTHESES}
+use Rattle.ae_driver.specs.declared.first_text.Equation.{Equation}
+use Rattle.ae_driver.specs.declared.first_text.Chain.{Chain}
+use Rattle.ae_driver.specs.FirstTexts.{IsNameAt, IsConstantAt, IsEquation, IsChain, IsGoalDecl, IsTypeName, IsTypeDecl, IsResult, IsLogicDecl, IsFirstTextOf}
+use Rattle.ae_driver.specs.Inner.Places.{IsEquationOver, IsGoalOver, IsWellPlaced}
+use Rattle.ae_base.proofs.ListFacts.{cons_head, cons_tail, get_front, get_read}
+use Rattle.ae_base.proofs.Relations.{pairwise_at, pairwise_back, pairwise_get}
+use Rattle.ae_base.proofs.Options.{never_some}
+use Rattle.std.proofs.lemmas.Option.{slice_get-get_or}
+use Rattle.ae_base.specs.Relations.{Pairwise}
 
 -- ---- places in lists
-pub get_some : {X : Type 0} (xs : List X) (i : ℕ) (d : X) → i < length xs → slice_get xs i ≡ Some (get_or xs i d)
-get_some [] i d lt = absurd (omega (arith, lt))
-get_some (x ∷ xs) zero d lt = refl
-get_some (x ∷ xs) (suc i) d lt = get_some xs i d (omega (arith, lt))
-
 pub get_past : {X : Type 0} (xs : List X) (i : ℕ) (x : X) → length xs ≤ i → slice_get xs i ≡ Some x → ⊥
 get_past [] i x le e = search (rules, e)
 get_past (y ∷ xs) zero x le e = absurd (omega (arith, le))
 get_past (y ∷ xs) (suc i) x le e = get_past xs i x (omega (arith, le)) e
-
-none_some : {X : Type 0} {x : X} → ◌≡◌ {A = Option X} None (Some x) → ⊥
-none_some e = cc
 
 pub some_same : {X : Type 0} (x y : X) → Some x ≡ Some y → x ≡ y
 some_same x y e = search (rules, e)
 
 pub when_none : {X : Type 0} (o : Option X) (P : Type 0) (Q : X → Type 0) → o ≡ None → MatchOption o P Q → P
 when_none None P Q e h = h
-when_none (Some x) P Q e h = absurd (none_some (sym e))
+when_none (Some x) P Q e h = absurd (never_some _ (sym e))
 
 pub when_some : {X : Type 0} (o : Option X) (x : X) (P : Type 0) (Q : X → Type 0) → o ≡ Some x → MatchOption o P Q → Q x
-when_some None x P Q e h = absurd (none_some e)
+when_some None x P Q e h = absurd (never_some _ e)
 when_some (Some y) x P Q e h = subst Q (some_same y x e) h
 
 -- ---- the parts of a binary expression
-op_in : {A B C D : Type 0} → Form-F A B C D → Option BinaryOp
+op_in : {A B C D : Type 0} → ExprKind-F A B C D → Option BinaryOp
 op_in (layer.Binary o l r) = Some o
 op_in _ = None
 
-left_in : {A B C D : Type 0} → Form-F A B C D → Option B
+left_in : {A B C D : Type 0} → ExprKind-F A B C D → Option B
 left_in (layer.Binary o l r) = Some l
 left_in _ = None
 
-right_in : {A B C D : Type 0} → Form-F A B C D → Option B
+right_in : {A B C D : Type 0} → ExprKind-F A B C D → Option B
 right_in (layer.Binary o l r) = Some r
 right_in _ = None
 
-binary_op : (o p : BinaryOp) (l r m s : Expr) → form.Binary o l r ≡ form.Binary p m s → o ≡ p
+binary_op : (o p : BinaryOp) (l r m s : Expr) → expr.Binary o l r ≡ expr.Binary p m s → o ≡ p
 unfolding op_in
-binary_op o p l r m s e = some_same o p (sym (ap op_in (outs-Binary o l r)) ∙ ap (λ f. op_in (out-Form f)) e ∙ ap op_in (outs-Binary p m s))
+binary_op o p l r m s e = some_same o p (sym (ap op_in (outs-Binary o l r)) ∙ ap (λ f. op_in (out-ExprKind f)) e ∙ ap op_in (outs-Binary p m s))
 
-pub binary_left : (o p : BinaryOp) (l r m s : Expr) → form.Binary o l r ≡ form.Binary p m s → l ≡ m
+pub binary_left : (o p : BinaryOp) (l r m s : Expr) → expr.Binary o l r ≡ expr.Binary p m s → l ≡ m
 unfolding left_in
-binary_left o p l r m s e = some_same l m (sym (ap left_in (outs-Binary o l r)) ∙ ap (λ f. left_in (out-Form f)) e ∙ ap left_in (outs-Binary p m s))
+binary_left o p l r m s e = some_same l m (sym (ap left_in (outs-Binary o l r)) ∙ ap (λ f. left_in (out-ExprKind f)) e ∙ ap left_in (outs-Binary p m s))
 
-pub binary_right : (o p : BinaryOp) (l r m s : Expr) → form.Binary o l r ≡ form.Binary p m s → r ≡ s
+pub binary_right : (o p : BinaryOp) (l r m s : Expr) → expr.Binary o l r ≡ expr.Binary p m s → r ≡ s
 unfolding right_in
-binary_right o p l r m s e = some_same r s (sym (ap right_in (outs-Binary o l r)) ∙ ap (λ f. right_in (out-Form f)) e ∙ ap right_in (outs-Binary p m s))
+binary_right o p l r m s e = some_same r s (sym (ap right_in (outs-Binary o l r)) ∙ ap (λ f. right_in (out-ExprKind f)) e ∙ ap right_in (outs-Binary p m s))
 
-pub not_both : (e l r m s : Expr) → e.form ≡ form.Binary op.Equal l r → e.form ≡ form.Binary op.Implies m s → ⊥
+pub not_both : (e l r m s : Expr) → e.kind ≡ expr.Binary op.Equal l r → e.kind ≡ expr.Binary op.Implies m s → ⊥
 not_both e l r m s p q = let same = binary_op op.Equal op.Implies l r m s (sym p ∙ q) in search (rules, same)
 
 -- ---- chains
 module _ (text : List ℕ) (constants : List (List ℕ)) where
-  pub no_equation : (e : Expr) → ((l r : Expr) → e.form ≡ form.Binary op.Implies l r → ⊥) → ((q : Equation) → IsEquation text constants e q → ⊥) → (hs : List Equation) (q : Equation) → IsChain text constants e hs q → ⊥
+  pub no_equation : (e : Expr) → ((l r : Expr) → e.kind ≡ expr.Binary op.Implies l r → ⊥) → ((q : Equation) → IsEquation text constants e q → ⊥) → (hs : List Equation) (q : Equation) → IsChain text constants e hs q → ⊥
   no_equation e s n [] q c = n q c
   no_equation e s n (h ∷ hs) q (l, r, f, i, c) = s l r f
 
-  pub no_hypothesis : (e l r : Expr) → e.form ≡ form.Binary op.Implies l r → ((q : Equation) → IsEquation text constants l q → ⊥) → (hs : List Equation) (q : Equation) → IsChain text constants e hs q → ⊥
+  pub no_hypothesis : (e l r : Expr) → e.kind ≡ expr.Binary op.Implies l r → ((q : Equation) → IsEquation text constants l q → ⊥) → (hs : List Equation) (q : Equation) → IsChain text constants e hs q → ⊥
   no_hypothesis e l r f n [] q (m, s, g, i, c) = not_both e m s l r g f
   no_hypothesis e l r f n (h ∷ hs) q (m, s, g, i, c) = let same = binary_left op.Implies op.Implies l r m s (sym f ∙ g) in n h (subst (λ z. IsEquation text constants z h) (sym same) i)
 
-  pub no_rest : (e l r : Expr) → e.form ≡ form.Binary op.Implies l r → ((hs : List Equation) (q : Equation) → IsChain text constants r hs q → ⊥) → (hs : List Equation) (q : Equation) → IsChain text constants e hs q → ⊥
+  pub no_rest : (e l r : Expr) → e.kind ≡ expr.Binary op.Implies l r → ((hs : List Equation) (q : Equation) → IsChain text constants r hs q → ⊥) → (hs : List Equation) (q : Equation) → IsChain text constants e hs q → ⊥
   no_rest e l r f n [] q (m, s, g, i, c) = not_both e m s l r g f
   no_rest e l r f n (h ∷ hs) q (m, s, g, i, c) = let same = binary_right op.Implies op.Implies l r m s (sym f ∙ g) in n hs q (subst (λ z. IsChain text constants z hs q) (sym same) c)
 
-  pub no_left : (e l r : Expr) → e.form ≡ form.Binary op.Equal l r → ((k : ℕ) → IsConstant text constants l k → ⊥) → (q : Equation) → IsEquation text constants e q → ⊥
-  no_left e l r f n q (m, s, g, i, c) = let same = binary_left op.Equal op.Equal l r m s (sym f ∙ g) in n q.left (subst (λ z. IsConstant text constants z q.left) (sym same) i)
+  pub no_left : (e l r : Expr) → e.kind ≡ expr.Binary op.Equal l r → ((k : ℕ) → IsConstantAt text constants l k → ⊥) → (q : Equation) → IsEquation text constants e q → ⊥
+  no_left e l r f n q (m, s, g, i, c) = let same = binary_left op.Equal op.Equal l r m s (sym f ∙ g) in n q.left (subst (λ z. IsConstantAt text constants z q.left) (sym same) i)
 
-  pub no_right : (e l r : Expr) → e.form ≡ form.Binary op.Equal l r → ((k : ℕ) → IsConstant text constants r k → ⊥) → (q : Equation) → IsEquation text constants e q → ⊥
-  no_right e l r f n q (m, s, g, i, c) = let same = binary_right op.Equal op.Equal l r m s (sym f ∙ g) in n q.right (subst (λ z. IsConstant text constants z q.right) (sym same) c)
+  pub no_right : (e l r : Expr) → e.kind ≡ expr.Binary op.Equal l r → ((k : ℕ) → IsConstantAt text constants r k → ⊥) → (q : Equation) → IsEquation text constants e q → ⊥
+  no_right e l r f n q (m, s, g, i, c) = let same = binary_right op.Equal op.Equal l r m s (sym f ∙ g) in n q.right (subst (λ z. IsConstantAt text constants z q.right) (sym same) c)
 
   -- an equation that ends a chain
-  pub last_alone : (e : Expr) (hyps : List Equation) (found : Option Equation) → ((l r : Expr) → e.form ≡ form.Binary op.Implies l r → ⊥) → MatchOption found ((q : Equation) → IsEquation text constants e q → ⊥) (λ q. IsEquation text constants e q)
+  pub last_alone : (e : Expr) (hyps : List Equation) (found : Option Equation) → ((l r : Expr) → e.kind ≡ expr.Binary op.Implies l r → ⊥) → MatchOption found ((q : Equation) → IsEquation text constants e q → ⊥) (λ q. IsEquation text constants e q)
       → MatchOption {T = List Equation × Equation} (option_map (λ q. (hyps, q)) found) ((hs : List Equation) (q : Equation) → IsChain text constants e hs q → ⊥) (λ p. (hs : List Equation) × (p.0 ≡ hyps ++ hs) × IsChain text constants e hs p.1)
   last_alone e hyps None s n = no_equation e s n
   last_alone e hyps (Some q) s c = ([], sym (append-nil hyps), c)
 
   -- a chain with one more hypothesis before it
-  pub one_more : (e l r : Expr) (hyps : List Equation) (h : Equation) (found : Option (List Equation × Equation)) → e.form ≡ form.Binary op.Implies l r → IsEquation text constants l h
+  pub one_more : (e l r : Expr) (hyps : List Equation) (h : Equation) (found : Option (List Equation × Equation)) → e.kind ≡ expr.Binary op.Implies l r → IsEquation text constants l h
       → MatchOption found ((hs : List Equation) (q : Equation) → IsChain text constants r hs q → ⊥) (λ p. (hs : List Equation) × (p.0 ≡ (hyps ++ h ∷ []) ++ hs) × IsChain text constants r hs p.1)
       → MatchOption found ((hs : List Equation) (q : Equation) → IsChain text constants e hs q → ⊥) (λ p. (hs : List Equation) × (p.0 ≡ hyps ++ hs) × IsChain text constants e hs p.1)
   one_more e l r hyps h None f i n = no_rest e l r f n
@@ -113,13 +112,13 @@ module _ (text : List ℕ) (constants : List (List ℕ)) where
 
 -- ---- a name among the constants
 pub found_at : (cs : List (List ℕ)) (i : ℕ) (c name : List ℕ) → i < length cs → c ≡ get_or cs i c → c ≡ name → slice_get cs i ≡ Some name
-found_at cs i c name lt e same = get_some cs i c lt ∙ ap Some (sym e ∙ same)
+found_at cs i c name lt e same = slice_get-get_or cs i c lt ∙ ap Some (sym e ∙ same)
 
 pub others_before : (cs : List (List ℕ)) (i : ℕ) (c name : List ℕ) → i < length cs → c ≡ get_or cs i c → ((k : ℕ) → k < i → slice_get cs k ≡ Some name → ⊥) → (c ≡ name → ⊥) → (k : ℕ) → k < i + 1 → slice_get cs k ≡ Some name → ⊥
 others_before cs i c name lt e before other k le f =
     let not_less : ¬ (k < i) = λ less. before k less f in
     let same : k ≡ i = omega (arith, le, not_less) in
-    other (e ∙ some_same _ _ (sym (get_some cs i c lt) ∙ subst (λ j. slice_get cs j ≡ Some name) same f))
+    other (e ∙ some_same _ _ (sym (slice_get-get_or cs i c lt) ∙ subst (λ j. slice_get cs j ≡ Some name) same f))
 
 pub none_has : (cs : List (List ℕ)) (i : ℕ) (name : List ℕ) → length cs ≤ i → ((k : ℕ) → k < i → slice_get cs k ≡ Some name → ⊥) → (k : ℕ) → slice_get cs k ≡ Some name → ⊥
 none_has cs i name le before k f =
@@ -127,33 +126,8 @@ none_has cs i name le before k f =
     get_past cs k name (omega (arith, le, not_less)) f
 
 -- ---- lists that are related element by element
-each_push : {A B : Type 0} (R : A → B → Type 0) (xs : List A) (ys : List B) (x : A) (y : B) → Each R xs ys → R x y → Each R (xs ++ x ∷ []) (ys ++ y ∷ [])
-each_push R [] [] x y e r = (r, tt)
-each_push R [] (w ∷ ys) x y e r = absurd e
-each_push R (v ∷ xs) [] x y e r = absurd e
-each_push R (v ∷ xs) (w ∷ ys) x y e r = (e.0, each_push R xs ys x y e.1 r)
-
-pub each_more : {A B : Type 0} (R : A → B → Type 0) (xs : List A) (ys : List B) (i : ℕ) (x : A) (y : B) → i < length xs → x ≡ get_or xs i x → Each R (take i xs) ys → R x y → Each R (take (i + 1) xs) (ys ++ y ∷ [])
-each_more R xs ys i x y lt e all r =
-    subst (λ zs. Each R zs (ys ++ y ∷ [])) (ap (λ z. take i xs ++ z ∷ []) e ∙ sym (take_more xs i x lt)) (each_push R (take i xs) ys x y all r)
-
-pub each_at : {A B : Type 0} (R : A → B → Type 0) (xs : List A) (ys : List B) (i : ℕ) (x : A) → i < length xs → x ≡ get_or xs i x → Each R xs ys → (y : B) × R x y × (slice_get ys i ≡ Some y)
-each_at R [] ys i x lt e all = absurd (omega (arith, lt))
-each_at R (v ∷ xs) [] i x lt e all = absurd all
-each_at R (v ∷ xs) (w ∷ ys) zero x lt e all = (w, subst (λ z. R z w) (sym e) all.0, refl)
-each_at R (v ∷ xs) (w ∷ ys) (suc i) x lt e all = each_at R xs ys i x (omega (arith, lt)) e all.1
-
-each_length : {A B : Type 0} (R : A → B → Type 0) (xs : List A) (ys : List B) → Each R xs ys → length xs ≡ length ys
-each_length R [] [] e = refl
-each_length R [] (y ∷ ys) e = absurd e
-each_length R (x ∷ xs) [] e = absurd e
-each_length R (x ∷ xs) (y ∷ ys) e = ap suc (each_length R xs ys e.1)
-
-pub each_all : {A B : Type 0} (R : A → B → Type 0) (xs : List A) (ys : List B) (i : ℕ) → length xs ≤ i → Each R (take i xs) ys → Each R xs ys
-each_all R xs ys i le all = subst (λ zs. Each R zs ys) (take_all i xs le) all
-
-pub goal_read : (text : List ℕ) (constants : List (List ℕ)) (d : Decl) (s : Span) (body : Expr) (name : List ℕ) (hs : List Equation) (q : Equation) → d.form ≡ decl.Goal s body → Stands text s name
-    → (gs : List Equation) × (hs ≡ [] ++ gs) × IsChain text constants body gs q → length hs ≤ 1000 → IsGoalDecl text constants d (record { name = name; hyps = hs; last = q })
+pub goal_read : (text : List ℕ) (constants : List (List ℕ)) (d : Decl) (s : Span) (body : Expr) (name : List ℕ) (hs : List Equation) (q : Equation) → d.kind ≡ decl.Goal s body → IsNameAt text s name
+    → (gs : List Equation) × (hs ≡ [] ++ gs) × IsChain text constants body gs q → length hs ≤ MOST_HYPOTHESES → IsGoalDecl text constants d (record { name = name; hyps = hs; last = q })
 goal_read text constants d s body name hs q f n (gs, same, c) short = (s, body, f, n, subst (λ z. IsChain text constants body z q) (sym same) c, short)
 
 -- a chain has so many hypotheses
@@ -164,7 +138,7 @@ chain_length text constants e (h ∷ hs) [] q p (m, s, g, j, d) (l, r, f, i, o) 
 chain_length text constants e (h ∷ hs) (g ∷ gs) q p (l, r, f, i, c) (m, s, k, j, d) =
     ap suc (chain_length text constants s hs gs q p (subst (λ z. IsChain text constants z hs q) (binary_right op.Implies op.Implies l r m s (sym f ∙ k)) c) d)
 
-goal_body_in : DeclForm → Option Expr
+goal_body_in : DeclKind → Option Expr
 goal_body_in (decl.Goal s b) = Some b
 goal_body_in _ = None
 
@@ -172,8 +146,8 @@ pub same_body : (s t : Span) (a b : Expr) → decl.Goal s a ≡ decl.Goal t b �
 unfolding goal_body_in
 same_body s t a b e = some_same a b (ap goal_body_in e)
 
-pub too_long : (text : List ℕ) (constants : List (List ℕ)) (d : Decl) (s : Span) (body : Expr) (hs : List Equation) (q : Equation) → d.form ≡ decl.Goal s body → (gs : List Equation) × (hs ≡ [] ++ gs) × IsChain text constants body gs q
-    → 1000 < length hs → (g : Chain) → IsGoalDecl text constants d g → ⊥
+pub too_long : (text : List ℕ) (constants : List (List ℕ)) (d : Decl) (s : Span) (body : Expr) (hs : List Equation) (q : Equation) → d.kind ≡ decl.Goal s body → (gs : List Equation) × (hs ≡ [] ++ gs) × IsChain text constants body gs q
+    → MOST_HYPOTHESES < length hs → (g : Chain) → IsGoalDecl text constants d g → ⊥
 too_long text constants d s body hs q f (gs, same, c) long g (t, other, h, at, e, short) =
     let there = subst (λ z. IsChain text constants z g.hyps g.last) (same_body t s other body (sym h ∙ f)) e in
     let alike = chain_length text constants body gs g.hyps q g.last c there in
@@ -181,32 +155,8 @@ too_long text constants d s body hs q f (gs, same, c) long g (t, other, h, at, e
     absurd (omega (arith, long, short, alike, here))
 
 -- ---- names that are different
-pub stands_one : (text : List ℕ) (s : Span) (a b : List ℕ) → Stands text s a → Stands text s b → a ≡ b
+pub stands_one : (text : List ℕ) (s : Span) (a b : List ℕ) → IsNameAt text s a → IsNameAt text s b → a ≡ b
 stands_one text s a b p q = sym p.bytes ∙ q.bytes
-
-each_get : {A B : Type 0} (R : A → B → Type 0) (xs : List A) (ys : List B) (k : ℕ) (x : A) → Each R xs ys → slice_get xs k ≡ Some x → (y : B) × R x y × (slice_get ys k ≡ Some y)
-each_get R [] ys k x all e = absurd (none_some e)
-each_get R (v ∷ xs) [] k x all e = absurd all
-each_get R (v ∷ xs) (w ∷ ys) zero x all e = (w, subst (λ z. R z w) (some_same v x e) all.0, refl)
-each_get R (v ∷ xs) (w ∷ ys) (suc k) x all e = each_get R xs ys k x all.1 e
-
-each_back : {A B : Type 0} (R : A → B → Type 0) (xs : List A) (ys : List B) (k : ℕ) (y : B) → Each R xs ys → slice_get ys k ≡ Some y → (x : A) × R x y × (slice_get xs k ≡ Some x)
-each_back R xs [] k y all e = absurd (none_some e)
-each_back R [] (w ∷ ys) k y all e = absurd all
-each_back R (v ∷ xs) (w ∷ ys) zero y all e = (v, subst (R v) (some_same w y e) all.0, refl)
-each_back R (v ∷ xs) (w ∷ ys) (suc k) y all e = each_back R xs ys k y all.1 e
-
-get_front : {X : Type 0} (xs : List X) (i k : ℕ) (x : X) → slice_get (take i xs) k ≡ Some x → (slice_get xs k ≡ Some x) × (k < i)
-get_front [] zero k x e = absurd (none_some e)
-get_front [] (suc i) k x e = absurd (none_some e)
-get_front (y ∷ xs) zero k x e = absurd (none_some e)
-get_front (y ∷ xs) (suc i) zero x e = (e, omega arith)
-get_front (y ∷ xs) (suc i) (suc k) x e = let r = get_front xs i k x e in (r.0, omega (arith, r.1))
-
-get_read : {X : Type 0} (xs : List X) (k : ℕ) (x d : X) → slice_get xs k ≡ Some x → (slice_index_or xs k d ≡ x) × (k < length xs)
-get_read [] k x d e = absurd (none_some e)
-get_read (y ∷ xs) zero x d e = (some_same y x e, omega arith)
-get_read (y ∷ xs) (suc k) x d e = let r = get_read xs k x d e in (r.0, omega (arith, r.1))
 
 pub apart_at : (ns : List (List ℕ)) (k i : ℕ) (a b : List ℕ) → AllPairs ◌≢◌ ns → k < i → slice_get ns k ≡ Some a → slice_get ns i ≡ Some b → a ≡ b → ⊥
 apart_at ns k i a b apart lt p q e =
@@ -215,29 +165,29 @@ apart_at ns k i a b apart lt p q e =
     apart k i [] lt t.1 (r.0 ∙ e ∙ sym t.0)
 
 -- a name that stands twice among the places
-pub repeated : (text : List ℕ) (places : List Span) (found ns : List (List ℕ)) (i : ℕ) (s : Span) → i < length places → s ≡ get_or places i s → Each (Stands text) (take i places) found
-    → ((name : List ℕ) → Stands text s name → (k : ℕ) × (slice_get found k ≡ Some name)) → Each (Stands text) places ns → AllPairs ◌≢◌ ns → ⊥
+pub repeated : (text : List ℕ) (places : List Span) (found ns : List (List ℕ)) (i : ℕ) (s : Span) → i < length places → s ≡ get_or places i s → Pairwise (IsNameAt text) (take i places) found
+    → ((name : List ℕ) → IsNameAt text s name → (k : ℕ) × (slice_get found k ≡ Some name)) → Pairwise (IsNameAt text) places ns → AllPairs ◌≢◌ ns → ⊥
 repeated text places found ns i s lt e before there all apart =
-    let last = each_at (Stands text) places ns i s lt e all in
+    let last = pairwise_at (IsNameAt text) places ns i s lt e all in
     let again = there last.0 last.1 in
-    let first = each_back (Stands text) (take i places) found again.0 last.0 before again.1 in
+    let first = pairwise_back (IsNameAt text) (take i places) found again.0 last.0 before again.1 in
     let front = get_front places i again.0 first.0 first.2 in
-    let same = each_get (Stands text) places ns again.0 first.0 all front.0 in
+    let same = pairwise_get (IsNameAt text) places ns again.0 first.0 all front.0 in
     apart_at ns again.0 i same.0 last.0 apart front.1 same.2 last.2 (stands_one text first.0 same.0 last.0 same.1 first.1)
 
 -- a name that isn't among those that were found
 pub other_names : (found : List (List ℕ)) (name : List ℕ) → AllPairs ◌≢◌ found → ((k : ℕ) → slice_get found k ≡ Some name → ⊥) → AllPairs ◌≢◌ (found ++ name ∷ [])
-other_names found name apart none = all_pairs_push ◌≢◌ found name apart (λ k d lt e. none k (get_some found k d lt ∙ ap Some e))
+other_names found name apart none = all_pairs_push ◌≢◌ found name apart (λ k d lt e. none k (slice_get-get_or found k d lt ∙ ap Some e))
 
-pub old_name : (text : List ℕ) (s : Span) (found : List (List ℕ)) (name : List ℕ) (k : ℕ) → Stands text s name → slice_get found k ≡ Some name → (other : List ℕ) → Stands text s other → (j : ℕ) × (slice_get found j ≡ Some other)
+pub old_name : (text : List ℕ) (s : Span) (found : List (List ℕ)) (name : List ℕ) (k : ℕ) → IsNameAt text s name → slice_get found k ≡ Some name → (other : List ℕ) → IsNameAt text s other → (j : ℕ) × (slice_get found j ≡ Some other)
 old_name text s found name k at e other at_other = (k, e ∙ ap Some (stands_one text s name other at at_other))
 
 -- ---- declarations
 pub result_is : (text : List ℕ) (r : SymbolResult) (sort : WrittenType) (name : List ℕ) (b : Bool) → r.sort ≡ Some sort → (IsTrue b ↔ IsTypeName text sort name) → (IsTrue b ↔ IsResult text r name)
 result_is text r sort name b e i = (λ t. (sort, e, i.0 t), λ p. i.1 (subst (λ z. IsTypeName text z name) (some_same p.0 sort (sym p.1 ∙ e)) p.2))
 
-pub no_goal : (text : List ℕ) (constants : List (List ℕ)) (ds : List Decl) (gs : List Chain) (i : ℕ) (d : Decl) → i < length ds → d ≡ get_or ds i d → ((g : Chain) → IsGoalDecl text constants d g → ⊥) → Each (IsGoalDecl text constants) ds gs → ⊥
-no_goal text constants ds gs i d lt e none all = let at = each_at (IsGoalDecl text constants) ds gs i d lt e all in none at.0 at.1
+pub no_goal : (text : List ℕ) (constants : List (List ℕ)) (ds : List Decl) (gs : List Chain) (i : ℕ) (d : Decl) → i < length ds → d ≡ get_or ds i d → ((g : Chain) → IsGoalDecl text constants d g → ⊥) → Pairwise (IsGoalDecl text constants) ds gs → ⊥
+no_goal text constants ds gs i d lt e none all = let at = pairwise_at (IsGoalDecl text constants) ds gs i d lt e all in none at.0 at.1
 
 same_read : {X : Type 0} (xs : List X) (i : ℕ) (d e : X) → i < length xs → get_or xs i d ≡ get_or xs i e
 same_read [] i d e lt = absurd (omega (arith, lt))
@@ -247,21 +197,15 @@ same_read (x ∷ xs) (suc i) d e lt = same_read xs i d e (omega (arith, lt))
 pub read_is : {X : Type 0} (xs : List X) (i : ℕ) (d : X) → i < length xs → get_or xs i d ≡ get_or xs i (get_or xs i d)
 read_is xs i d lt = same_read xs i d (get_or xs i d) lt
 
-cons_head : {X : Type 0} (x y : X) (xs ys : List X) → x ∷ xs ≡ y ∷ ys → x ≡ y
-cons_head x y xs ys e = some_same x y (ap (λ zs. slice_get zs 0) e)
-
-cons_tail : {X : Type 0} (x y : X) (xs ys : List X) → x ∷ xs ≡ y ∷ ys → xs ≡ ys
-cons_tail x y xs ys e = ap (drop 1) e
-
-logic_result : DeclForm → Option SymbolResult
+logic_result : DeclKind → Option SymbolResult
 logic_result (decl.Logic a ns ss r) = Some r
 logic_result _ = None
 
-logic_names : DeclForm → Option (List Span)
+logic_names : DeclKind → Option (List Span)
 logic_names (decl.Logic a ns ss r) = Some ns
 logic_names _ = None
 
-type_span : DeclForm → Option Span
+type_span : DeclKind → Option Span
 type_span (decl.Type ps n fs) = Some n
 type_span _ = None
 
@@ -277,43 +221,43 @@ same_type : (ps qs : List Span) (n m : Span) (fs gs : List TypedName) → decl.T
 unfolding type_span
 same_type ps qs n m fs gs e = some_same n m (ap type_span e)
 
-pub no_constants : (text : List ℕ) (d : Decl) (type_name : List ℕ) (a : Bool) (ns : List Span) (ss : List WrittenType) (r : SymbolResult) → d.form ≡ decl.Logic a ns ss r → (IsResult text r type_name → ⊥) → (cs : List (List ℕ)) → IsLogicDecl text d type_name cs → ⊥
+pub no_constants : (text : List ℕ) (d : Decl) (type_name : List ℕ) (a : Bool) (ns : List Span) (ss : List WrittenType) (r : SymbolResult) → d.kind ≡ decl.Logic a ns ss r → (IsResult text r type_name → ⊥) → (cs : List (List ℕ)) → IsLogicDecl text d type_name cs → ⊥
 no_constants text d type_name a ns ss r e none cs (ms, q, f, is, all) = none (subst (λ z. IsResult text z type_name) (same_result false a ms ns [] ss q r (sym f ∙ e)) is)
 
 -- the constants of a declaration, by their names
-pub constants_read : (text : List ℕ) (d : Decl) (type_name : List ℕ) (a : Bool) (ns : List Span) (ss : List WrittenType) (r : SymbolResult) (found : Option (List (List ℕ))) → d.form ≡ decl.Logic a ns ss r → a ≡ false → ss ≡ [] → IsResult text r type_name
-    → MatchOption found ((cs : List (List ℕ)) → Each (Stands text) ns cs → AllPairs ◌≢◌ cs → ⊥) (λ cs. Each (Stands text) ns cs × AllPairs ◌≢◌ cs)
+pub constants_read : (text : List ℕ) (d : Decl) (type_name : List ℕ) (a : Bool) (ns : List Span) (ss : List WrittenType) (r : SymbolResult) (found : Option (List (List ℕ))) → d.kind ≡ decl.Logic a ns ss r → a ≡ false → ss ≡ [] → IsResult text r type_name
+    → MatchOption found ((cs : List (List ℕ)) → Pairwise (IsNameAt text) ns cs → AllPairs ◌≢◌ cs → ⊥) (λ cs. Pairwise (IsNameAt text) ns cs × AllPairs ◌≢◌ cs)
     → MatchOption found ((cs : List (List ℕ)) → IsLogicDecl text d type_name cs → AllPairs ◌≢◌ cs → ⊥) (λ cs. IsLogicDecl text d type_name cs × AllPairs ◌≢◌ cs)
-constants_read text d type_name a ns ss r None e f g is h = λ cs l. h cs (subst (λ z. Each (Stands text) z cs) (same_names false a l.0 ns [] ss l.1 r (sym l.2 ∙ e)) l.4)
+constants_read text d type_name a ns ss r None e f g is h = λ cs l. h cs (subst (λ z. Pairwise (IsNameAt text) z cs) (same_names false a l.0 ns [] ss l.1 r (sym l.2 ∙ e)) l.4)
 constants_read text d type_name a ns ss r (Some cs) e f g is h = ((ns, r, e ∙ ap (λ b. decl.Logic b ns ss r) f ∙ ap (λ zs. decl.Logic false ns zs r) g, is, h.0), h.1)
 
 -- ---- a file
 module _ (text : List ℕ) (file : File) (a b : Decl) (ds : List Decl) (e : file.decls ≡ a ∷ b ∷ ds) where
-  first_is : (f : Form) (is : IsFormOf text file f) → is.first ≡ a
+  first_is : (f : FirstText) (is : IsFirstTextOf text file f) → is.first ≡ a
   first_is f is = cons_head is.first a _ _ (sym is.decls ∙ e)
 
-  second_is : (f : Form) (is : IsFormOf text file f) → is.second ≡ b
+  second_is : (f : FirstText) (is : IsFirstTextOf text file f) → is.second ≡ b
   second_is f is = cons_head is.second b _ _ (cons_tail is.first a _ _ (sym is.decls ∙ e))
 
-  pub others_are : (f : Form) (is : IsFormOf text file f) → is.others ≡ ds
+  pub others_are : (f : FirstText) (is : IsFirstTextOf text file f) → is.others ≡ ds
   others_are f is = cons_tail is.second b _ _ (cons_tail is.first a _ _ (sym is.decls ∙ e))
 
-  pub no_type : ((name : List ℕ) → IsTypeDecl text a name → ⊥) → (f : Form) → IsFormOf text file f → ⊥
+  pub no_type : ((name : List ℕ) → IsTypeDecl text a name → ⊥) → (f : FirstText) → IsFirstTextOf text file f → ⊥
   no_type none f is = none f.type_name (subst (λ d. IsTypeDecl text d f.type_name) (first_is f is) is.declares_type)
 
-  pub type_one : (name : List ℕ) → IsTypeDecl text a name → (f : Form) → IsFormOf text file f → f.type_name ≡ name
+  pub type_one : (name : List ℕ) → IsTypeDecl text a name → (f : FirstText) → IsFirstTextOf text file f → f.type_name ≡ name
   type_one name (s, g, at) f is =
       let other = subst (λ d. IsTypeDecl text d f.type_name) (first_is f is) is.declares_type in
-      stands_one text s f.type_name name (subst (λ z. Stands text z f.type_name) (same_type [] [] other.0 s [] [] (sym other.1 ∙ g)) other.2) at
+      stands_one text s f.type_name name (subst (λ z. IsNameAt text z f.type_name) (same_type [] [] other.0 s [] [] (sym other.1 ∙ g)) other.2) at
 
-  logic_there : (name : List ℕ) → IsTypeDecl text a name → (f : Form) → IsFormOf text file f → IsLogicDecl text b name f.constants
+  logic_there : (name : List ℕ) → IsTypeDecl text a name → (f : FirstText) → IsFirstTextOf text file f → IsLogicDecl text b name f.constants
   logic_there name t f is =
       subst (λ n. IsLogicDecl text b n f.constants) (type_one name t f is) (subst (λ d. IsLogicDecl text d f.type_name f.constants) (second_is f is) is.declares_constants)
 
-  pub no_logic : (name : List ℕ) → IsTypeDecl text a name → ((cs : List (List ℕ)) → IsLogicDecl text b name cs → AllPairs ◌≢◌ cs → ⊥) → (f : Form) → IsFormOf text file f → ⊥
+  pub no_logic : (name : List ℕ) → IsTypeDecl text a name → ((cs : List (List ℕ)) → IsLogicDecl text b name cs → AllPairs ◌≢◌ cs → ⊥) → (f : FirstText) → IsFirstTextOf text file f → ⊥
   no_logic name t none f is = none f.constants (logic_there name t f is) is.different
 
-  each_one : (ss : List Span) (cs es : List (List ℕ)) → Each (Stands text) ss cs → Each (Stands text) ss es → cs ≡ es
+  each_one : (ss : List Span) (cs es : List (List ℕ)) → Pairwise (IsNameAt text) ss cs → Pairwise (IsNameAt text) ss es → cs ≡ es
   each_one [] [] [] p q = refl
   each_one [] [] (y ∷ es) p q = absurd q
   each_one [] (x ∷ cs) es p q = absurd p
@@ -321,35 +265,35 @@ module _ (text : List ℕ) (file : File) (a b : Decl) (ds : List Decl) (e : file
   each_one (s ∷ ss) (x ∷ cs) [] p q = absurd q
   each_one (s ∷ ss) (x ∷ cs) (y ∷ es) p q = ap (λ z. z ∷ cs) (stands_one text s x y p.0 q.0) ∙ ap (λ zs. y ∷ zs) (each_one ss cs es p.1 q.1)
 
-  pub constants_one : (name : List ℕ) (cs : List (List ℕ)) → IsTypeDecl text a name → IsLogicDecl text b name cs → (f : Form) → IsFormOf text file f → f.constants ≡ cs
+  pub constants_one : (name : List ℕ) (cs : List (List ℕ)) → IsTypeDecl text a name → IsLogicDecl text b name cs → (f : FirstText) → IsFirstTextOf text file f → f.constants ≡ cs
   constants_one name cs t l f is =
       let other = logic_there name t f is in
-      each_one l.0 f.constants cs (subst (λ ns. Each (Stands text) ns f.constants) (same_names false false other.0 l.0 [] [] other.1 l.1 (sym other.2 ∙ l.2)) other.4) l.4
+      each_one l.0 f.constants cs (subst (λ ns. Pairwise (IsNameAt text) ns f.constants) (same_names false false other.0 l.0 [] [] other.1 l.1 (sym other.2 ∙ l.2)) other.4) l.4
 
-  pub no_goals : (name : List ℕ) (cs : List (List ℕ)) → IsTypeDecl text a name → IsLogicDecl text b name cs → ((gs : List Chain) → Each (IsGoalDecl text cs) ds gs → ⊥) → (f : Form) → IsFormOf text file f → ⊥
+  pub no_goals : (name : List ℕ) (cs : List (List ℕ)) → IsTypeDecl text a name → IsLogicDecl text b name cs → ((gs : List Chain) → Pairwise (IsGoalDecl text cs) ds gs → ⊥) → (f : FirstText) → IsFirstTextOf text file f → ⊥
   no_goals name cs t l none f is =
-      none f.goals (subst (λ zs. Each (IsGoalDecl text cs) zs f.goals) (others_are f is) (subst (λ zs. Each (IsGoalDecl text zs) is.others f.goals) (constants_one name cs t l f is) is.declares_goals))
+      none f.goals (subst (λ zs. Pairwise (IsGoalDecl text cs) zs f.goals) (others_are f is) (subst (λ zs. Pairwise (IsGoalDecl text zs) is.others f.goals) (constants_one name cs t l f is) is.declares_goals))
 
-  pub form_is : (name : List ℕ) (cs : List (List ℕ)) (gs : List Chain) → IsTypeDecl text a name → IsLogicDecl text b name cs → AllPairs ◌≢◌ cs → Each (IsGoalDecl text cs) ds gs
-      → IsFormOf text file (record { type_name = name; constants = cs; goals = gs })
+  pub form_is : (name : List ℕ) (cs : List (List ℕ)) (gs : List Chain) → IsTypeDecl text a name → IsLogicDecl text b name cs → AllPairs ◌≢◌ cs → Pairwise (IsGoalDecl text cs) ds gs
+      → IsFirstTextOf text file (record { type_name = name; constants = cs; goals = gs })
   form_is name cs gs t l apart all =
       record { first = a; second = b; others = ds; decls = e; declares_type = t; declares_constants = l; different = apart; declares_goals = all }
 
--- ---- what follows for a form
+-- ---- the places of a first text
 module _ (text : List ℕ) (constants : List (List ℕ)) where
-  equation_within : (e : Expr) (q : Equation) → IsEquation text constants e q → IsWithin (length constants) q
+  equation_within : (e : Expr) (q : Equation) → IsEquation text constants e q → IsEquationOver (length constants) q
   equation_within e q (l, r, f, a, b) = ((get_read constants q.left a.1 [] a.4).1, (get_read constants q.right b.1 [] b.4).1)
 
-  chain_within : (e : Expr) (hs : List Equation) (q : Equation) → IsChain text constants e hs q → AllByRecursion (IsWithin (length constants)) hs × IsWithin (length constants) q
+  chain_within : (e : Expr) (hs : List Equation) (q : Equation) → IsChain text constants e hs q → AllByRecursion (IsEquationOver (length constants)) hs × IsEquationOver (length constants) q
   chain_within e [] q c = (tt, equation_within e q c)
   chain_within e (h ∷ hs) q (l, r, f, i, c) = let rest = chain_within r hs q c in ((equation_within l h i, rest.0), rest.1)
 
-  goals_within : (ds : List Decl) (gs : List Chain) → Each (IsGoalDecl text constants) ds gs → AllByRecursion (IsGoal (length constants)) gs
+  goals_within : (ds : List Decl) (gs : List Chain) → Pairwise (IsGoalDecl text constants) ds gs → AllByRecursion (IsGoalOver (length constants)) gs
   goals_within [] [] all = tt
   goals_within [] (g ∷ gs) all = absurd all
   goals_within (d ∷ ds) [] all = absurd all
   goals_within (d ∷ ds) (g ∷ gs) ((s, body, f, at, c, short), all) =
       let w = chain_within body g.hyps g.last c in (record { hyps = w.0; last = w.1; short = short }, goals_within ds gs all)
 
-pub is_form : (text : List ℕ) (file : File) (f : Form) → IsFormOf text file f → IsForm f
-is_form text file f is = record { goals = goals_within text f.constants is.others f.goals is.declares_goals }
+pub well_placed : (text : List ℕ) (file : File) (f : FirstText) → IsFirstTextOf text file f → IsWellPlaced f
+well_placed text file f is = record { goals = goals_within text f.constants is.others f.goals is.declares_goals }

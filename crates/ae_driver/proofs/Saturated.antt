@@ -1,57 +1,54 @@
 -- The state of a chain whose values tell the sides of its end apart is saturated, and its goal is false in it.
-use Rattle.std.specs.Prelude.{◌≡◌, ◌≢◌, ◌⊎◌, ℕ, zero, suc, ◌+◌, ◌<◌, Bool, true, false, cond, not, ◌&&◌, ◌||◌, nat_eq, List, [], ◌∷◌, length, get_or, slice_get, Option, Some, None}
-use Rattle.std.specs.List.{AllByRecursion}
+use Rattle.std.specs.Prelude.{◌≡◌, ◌≢◌, ◌⊎◌, ℕ, zero, suc, ◌+◌, ◌<◌, Bool, true, false, cond, not, ◌||◌, nat_eq, nat_lt, List, [], ◌∷◌, ◌++◌, map, length, get_or, slice_get, Option, Some, None}
+use Rattle.std.specs.List.{AllByRecursion, Contains}
 use Rattle.std.proofs.Common.{refl, sym, ap, ◌∙◌, subst, arith, true≢false, ⊎_elim, inl, inr}
 use Rattle.std.proofs.lemmas.Bool.Decides.{eqb_tells}
-use Rattle.ae_core.specs.Decided.{decided, pick_yes, pick_no, Term_discrete}
-use Rattle.ae_core.specs.Sorts.{known, or_else}
-use Rattle.ae_core.specs.Lines.{Among}
-use Rattle.ae_core.specs.Clauses.{Clause, yes_of, is_true, is_false, opposite, row}
-use Rattle.ae_core.proofs.ClauseLaws.{row_eq, row_or}
+use Rattle.std.proofs.lemmas.Option.{slice_get_within, get_or_from_slice_get}
+use Rattle.ae_base.specs.Options.{or_else, only, ◌>>=◌}
+use Rattle.ae_rules.specs.Clauses.{Clause, yes_of, no_of, is_true, is_false, opposite, row}
+use Rattle.ae_rules.specs.Instances.{hypothesis, axiom_with, choices_of}
+use Rattle.ae_rules.specs.Derivations.{goal_body, IsConstructor}
+use Rattle.ae_rules.specs.Valuations.{same_truth}
+use Rattle.ae_rules.proofs.ClauseLaws.{row_eq, row_or}
 use Rattle.ae_core.proofs.Recursion.{fold_eq, fold_not, fold_or}
+use Rattle.ae_core.specs.declared.terms.Sort.{Sort, Int, out-Sort}
+use Rattle.ae_core.specs.declared.terms.Head.{Head}
 use Rattle.ae_core.specs.declared.terms.Head.TheVariants.{Symbol}
-use Rattle.ae_core.specs.declared.terms.Term.{Term, Term-F, out-Term}
-use Rattle.ae_core.specs.declared.terms.Term.TheOpen as term_layer
-use Rattle.ae_core.specs.declared.terms.Term.TheVariants.{outs-Apply}
-use Rattle.ae_core.specs.declared.formulas.Formula.{Formula, Eq, Not, Or}
+use Rattle.ae_core.specs.declared.terms.Term.{Term, Apply}
+use Rattle.ae_core.specs.declared.formulas.Formula.{Formula, Formula-F, Eq, Not, Or, Pred, out-Formula}
+use Rattle.ae_core.specs.declared.formulas.Formula.TheOpen as layer
+use Rattle.ae_core.specs.declared.formulas.Formula.TheVariants.{outs-Eq, outs-Or, outs-Pred}
+use Rattle.ae_core.specs.declared.formulas.Quant.{Quant}
 use Rattle.ae_core.specs.declared.formulas.Lit.{Lit}
-use Rattle.ae_driver.specs.declared.form.Equation.{Equation}
-use Rattle.ae_driver.specs.Form.{IsWithin}
-use Rattle.ae_driver.specs.Chains.{constant, equation, chain}
-use Rattle.ae_driver.specs.Truth.{truth, truth_step, same_truth}
-use Rattle.ae_driver.specs.StateTypes.{System}
-use Rattle.ae_driver.specs.StateChains.{state_literals, constants_from}
-use Rattle.ae_driver.specs.States.{value_in, value_of, same_value, alike, has_name, is_named, named_step, SomeStands, IsTakenApart}
-use Rattle.ae_driver.proofs.ValueFacts.{IsValues, Same}
+use Rattle.ae_core.specs.declared.problems.Problem.{Problem}
+use Rattle.ae_core.specs.declared.problems.Item.{Item}
+use Rattle.ae_core.specs.declared.problems.Item.TheVariants.{Axiom, Goal}
+use Rattle.ae_num.specs.declared.forms.Lin.{Lin}
+use Rattle.ae_journal.specs.Values.{Val, leaf}
+use Rattle.ae_journal.specs.Systems.{IsNamed, ValueOf, IsName, Has}
+use Rattle.ae_journal.specs.Truth.{truth, truth_step}
+use Rattle.ae_journal.specs.States.{IsSaturated, IsSaturatedBy, Stands, SomeStands, IsFirst, of_hypothesis, of_goal, Comes, first, by_row, by_block, Matches, HasGeneration, Owner, of_literal, of_axiom, Pattern, pattern_of, quant_of, is_universal_by, literal_pattern, axiom_pattern, inequality, inequality_of, outside, outside_step}
+use Rattle.ae_journal.specs.declared.systems.Saturated.{Saturated}
+use Rattle.ae_driver.specs.declared.first_text.Equation.{Equation}
+use Rattle.ae_driver.specs.declared.first_text.Chain.{Chain}
+use Rattle.ae_driver.specs.declared.first_text.FirstText.{FirstText}
+use Rattle.ae_driver.specs.Inner.Places.{IsEquationOver}
+use Rattle.ae_driver.specs.Problems.{constant, equation, chain, the_type, goal_item, signature, problem}
+use Rattle.ae_driver.specs.Inner.StateChains.{state_literals, constant_system, state_of}
+use Rattle.ae_driver.proofs.MergedValues.{IsValues, Same}
 use Rattle.ae_driver.proofs.ChainProof.{no_chain, no_not}
+use Rattle.ae_driver.proofs.ConstantSystems.{number, number_is, head_is, no_choices, no_constructor, name_of, valued, worth, its_sort, its_head, not_int, completed}
+use Rattle.ae_base.proofs.AllOf.{all_append}
+use Rattle.ae_base.proofs.Options.{never_some}
 
--- ---- different constants are different terms
-number_layer : Term-F Term → ℕ
-number_layer (term_layer.Apply (Symbol n) ss us) = n
-number_layer _ = 0
+-- ---- places and elements
+pub contains_at : {X : Type 0} (xs : List X) (i : ℕ) (x : X) → slice_get xs i ≡ Some x → Contains xs x
+contains_at xs i x e = (i, slice_get_within xs i x e, get_or_from_slice_get xs i x x e)
 
-pub number : Term → ℕ
-number t = number_layer (out-Term t)
-
-pub number_is : (n : ℕ) → number (constant n) ≡ n
-unfolding number number_layer
-number_is n = ap number_layer (outs-Apply (Symbol n) [] [])
-
-pub constant_inj : (m n : ℕ) → constant m ≡ constant n → m ≡ n
-constant_inj m n e = sym (number_is m) ∙ ap number e ∙ number_is n
-
-none_some : {Y : Type 0} {y : Y} → ◌≡◌ {A = Option Y} None (Some y) → ⊥
-none_some e = cc
-
--- ---- names and values
-pub value_at : (n k i : ℕ) (vs : List ℕ) → i < n → length vs ≡ n → value_in (constants_from k n) vs (constant (k + i)) ≡ Some (get_or vs i 0)
-value_at zero k i vs lt e = absurd (omega (arith, lt))
-value_at (suc n) k i [] lt e = absurd (omega (arith, e))
-value_at (suc n) k zero (v ∷ vs) lt e = pick_yes (Term_discrete (constant k) (constant (k + 0))) (Some v) _ (ap constant (let h : k ≡ k + 0 = omega arith in h))
-value_at (suc n) k (suc i) (v ∷ vs) lt e =
-    pick_no (Term_discrete (constant k) (constant (k + suc i))) (Some v) _ (λ same. absurd (omega (arith, constant_inj k (k + suc i) same)))
-    ∙ ap (λ m. value_in (constants_from (k + 1) n) vs (constant m)) (let h : k + suc i ≡ (k + 1) + i = omega arith in h)
-    ∙ value_at n (k + 1) i vs (omega (arith, lt)) (omega (arith, e))
+all_contained : {X : Type 0} (P : X → Type 0) (xs : List X) (x : X) → AllByRecursion P xs → Contains xs x → P x
+all_contained P [] x a (k, lt, e) = absurd (omega (arith, lt))
+all_contained P (y ∷ ys) x a (zero, lt, e) = subst P e a.0
+all_contained P (y ∷ ys) x a (suc k, lt, e) = all_contained P ys x a.1 (k, omega (arith, lt), e)
 
 -- ---- equality of numbers
 nat_eq_same : (a b : ℕ) → a ≡ b → nat_eq a b ≡ true
@@ -60,35 +57,92 @@ nat_eq_same a b e = ⊎_elim (λ s. s.0) (λ d. absurd (d.1 e)) (eqb_tells a b)
 nat_eq_apart : (a b : ℕ) → a ≢ b → nat_eq a b ≡ false
 nat_eq_apart a b n = ⊎_elim (λ s. absurd (n s.1)) (λ d. d.0) (eqb_tells a b)
 
--- ---- truth
--- the literal is true
-abbrev lit_true : (Term → Term → Bool) → Lit → Bool
-lit_true alike l = same_truth l.positive (truth alike l.formula)
+-- ---- the first literal denies the chain
+pub first_literal : (es : List Equation) (g : Equation) → slice_get (state_literals es g) 0 ≡ Some (is_false (chain es g))
+first_literal [] g = refl
+first_literal (e ∷ es) g = refl
 
-module _ (s : System) where
-  truth_eq : (a b : Term) → truth (alike s) (Eq a b) ≡ alike s a b
+-- ---- what the literals are not
+outs_equation : (e : Equation) → out-Formula (equation e) ≡ layer.Eq (constant e.left) (constant e.right)
+outs_equation e = outs-Eq (constant e.left) (constant e.right)
+
+outs_chain : (e : Equation) (es : List Equation) (g : Equation) → out-Formula (chain (e ∷ es) g) ≡ layer.Or (Not (equation e)) (chain es g)
+outs_chain e es g = outs-Or (Not (equation e)) (chain es g)
+
+chain_no_equation : (e : Equation) (es : List Equation) (g : Equation) (s t : Term) → chain (e ∷ es) g ≡ Eq s t → ⊥
+chain_no_equation e es g s t h = let z : layer.Or (Not (equation e)) (chain es g) ≡ layer.Eq s t = sym (outs_chain e es g) ∙ ap out-Formula h ∙ outs-Eq s t in cc
+
+chain_no_atom : (e : Equation) (es : List Equation) (g : Equation) (q : ℕ) (ss : List Sort) (us : List Term) → chain (e ∷ es) g ≡ Pred q ss us → ⊥
+chain_no_atom e es g q ss us h = let z : layer.Or (Not (equation e)) (chain es g) ≡ layer.Pred q ss us = sym (outs_chain e es g) ∙ ap out-Formula h ∙ outs-Pred q ss us in cc
+
+equation_no_atom : (e : Equation) (q : ℕ) (ss : List Sort) (us : List Term) → equation e ≡ Pred q ss us → ⊥
+equation_no_atom e q ss us h = let z : layer.Eq (constant e.left) (constant e.right) ≡ layer.Pred q ss us = sym (outs_equation e) ∙ ap out-Formula h ∙ outs-Pred q ss us in cc
+
+sides_are : (e : Equation) (s t : Term) → equation e ≡ Eq s t → (constant e.left ≡ s) × (constant e.right ≡ t)
+sides_are e s t h = let z : layer.Eq (constant e.left) (constant e.right) ≡ layer.Eq s t = sym (outs_equation e) ∙ ap out-Formula h ∙ outs-Eq s t in (cc, cc)
+
+formula_of : (l m : Lit) → l ≡ m → l.formula ≡ m.formula
+formula_of l m e = ap (λ (x : Lit). x.formula) e
+
+signs_differ : {A : Type 0} (f h : Formula) → is_false f ≡ is_true h → A
+signs_differ f h e = absurd (true≢false (sym (ap (λ (x : Lit). x.positive) e)))
+
+signs_unlike : {A : Type 0} (f h : Formula) → is_true f ≡ is_false h → A
+signs_unlike f h e = absurd (true≢false (ap (λ (x : Lit). x.positive) e))
+
+leaves_differ : (a b : ℕ) (v : Val) → a ≢ b → leaf a ≡ v → leaf b ≡ v → ⊥
+leaves_differ a b v n e h = let z : leaf a ≡ leaf b = e ∙ sym h in n cc
+
+-- ---- each literal is a negated chain, a hypothesis, or the negated end
+module _ (n : ℕ) (vs : List ℕ) (g : Equation) (w : IsEquationOver n g) where
+  -- what holds of these three kinds
+  pub record OnEachKind (P : Lit → Type 0) : Type 0 where
+    pub denied : (e : Equation) (hs : List Equation) → AllByRecursion (IsEquationOver n) (e ∷ hs) → AllByRecursion (Same vs) (e ∷ hs) → P (is_false (chain (e ∷ hs) g))
+    pub given : (e : Equation) → IsEquationOver n e → Same vs e → P (is_true (equation e))
+    pub end : P (is_false (equation g))
+
+  each_literal : (P : Lit → Type 0) → OnEachKind P → (hs : List Equation) → AllByRecursion (IsEquationOver n) hs → AllByRecursion (Same vs) hs → AllByRecursion P (state_literals hs g)
+  each_literal P c [] v h = (c.end, tt)
+  each_literal P c (e ∷ hs) v h = (c.denied e hs v h, (c.given e v.0 h.0, each_literal P c hs v.1 h.1))
+
+-- ---- truth, where equality of constants is equality of their values
+module _ (n : ℕ) (vs : List ℕ) (same : Term → Term → Bool) (said : ℕ → List Sort → List Term → Bool)
+    (agrees : (a b : ℕ) → a < n → b < n → same (constant a) (constant b) ≡ nat_eq (get_or vs a 0) (get_or vs b 0)) where
+  true_eq : (a b : Term) → truth same said (Eq a b) ≡ same a b
   unfolding truth
-  truth_eq = fold_eq Bool (Unit {0}) (truth_step (alike s)) (λ q. tt)
+  true_eq = fold_eq Bool (Unit {0}) (truth_step same said) (λ q. tt)
 
-  truth_not : (a : Formula) → truth (alike s) (Not a) ≡ not (truth (alike s) a)
+  true_not : (a : Formula) → truth same said (Not a) ≡ not (truth same said a)
   unfolding truth
-  truth_not = fold_not Bool (Unit {0}) (truth_step (alike s)) (λ q. tt)
+  true_not = fold_not Bool (Unit {0}) (truth_step same said) (λ q. tt)
 
-  truth_or : (a b : Formula) → truth (alike s) (Or a b) ≡ truth (alike s) a || truth (alike s) b
+  true_or : (a b : Formula) → truth same said (Or a b) ≡ truth same said a || truth same said b
   unfolding truth
-  truth_or = fold_or Bool (Unit {0}) (truth_step (alike s)) (λ q. tt)
+  true_or = fold_or Bool (Unit {0}) (truth_step same said) (λ q. tt)
 
-  named_eq : (a b : Term) → is_named s (Eq a b) ≡ has_name s a && has_name s b
-  unfolding is_named
-  named_eq = fold_eq Bool (Unit {0}) (named_step s) (λ q. tt)
+  equation_true : (e : Equation) → IsEquationOver n e → Same vs e → truth same said (equation e) ≡ true
+  equation_true e v h = true_eq (constant e.left) (constant e.right) ∙ agrees e.left e.right v.0 v.1 ∙ nat_eq_same _ _ h
 
-  named_not : (a : Formula) → is_named s (Not a) ≡ is_named s a
-  unfolding is_named
-  named_not = fold_not Bool (Unit {0}) (named_step s) (λ q. tt)
+  module _ (g : Equation) (w : IsEquationOver n g) (differ : get_or vs g.left 0 ≢ get_or vs g.right 0) where
+    end_false : truth same said (equation g) ≡ false
+    end_false = true_eq (constant g.left) (constant g.right) ∙ agrees g.left g.right w.0 w.1 ∙ nat_eq_apart _ _ differ
 
-  named_or : (a b : Formula) → is_named s (Or a b) ≡ is_named s a && is_named s b
-  unfolding is_named
-  named_or = fold_or Bool (Unit {0}) (named_step s) (λ q. tt)
+    pub chain_false : (hs : List Equation) → AllByRecursion (IsEquationOver n) hs → AllByRecursion (Same vs) hs → truth same said (chain hs g) ≡ false
+    chain_false [] v h = end_false
+    chain_false (e ∷ hs) v h =
+        true_or (Not (equation e)) (chain hs g)
+        ∙ (λ i. (true_not (equation e) ∙ ap not (equation_true e v.0 h.0)) i || chain_false hs v.1 h.1 i)
+
+    -- each literal is true
+    abbrev IsTrueHere : Lit → Type 0
+    IsTrueHere l = same_truth l.positive (truth same said l.formula) ≡ true
+
+    pub all_true : OnEachKind n vs g w IsTrueHere
+    all_true = record {
+      denied = λ e hs v h. ap (same_truth false) (chain_false (e ∷ hs) v h);
+      given = λ e v h. ap (same_truth true) (equation_true e v h);
+      end = ap (same_truth false) end_false;
+    }
 
 opposite_not_true : (b c : Bool) → same_truth b c ≡ true → same_truth (not b) c ≡ true → ⊥
 opposite_not_true true true e h = true≢false (sym h)
@@ -96,39 +150,32 @@ opposite_not_true true false e h = true≢false (sym e)
 opposite_not_true false true e h = true≢false (sym e)
 opposite_not_true false false e h = true≢false (sym h)
 
--- literals by their places
-every_at : {X : Type 0} (P : X → Type 0) (xs : List X) (i : ℕ) (x : X) → AllByRecursion P xs → slice_get xs i ≡ Some x → P x
-every_at P [] i x a e = absurd (none_some e)
-every_at P (y ∷ ys) zero x a e = subst P (ap (λ o. or_else o y) e) a.0
-every_at P (y ∷ ys) (suc i) x a e = every_at P ys i x a.1 e
-
-pub all_among : {X : Type 0} (P : X → Type 0) (xs : List X) → ((i : ℕ) (x : X) → slice_get xs i ≡ Some x → P x) → AllByRecursion P xs
-all_among P [] f = tt
-all_among P (x ∷ xs) f = (f 0 x refl, all_among P xs (λ i. f (suc i)))
-
--- the first literal denies the chain
-pub first_literal : (es : List Equation) (g : Equation) → slice_get (state_literals es g) 0 ≡ Some (is_false (chain es g))
-first_literal [] g = refl
-first_literal (e ∷ es) g = refl
-
 -- ---- taking apart
 row_choice : (b c d : Bool) (x y w : Clause) (z : Clause) → cond b (Some x) (cond c (Some y) (cond d (Some w) None)) ≡ Some z → (x ≡ z) ⊎ ((y ≡ z) ⊎ (w ≡ z))
 row_choice true c d x y w z e = inl (ap (λ o. or_else o x) e)
 row_choice false true d x y w z e = inr (inl (ap (λ o. or_else o y) e))
 row_choice false false true x y w z e = inr (inr (ap (λ o. or_else o w) e))
-row_choice false false false x y w z e = absurd (none_some e)
+row_choice false false false x y w z e = absurd (never_some _ e)
 
-first_stands : (ls : List Lit) (a : Lit) (others c : Clause) → Among ls a → a ∷ others ≡ c → SomeStands ls c
-first_stands ls a others c h e = (a, subst (λ z. Among z a) e (0, refl), h)
+-- a literal of the clause is among these
+abbrev HasOne : List Lit → Clause → Type 0
+HasOne ls c = (l : Lit) × Contains c l × Contains ls l
 
-second_stands : (ls : List Lit) (a b : Lit) (c : Clause) → Among ls b → a ∷ b ∷ [] ≡ c → SomeStands ls c
-second_stands ls a b c h e = (b, subst (λ z. Among z b) e (1, refl), h)
+first_one : (ls : List Lit) (a : Lit) (others c : Clause) → Contains ls a → a ∷ others ≡ c → HasOne ls c
+first_one ls a others c h e = (a, subst (λ z. Contains z a) e (0, omega arith, refl), h)
+
+second_one : (ls : List Lit) (a b : Lit) (c : Clause) → Contains ls b → a ∷ b ∷ [] ≡ c → HasOne ls c
+second_one ls a b c h e = (b, subst (λ z. Contains z b) e (1, omega arith, refl), h)
 
 module _ (all : List Lit) where
-  apart_eq : (sign : Bool) (e : Equation) → IsTakenApart all (record { positive = sign; formula = equation e })
-  apart_eq sign e r c h = absurd (none_some (sym (row_eq r (constant e.left) (constant e.right)) ∙ h))
+  abbrev IsTakenApart : Lit → Type 0
+  IsTakenApart l = (r : ℕ) (c : Clause) → row r l.formula ≡ Some c → HasOne all c
 
-  apart_or : (e : Equation) (es : List Equation) (g : Equation) → Among all (is_false (chain (e ∷ es) g)) → Among all (is_true (equation e)) → Among all (is_false (chain es g)) → IsTakenApart all (is_false (chain (e ∷ es) g))
+  apart_eq : (sign : Bool) (e : Equation) → IsTakenApart (record { positive = sign; formula = equation e })
+  apart_eq sign e r c h = absurd (never_some _ (sym (row_eq r (constant e.left) (constant e.right)) ∙ h))
+
+  apart_or : (e : Equation) (es : List Equation) (g : Equation) → Contains all (is_false (chain (e ∷ es) g)) → Contains all (is_true (equation e)) → Contains all (is_false (chain es g))
+      → IsTakenApart (is_false (chain (e ∷ es) g))
   apart_or e es g itself he hs r c h =
       let f = chain (e ∷ es) g in
       let four = is_true f ∷ is_true (equation e) ∷ [] in
@@ -139,89 +186,217 @@ module _ (all : List Lit) where
       row_or r (Not (equation e)) (chain es g)
       ∙ (λ i. cond (nat_eq r 4) (Some (is_true f ∷ no_not e i ∷ [])) (cond (nat_eq r 5) (Some (is_true f ∷ no_chain es g i ∷ [])) (cond (nat_eq r 6) (Some six) None))) in
       ⊎_elim
-      (λ x. second_stands all (is_true f) (is_true (equation e)) c he x)
+      (λ x. second_one all (is_true f) (is_true (equation e)) c he x)
       (λ later. ⊎_elim
-      (λ y. second_stands all (is_true f) (is_false (chain es g)) c hs y)
-      (λ w. first_stands all (is_false f) parts c itself w)
+      (λ y. second_one all (is_true f) (is_false (chain es g)) c hs y)
+      (λ w. first_one all (is_false f) parts c itself w)
       later)
       (row_choice (nat_eq r 4) (nat_eq r 5) (nat_eq r 6) four five six c (sym rows ∙ h))
 
-  apart_literals : (es : List Equation) (g : Equation) → ((i : ℕ) (l : Lit) → slice_get (state_literals es g) i ≡ Some l → Among all l) → AllByRecursion (IsTakenApart all) (state_literals es g)
+  apart_literals : (es : List Equation) (g : Equation) → ((i : ℕ) (l : Lit) → slice_get (state_literals es g) i ≡ Some l → Contains all l) → AllByRecursion IsTakenApart (state_literals es g)
   apart_literals [] g f = (apart_eq false g, tt)
   apart_literals (e ∷ es) g f = (
     apart_or e es g (f 0 (is_false (chain (e ∷ es) g)) refl) (f 1 (is_true (equation e)) refl) (f 2 (is_false (chain es g)) (first_literal es g)),
     (apart_eq true e, apart_literals es g (λ i. f (suc (suc i)))),
   )
 
--- ---- a chain whose values tell its sides apart
-module _ (n : ℕ) (es : List Equation) (g : Equation) (vs : List ℕ) (ws : AllByRecursion (IsWithin n) es) (w : IsWithin n g) (is : IsValues n vs)
-    (same : AllByRecursion (Same vs) es) (differ : get_or vs g.left 0 ≢ get_or vs g.right 0) where
-  abbrev pub the_system : System
-  the_system = record { names = constants_from 0 n; values = vs }
+-- ---- the terms of the literals
+outside_eq : (a b : Term) → outside (Eq a b) ≡ a ∷ b ∷ []
+unfolding outside
+outside_eq = fold_eq (List Term) (Unit {0}) outside_step (λ q. tt)
 
-  value_is : (c : ℕ) → c < n → value_of the_system (constant c) ≡ Some (get_or vs c 0)
-  value_is c lt = ap (λ m. value_in (constants_from 0 n) vs (constant m)) (let h : c ≡ 0 + c = omega arith in h) ∙ value_at n 0 c vs lt is.count
+outside_not : (a : Formula) → outside (Not a) ≡ outside a
+unfolding outside
+outside_not = fold_not (List Term) (Unit {0}) outside_step (λ q. tt)
 
-  alike_is : (a b : ℕ) → a < n → b < n → alike the_system (constant a) (constant b) ≡ nat_eq (get_or vs a 0) (get_or vs b 0)
-  alike_is a b la lb = λ i. same_value (value_is a la i) (value_is b lb i) (decided (Term_discrete (constant a) (constant b)))
+outside_or : (a b : Formula) → outside (Or a b) ≡ outside a ++ outside b
+unfolding outside
+outside_or = fold_or (List Term) (Unit {0}) outside_step (λ q. tt)
 
-  equation_true : (e : Equation) → IsWithin n e → Same vs e → truth (alike the_system) (equation e) ≡ true
-  equation_true e v h = truth_eq the_system _ _ ∙ alike_is e.left e.right v.0 v.1 ∙ nat_eq_same _ _ h
+-- ---- the items are goals: none is a hypothesis, and none is instantiated
+no_item : {B : Type 0} (b : Bool) (gs : List Chain) (k : ℕ) (take : Item → Option B) (y : B) → ((g : Chain) → take (goal_item g) ≡ None) → (only b (slice_get (map goal_item gs) k) >>= take) ≡ Some y → ⊥
+no_item false gs k take y n e = never_some _ e
+no_item true [] k take y n e = never_some _ e
+no_item true (g ∷ gs) zero take y n e = never_some _ (sym (n g) ∙ e)
+no_item true (g ∷ gs) (suc k) take y n e = no_item true gs k take y n e
 
-  end_false : truth (alike the_system) (equation g) ≡ false
-  end_false = truth_eq the_system _ _ ∙ alike_is g.left g.right w.0 w.1 ∙ nat_eq_apart _ _ differ
+module _ (f : FirstText) (k : ℕ) where
+  no_hypothesis : (i : ℕ) (ss : List Sort) (b : Formula) → hypothesis (problem f) k i ss ≡ Some b → ⊥
+  no_hypothesis i ss b e = no_item (nat_lt i k) f.goals i (λ x. elim x [ Axiom n v h ↦ axiom_with v h ss | Goal n v h ↦ None ]) b (λ g. refl) e
 
-  chain_false : (hs : List Equation) → AllByRecursion (IsWithin n) hs → AllByRecursion (Same vs) hs → truth (alike the_system) (chain hs g) ≡ false
-  chain_false [] v h = end_false
-  chain_false (e ∷ hs) v h =
-      truth_or the_system (Not (equation e)) (chain hs g)
-      ∙ (λ i. (truth_not the_system (equation e) ∙ ap not (equation_true e v.0 h.0)) i || chain_false hs v.1 h.1 i)
+  no_axiom_pattern : (i : ℕ) (q : Pattern) → pattern_of (problem f) k (of_axiom i) ≡ Some q → ⊥
+  no_axiom_pattern i q e =
+      no_item (nat_lt i k) f.goals i (λ x. elim x [ Axiom n v h ↦ only (nat_lt 0 v) (Some (axiom_pattern (problem f).signature v h (out-Formula h))) | Goal n v h ↦ None ]) q (λ g. refl) e
 
-  equation_named : (e : Equation) → IsWithin n e → is_named the_system (equation e) ≡ true
-  equation_named e v = named_eq the_system _ _ ∙ (λ i. known (value_is e.left v.0 i) && known (value_is e.right v.1 i))
+-- ---- the state
+module _ (f : FirstText) (k : ℕ) (g : Chain) (vs : List ℕ) (is : IsValues (length f.constants) vs) (is_goal : (b : Formula) → goal_body (problem f) k ≡ Some b → chain g.hyps g.last ≡ b)
+    (ws : AllByRecursion (IsEquationOver (length f.constants)) g.hyps) (w : IsEquationOver (length f.constants) g.last)
+    (same : AllByRecursion (Same vs) g.hyps) (differ : get_or vs g.last.left 0 ≢ get_or vs g.last.right 0) where
+  abbrev n : ℕ
+  n = length f.constants
 
-  chain_named : (hs : List Equation) → AllByRecursion (IsWithin n) hs → is_named the_system (chain hs g) ≡ true
-  chain_named [] v = equation_named g w
-  chain_named (e ∷ hs) v = named_or the_system (Not (equation e)) (chain hs g) ∙ (λ i. (named_not the_system (equation e) ∙ equation_named e v.0) i && chain_named hs v.1 i)
+  abbrev state : Saturated
+  state = state_of n g.hyps g.last vs
 
-  literals_true : (hs : List Equation) → AllByRecursion (IsWithin n) hs → AllByRecursion (Same vs) hs → AllByRecursion (λ l. lit_true (alike the_system) l ≡ true) (state_literals hs g)
-  literals_true [] v h = (ap (same_truth false) end_false, tt)
-  literals_true (e ∷ hs) v h = (ap (same_truth false) (chain_false (e ∷ hs) v h), (ap (same_truth true) (equation_true e v.0 h.0), literals_true hs v.1 h.1))
+  abbrev p : Problem
+  p = problem f
 
-  literals_named : (hs : List Equation) → AllByRecursion (IsWithin n) hs → AllByRecursion (λ l. is_named the_system l.formula ≡ true) (state_literals hs g)
-  literals_named [] v = (equation_named g w, tt)
-  literals_named (e ∷ hs) v = (chain_named (e ∷ hs) v, (equation_named e v.0, literals_named hs v.1))
+  -- what holds of each kind of literal holds of each literal that stands
+  every : (P : Lit → Type 0) → OnEachKind n vs g.last w P → (l : Lit) → Stands p k state l → P l
+  every P c l h = all_contained P (state_literals g.hyps g.last) l (each_literal n vs g.last w P c g.hyps ws same) h
 
-  pub consistent : (l : Lit) → Among (state_literals es g) l → Among (state_literals es g) (opposite l) → ⊥
-  consistent l h k =
-      let true_all = literals_true es ws same in
-      opposite_not_true l.positive (truth (alike the_system) l.formula)
-      (every_at (λ m. lit_true (alike the_system) m ≡ true) (state_literals es g) h.0 l true_all h.1)
-      (every_at (λ m. lit_true (alike the_system) m ≡ true) (state_literals es g) k.0 (opposite l) true_all k.1)
+  -- equality by the constants' values
+  by_values : Term → Term → Bool
+  by_values t u = nat_eq (get_or vs (number t) 0) (get_or vs (number u) 0)
 
-  equal_true : (b : Bool) → same_truth true b ≡ true → b ≡ true
-  equal_true true e = refl
-  equal_true false e = e
+  values_agree : (a b : ℕ) → a < n → b < n → by_values (constant a) (constant b) ≡ nat_eq (get_or vs a 0) (get_or vs b 0)
+  unfolding by_values
+  values_agree a b la lb = λ i. nat_eq (get_or vs (number_is a i) 0) (get_or vs (number_is b i) 0)
 
-  apart_false : (b : Bool) → same_truth false b ≡ true → b ≡ false
-  apart_false true e = sym e
-  apart_false false e = refl
+  consistent : (l : Lit) → Stands p k state l → ¬ Stands p k state (opposite l)
+  consistent l h o =
+      let said = λ (q : ℕ) (ss : List Sort) (us : List Term). false in
+      let P : Lit → Type 0 = λ m. same_truth m.positive (truth by_values said m.formula) ≡ true in
+      let true_ones : OnEachKind n vs g.last w P = all_true n vs by_values said values_agree g.last w differ in
+      opposite_not_true l.positive (truth by_values said l.formula) (every P true_ones l h) (every P true_ones (opposite l) o)
 
-  pub equal_sides : (t u : Term) → Among (state_literals es g) (record { positive = true; formula = Eq t u }) → alike the_system t u ≡ true
-  equal_sides t u h =
-      sym (truth_eq the_system t u)
-      ∙ equal_true _ (every_at (λ m. lit_true (alike the_system) m ≡ true) (state_literals es g) h.0 _ (literals_true es ws same) h.1)
+  named_equation : (e : Equation) → IsEquationOver n e → AllByRecursion (IsNamed (constant_system n vs)) (outside (equation e))
+  named_equation e v =
+      subst (AllByRecursion (IsNamed (constant_system n vs))) (sym (outside_eq (constant e.left) (constant e.right)))
+      ((e.left, name_of f vs is e.left v.0), ((e.right, name_of f vs is e.right v.1), tt))
 
-  pub apart_sides : (t u : Term) → Among (state_literals es g) (record { positive = false; formula = Eq t u }) → alike the_system t u ≡ false
-  apart_sides t u h =
-      sym (truth_eq the_system t u)
-      ∙ apart_false _ (every_at (λ m. lit_true (alike the_system) m ≡ true) (state_literals es g) h.0 _ (literals_true es ws same) h.1)
+  named_chain : (hs : List Equation) → AllByRecursion (IsEquationOver n) hs → AllByRecursion (IsNamed (constant_system n vs)) (outside (chain hs g.last))
+  named_chain [] v = named_equation g.last w
+  named_chain (e ∷ hs) v =
+      subst (AllByRecursion (IsNamed (constant_system n vs))) (sym (outside_or (Not (equation e)) (chain hs g.last) ∙ ap (λ ts. ts ++ outside (chain hs g.last)) (outside_not (equation e))))
+      (all_append (IsNamed (constant_system n vs)) (outside (equation e)) (outside (chain hs g.last)) (named_equation e v.0) (named_chain hs v.1))
 
-  pub goal_is_false : truth (alike the_system) (chain es g) ≡ false
-  goal_is_false = chain_false es ws same
+  named : OnEachKind n vs g.last w (λ l. AllByRecursion (IsNamed (constant_system n vs)) (outside l.formula))
+  named = record {
+    denied = λ e hs v h. named_chain (e ∷ hs) v;
+    given = λ e v h. named_equation e v;
+    end = named_equation g.last w;
+  }
 
-  pub all_named : AllByRecursion (λ l. is_named the_system l.formula ≡ true) (state_literals es g)
-  all_named = literals_named es ws
+  stands_first : Stands p k state (is_false (chain g.hyps g.last))
+  stands_first = contains_at (state_literals g.hyps g.last) 0 _ (first_literal g.hyps g.last)
 
-  pub all_apart : AllByRecursion (IsTakenApart (state_literals es g)) (state_literals es g)
-  all_apart = apart_literals (state_literals es g) es g (λ i l h. (i, h))
+  firsts : (l : Lit) → IsFirst p k state l → Stands p k state l
+  firsts l (of_hypothesis i b e) = absurd (no_hypothesis f k i [] b e)
+  firsts l (of_goal b e) = subst (Stands p k state) (sym (no_chain g.hyps g.last) ∙ ap no_of (is_goal b e)) stands_first
+
+  taken_apart : (l : Lit) → Stands p k state l → (r : ℕ) (c : Clause) → row r l.formula ≡ Some c → SomeStands p k state c
+  taken_apart l h =
+      all_contained (IsTakenApart (state_literals g.hyps g.last)) (state_literals g.hyps g.last) l
+      (apart_literals (state_literals g.hyps g.last) g.hyps g.last (λ i m e. contains_at (state_literals g.hyps g.last) i m e)) h
+
+  -- the two sides have one value
+  abbrev HaveOneValue : Term → Term → Type 0
+  HaveOneValue s t = (v : Val) × ValueOf (constant_system n vs) s v × ValueOf (constant_system n vs) t v
+
+  equal : (s t : Term) → OnEachKind n vs g.last w (λ l. l ≡ is_true (Eq s t) → HaveOneValue s t)
+  equal s t = record {
+    denied = λ e hs v h is_it. signs_differ (chain (e ∷ hs) g.last) (Eq s t) is_it;
+    given = λ e v h is_it. one_value e v h (sides_are e s t (formula_of _ _ is_it));
+    end = λ is_it. signs_differ (equation g.last) (Eq s t) is_it;
+  }
+    where
+      one_value : (e : Equation) → IsEquationOver n e → Same vs e → (constant e.left ≡ s) × (constant e.right ≡ t) → HaveOneValue s t
+      one_value e v h sides = (
+        leaf (get_or vs e.left 0),
+        subst (λ x. ValueOf (constant_system n vs) x (leaf (get_or vs e.left 0))) sides.0 (valued f vs is e.left v.0),
+        subst (λ x. ValueOf (constant_system n vs) x (leaf (get_or vs e.left 0))) sides.1 (subst (λ u. ValueOf (constant_system n vs) (constant e.right) (leaf u)) (sym h) (valued f vs is e.right v.1)),
+      )
+
+  unequal : (s t : Term) (v : Val) → ValueOf (constant_system n vs) s v → ValueOf (constant_system n vs) t v → OnEachKind n vs g.last w (λ l. l ≡ is_false (Eq s t) → ⊥)
+  unequal s t v a b = record {
+    denied = λ e hs o h is_it. chain_no_equation e hs g.last s t (formula_of _ _ is_it);
+    given = λ e o h is_it. signs_unlike (equation e) (Eq s t) is_it;
+    end = λ is_it. apart (sides_are g.last s t (formula_of _ _ is_it));
+  }
+    where
+      apart : (constant g.last.left ≡ s) × (constant g.last.right ≡ t) → ⊥
+      apart sides =
+          leaves_differ (get_or vs g.last.left 0) (get_or vs g.last.right 0) v differ
+          (worth f vs is g.last.left v (subst (λ x. ValueOf (constant_system n vs) x v) (sym sides.0) a))
+          (worth f vs is g.last.right v (subst (λ x. ValueOf (constant_system n vs) x v) (sym sides.1) b))
+
+  no_atom : (q : ℕ) (ss : List Sort) (us : List Term) → OnEachKind n vs g.last w (λ l. l ≡ is_true (Pred q ss us) → ⊥)
+  no_atom q ss us = record {
+    denied = λ e hs o h is_it. chain_no_atom e hs g.last q ss us (formula_of _ _ is_it);
+    given = λ e o h is_it. equation_no_atom e q ss us (formula_of _ _ is_it);
+    end = λ is_it. equation_no_atom g.last q ss us (formula_of _ _ is_it);
+  }
+
+  -- no literal is an inequality or quantified
+  no_inequality : (x : Term × Term × Bool) → OnEachKind n vs g.last w (λ l. inequality l ≡ Some x → ⊥)
+  no_inequality x = record {
+    denied = λ e hs o h is_it. never_some _ (ap (inequality_of false) (sym (outs_chain e hs g.last)) ∙ is_it);
+    given = λ e o h is_it. never_some _ (ap (inequality_of true) (sym (outs_equation e)) ∙ is_it);
+    end = λ is_it. never_some _ (ap (inequality_of false) (sym (outs_equation g.last)) ∙ is_it);
+  }
+
+  no_quantifier : (q : Quant) → OnEachKind n vs g.last w (λ l. quant_of (out-Formula l.formula) ≡ Some q → ⊥)
+  no_quantifier q = record {
+    denied = λ e hs o h is_it. never_some _ (ap quant_of (sym (outs_chain e hs g.last)) ∙ is_it);
+    given = λ e o h is_it. never_some _ (ap quant_of (sym (outs_equation e)) ∙ is_it);
+    end = λ is_it. never_some _ (ap quant_of (sym (outs_equation g.last)) ∙ is_it);
+  }
+
+  no_pattern : (q : Pattern) → OnEachKind n vs g.last w (λ l. pattern_of p k (of_literal l) ≡ Some q → ⊥)
+  no_pattern q = record {
+    denied = λ e hs o h is_it. never_some _ (ap (by_formula false) (sym (outs_chain e hs g.last)) ∙ is_it);
+    given = λ e o h is_it. never_some _ (ap (by_formula true) (sym (outs_equation e)) ∙ is_it);
+    end = λ is_it. never_some _ (ap (by_formula false) (sym (outs_equation g.last)) ∙ is_it);
+  }
+    where
+      by_formula : Bool → Formula-F Formula Quant → Option Pattern
+      by_formula sign o = only (is_universal_by sign o) (quant_of o) >>= λ x. Some (literal_pattern p.signature x)
+
+  -- nothing is taken for a quantified literal, since there is none
+  takes : Lit → Lit
+  takes l = l
+
+  begins_so : (m : ℕ) (l : Lit) → HasGeneration p k state takes m l → Stands p k state l
+  begins_so zero l (first a b) = b
+  begins_so zero l (by_row r c a b d e h i) = i
+  begins_so zero l (by_block q a b c d) = d
+  begins_so (suc m) l (first a b) = b
+  begins_so (suc m) l (by_row r c a b d e h i) = i
+  begins_so (suc m) l (by_block q a b c d) = d
+
+  comes_so : (m : ℕ) (l : Lit) → Comes p k state takes (HasGeneration p k state takes m) l → Stands p k state l
+  comes_so m l (first a b) = b
+  comes_so m l (by_row r c a b d e h i) = i
+  comes_so m l (by_block q a b c d) = d
+
+  none_matches : (m : ℕ) (o : Owner) (us : List Sort) (ts : List Term) → Matches p k state takes (HasGeneration p k state takes m) o us ts → ⊥
+  none_matches m (of_literal l) us ts h = every (λ x. pattern_of p k (of_literal x) ≡ Some h.pattern → ⊥) (no_pattern h.pattern) l (comes_so m l h.owner_comes) h.of_owner
+  none_matches m (of_axiom i) us ts h = no_axiom_pattern f k i h.pattern h.of_owner
+
+  no_constructor_value : (h : Head) (v : Val) → IsConstructor (signature f) h → ValueOf (constant_system n vs) (Apply h [] []) v → ⊥
+  no_constructor_value h v c (i, name, value) = no_constructor f i h (its_head f vs is i h [] [] name) c
+
+  no_enumeration : (s : Sort) (v : Val) (i : ℕ) (hs : List Head) → Has (signature f) (constant_system n vs) s v i → choices_of (signature f) (out-Sort s) ≡ Some hs → ⊥
+  no_enumeration s v i hs h e = never_some _ (sym (no_choices f) ∙ ap (λ o. choices_of (signature f) (out-Sort o)) (its_sort f vs is i h.term s h.is h.sort) ∙ e)
+
+  saturated_by : (bound : ℕ) → IsSaturatedBy p k state takes bound
+  saturated_by bound = record {
+    consistent = consistent;
+    completed = completed f vs is;
+    named = every (λ l. AllByRecursion (IsNamed (constant_system n vs)) (outside l.formula)) named;
+    firsts = firsts;
+    taken_apart = taken_apart;
+    equal = λ s t h. every (λ l. l ≡ is_true (Eq s t) → HaveOneValue s t) (equal s t) (is_true (Eq s t)) h refl;
+    unequal = λ s t v h a b. every (λ l. l ≡ is_false (Eq s t) → ⊥) (unequal s t v a b) (is_false (Eq s t)) h refl;
+    constructors = λ h i v a b c d. absurd (no_constructor_value h v a c);
+    predicates = λ q ss ts us h o a. every (λ l. l ≡ is_true (Pred q ss ts) → ⊥) (no_atom q ss ts) (is_true (Pred q ss ts)) h refl;
+    exhausted = λ s v i hs h e. absurd (no_enumeration s v i hs h e);
+    whole = λ i d t lin e s h. absurd (not_int (its_sort f vs is i t Int e s));
+    inequalities = λ l s t strict v u h e a b. absurd (every (λ x. inequality x ≡ Some (s, t, strict) → ⊥) (no_inequality (s, t, strict)) l h e);
+    blocks = λ l q h u e. absurd (every (λ x. quant_of (out-Formula x.formula) ≡ Some q → ⊥) (no_quantifier q) l h e);
+    instances = λ m o us ts lt h small. absurd (none_matches m o us ts h);
+  }
+
+  pub saturated : (bound : ℕ) → IsSaturated p k state bound
+  saturated bound = (takes, saturated_by bound)

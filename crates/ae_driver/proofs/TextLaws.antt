@@ -5,10 +5,10 @@ use Rattle.ae_core.specs.declared.terms.Sort.{Sort}
 use Rattle.ae_core.specs.declared.terms.Head.{Head}
 use Rattle.ae_core.specs.declared.terms.Term.{Term, Bound, Num, Fresh, Apply}
 use Rattle.ae_core.specs.declared.terms.Term.TheVariants.{outs-Bound, outs-Num, outs-Fresh, outs-Apply}
-use Rattle.ae_driver.specs.declared.form.Equation.{Equation}
-use Rattle.ae_driver.specs.Chains.{hints}
+use Rattle.ae_driver.specs.declared.first_text.Equation.{Equation}
+use Rattle.ae_driver.specs.Inner.ChainProofs.{hints}
 use Rattle.ae_driver.specs.Texts.{Names, numbers_text}
-use Rattle.ae_driver.specs.Bytes.{term_bytes, term_layer_bytes, head_bytes, closing_bytes, def_bytes, defs_bytes}
+use Rattle.ae_driver.specs.Inner.Bytes.{term_bytes, term_layer_bytes, head_bytes, closing_bytes, def_bytes, defs_bytes}
 
 pub bytes_bound : (names : Names) (n : ℕ) → term_bytes names (Bound n) ≡ []
 unfolding term_bytes

@@ -2,8 +2,8 @@
 use Rattle.std.specs.Prelude.{ℕ, zero, suc, ◌+◌, ◌<◌, Bool, true, false, List, [], ◌∷◌, ◌++◌, ◌≡◌, map, length, slice_get, Option, Some, codes, decimal}
 use Rattle.std.specs.List.{AllByRecursion, flat_map}
 use Rattle.std.proofs.Common.{refl, sym, ap, ◌∙◌, arith, append_assoc, append-nil}
-use Rattle.ae_core.specs.Sorts.{◌>>=◌}
-use Rattle.ae_core.specs.Lines.{equal, states, Allowed, AllAllowed}
+use Rattle.ae_base.specs.Options.{◌>>=◌}
+use Rattle.ae_rules.specs.Lines.{equal, states, Allowed, AllAllowed}
 use Rattle.ae_core.specs.declared.terms.Term.{Term}
 use Rattle.ae_core.specs.declared.terms.Head.TheVariants.{Symbol}
 use Rattle.ae_core.specs.declared.terms.Term.TheVariants.{outs-Apply}
@@ -15,13 +15,14 @@ use Rattle.ae_core.specs.declared.proofs.EqLine.{EqLine}
 use Rattle.ae_core.specs.declared.proofs.EqLine.TheVariants.{EqHyp, EqRefl, EqSym, EqTrans, EqCong, EqAc, EqLin, EqField, EqFields, LeHyp, LtHyp, LeSum, LtSum, LeRound}
 use Rattle.ae_core.specs.declared.proofs.ClauseLine.{ClauseLine}
 use Rattle.ae_core.specs.declared.proofs.ClauseLine.TheVariants.{Def, Block as BlockLine, Rup}
-use Rattle.ae_driver.specs.declared.form.Equation.{Equation}
+use Rattle.ae_driver.specs.declared.first_text.Equation.{Equation}
 use Rattle.ae_driver.specs.declared.search.Refutation.{Refutation}
-use Rattle.ae_driver.specs.Chains.{constant, equation, chain, assumed, defs, hints, chain_proof}
-use Rattle.ae_driver.specs.Form.{IsWithin}
-use Rattle.ae_driver.specs.Search.{OfConstants, Refutes, block_of, no_signature, any}
-use Rattle.ae_driver.specs.Texts.{Names, term_text, term_layer_text, formula_text, formula_text_step, of_two, of_one, literal_text, unless_negation, is_negation, sign_text, sides_text, derived_text, in_order, hypothesis_text, block_text, line_text, proof_text}
-use Rattle.ae_driver.specs.Bytes.{name_bytes, equation_bytes, opening_bytes, closing_bytes, chain_bytes, def_bytes, defs_bytes, hypothesis_bytes, assumed_bytes, term_bytes, derived_bytes, ending_bytes, rup_bytes, proof_bytes}
+use Rattle.ae_driver.specs.Problems.{constant, equation, chain}
+use Rattle.ae_driver.specs.Inner.ChainProofs.{assumed, defs, hints, chain_proof}
+use Rattle.ae_driver.specs.Inner.Places.{IsEquationOver}
+use Rattle.ae_driver.specs.Inner.Search.{OfConstants, Refutes, block_of, no_signature, any}
+use Rattle.ae_driver.specs.Texts.{Names, term_text, term_layer_text, formula_text, formula_text_step, of_two, of_one, literal_text, unless_negation, is_negation, sign_text, sides_text, derived_text, in_order, literal_line, block_text, line_text, proof_text}
+use Rattle.ae_driver.specs.Inner.Bytes.{name_bytes, equation_bytes, opening_bytes, closing_bytes, chain_bytes, def_bytes, defs_bytes, equation_line, assumed_bytes, term_bytes, derived_bytes, ending_bytes, rup_bytes, proof_bytes}
 use Rattle.ae_driver.proofs.TextLaws.{bytes_apply}
 
 -- ---- formulas
@@ -54,10 +55,10 @@ regroup_chain : (o n E c b F G C d : List ℕ) → o ++ (n ++ E ++ c) ++ b ++ (F
 regroup_chain o n E c b F G C d = simp append_assoc refl
 
 module _ (names : Names) where
-  text_equation : (e : Equation) → IsWithin (length names) e → formula_text names (equation e) ≡ Some (equation_bytes names e)
+  text_equation : (e : Equation) → IsEquationOver (length names) e → formula_text names (equation e) ≡ Some (equation_bytes names e)
   text_equation e w = text_eq names _ _ ∙ (λ i. of_two (codes "=") (text_constant names e.left w.0 i) (text_constant names e.right w.1 i))
 
-  pub text_chain : (es : List Equation) (g : Equation) → AllByRecursion (IsWithin (length names)) es → IsWithin (length names) g → formula_text names (chain es g) ≡ Some (chain_bytes names es g)
+  pub text_chain : (es : List Equation) (g : Equation) → AllByRecursion (IsEquationOver (length names)) es → IsEquationOver (length names) g → formula_text names (chain es g) ≡ Some (chain_bytes names es g)
   text_chain [] g ws w = text_equation g w ∙ ap Some (sym (append-nil (equation_bytes names g)))
   text_chain (e ∷ es) g ws w =
       text_or names _ _
@@ -81,21 +82,18 @@ regroup_defs D F S R = simp append_assoc refl
 regroup_proof : (p g D b A L E R e : List ℕ) → p ++ (g ++ (D ++ (b ++ A ++ L ++ E ++ R))) ++ e ≡ (p ++ g) ++ D ++ b ++ A ++ L ++ E ++ R ++ e
 regroup_proof p g D b A L E R e = simp append_assoc refl
 
-regroup_assumed : (H F h G n : List ℕ) → H ++ (F ++ h ++ G ++ n) ≡ H ++ F ++ h ++ G ++ n
-regroup_assumed H F h G n = simp append_assoc refl
-
 module _ (names : Names) where
-  pub text_literal : (sign : Bool) (e : Equation) → IsWithin (length names) e → literal_text names (record { positive = sign; formula = equation e }) ≡ Some (sign_text sign ++ equation_bytes names e)
+  pub text_literal : (sign : Bool) (e : Equation) → IsEquationOver (length names) e → literal_text names (record { positive = sign; formula = equation e }) ≡ Some (sign_text sign ++ equation_bytes names e)
   unfolding literal_text
   text_literal sign e w =
       (λ i. unless_negation (is_negation (outs-Eq (constant e.left) (constant e.right) i)) (text_equation names e w i >>= λ s. Some (sign_text sign ++ s)))
 
-  text_assumed : (es : List Equation) (g : Equation) → AllByRecursion (IsWithin (length names)) es → IsWithin (length names) g
-      → in_order (map (hypothesis_text names) (assumed es g)) ≡ Some (assumed_bytes names es g)
+  text_assumed : (es : List Equation) (g : Equation) → AllByRecursion (IsEquationOver (length names)) es → IsEquationOver (length names) g
+      → in_order (map (literal_line (codes "h ") names) (assumed es g)) ≡ Some (assumed_bytes names es g)
   text_assumed [] g ws w = ap (λ o. (o >>= λ s. Some (codes "h " ++ s ++ codes "\n")) >>= λ x. Some (x ++ [])) (text_literal false g w) ∙ ap Some (append-nil _)
   text_assumed (e ∷ es) g ws w =
       (λ i. (text_literal true e ws.0 i >>= λ s. Some (codes "h " ++ s ++ codes "\n")) >>= λ x. text_assumed es g ws.1 w i >>= λ xs. Some (x ++ xs))
-      ∙ ap Some (regroup_assumed (hypothesis_bytes names e) (flat_map (hypothesis_bytes names) es) (codes "h -") (equation_bytes names g) (codes "\n"))
+      ∙ ap Some (sym (append_assoc (equation_line (codes "h +") names e) (flat_map (equation_line (codes "h +") names) es) (equation_line (codes "h -") names g)))
 
   -- a term that is a constant
   text_side : (t : Term) (n : ℕ) → t ≡ constant n → n < length names → term_text names t ≡ Some (term_bytes names t)
@@ -130,7 +128,7 @@ module _ (names : Names) where
       (λ i. text_derived hyps earlier l c.0 a.0.1 i >>= λ x. text_lines hyps (earlier ++ l ∷ []) ls c.1 a.1 i >>= λ xs. Some (x ++ xs))
 
   -- ---- clause lines
-  text_defs : (es : List Equation) (g : Equation) (rest : List ClauseLine) (R : List ℕ) → AllByRecursion (IsWithin (length names)) es → IsWithin (length names) g
+  text_defs : (es : List Equation) (g : Equation) (rest : List ClauseLine) (R : List ℕ) → AllByRecursion (IsEquationOver (length names)) es → IsEquationOver (length names) g
       → in_order (map (line_text names) rest) ≡ Some R → in_order (map (line_text names) (defs es g ++ rest)) ≡ Some (defs_bytes names es g ++ R)
   text_defs [] g rest R ws w r = r
   text_defs (e ∷ es) g rest R ws w r =
@@ -139,14 +137,14 @@ module _ (names : Names) where
       (λ i. line 4 i >>= λ x. (line 5 i >>= λ y. text_defs es g rest R ws.1 w r i >>= λ ys. Some (y ++ ys)) >>= λ xs. Some (x ++ xs))
       ∙ ap Some (regroup_defs (def_bytes names 4 (e ∷ es) g) (def_bytes names 5 (e ∷ es) g) (defs_bytes names es g) R)
 
-  text_block : (es : List Equation) (g : Equation) (r : Refutation) → AllByRecursion (IsWithin (length names)) es → IsWithin (length names) g → Refutes (length names) es g r
+  text_block : (es : List Equation) (g : Equation) (r : Refutation) → AllByRecursion (IsEquationOver (length names)) es → IsEquationOver (length names) g → Refutes (length names) es g r
       → block_text names (block_of es r) ≡ Some (codes "block\n" ++ assumed_bytes names es g ++ flat_map (derived_bytes names) r.deriv.lines ++ ending_bytes r.line (length es))
   text_block es g r ws w f =
-      let hyps = ap (λ h. in_order (map (hypothesis_text names) h)) f.hyps ∙ text_assumed es g ws w in
+      let hyps = ap (λ h. in_order (map (literal_line (codes "h ") names) h)) f.hyps ∙ text_assumed es g ws w in
       let lines = text_lines r.deriv.hyps [] r.deriv.lines f.derivation.of_constants f.derivation.allowed in
       (λ i. hyps i >>= λ hs. lines i >>= λ ls. Some (codes "block\n" ++ hs ++ ls ++ ending_bytes r.line (length es)))
 
-  pub text_proof : (es : List Equation) (g : Equation) (r : Refutation) → AllByRecursion (IsWithin (length names)) es → IsWithin (length names) g → Refutes (length names) es g r
+  pub text_proof : (es : List Equation) (g : Equation) (r : Refutation) → AllByRecursion (IsEquationOver (length names)) es → IsEquationOver (length names) g → Refutes (length names) es g r
       → proof_text names (chain_proof es g (block_of es r)) ≡ Some (proof_bytes names es g r)
   text_proof es g r ws w f =
       let A = assumed_bytes names es g in

@@ -1,13 +1,12 @@
-pub mod Form
-pub mod Chains
+-- What the clauses of `run` mean. Read in this order: FirstTexts (which texts are answered), Problems (the problem that such a text states),
+-- Texts and StateTexts (how a proof and a state are written), Output (what is written for a text, and why it is right).
+-- Soundness says what a derivation of such a goal is worth. Beside these stand the definitions of ae_lex (tokens), ae_syntax (files and faults),
+-- ae_report (the lines of refusals), ae_io (what sources and sinks tell), ae_core and ae_rules (derivations), ae_journal (saturated states).
+-- Inner has what the functions below `run` say of each other; nothing of it is believed.
+pub mod FirstTexts
+pub mod Problems
 pub mod Texts
-pub mod Bytes
-pub mod Values
-pub mod Search
-pub mod Truth
-pub mod StateTypes
 pub mod StateTexts
-pub mod StateChains
-pub mod StateBytes
-pub mod States
 pub mod Output
+pub mod Soundness
+pub mod Inner

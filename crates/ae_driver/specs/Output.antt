@@ -1,7 +1,8 @@
 -- The answer to a text: what is written, and why it is right.
-use Rattle.std.specs.Prelude.{◌≡◌, ◌⊎◌, ℕ, zero, suc, ◌<◌, ◌≤◌, List, [], ◌++◌, map, length, Option, Some, None, slice_get, codes}
-use Rattle.ae_core.specs.Sorts.{◌>>=◌}
-use Rattle.ae_core.specs.Derivations.{Derives}
+use Rattle.std.specs.Prelude.{◌≡◌, ◌⊎◌, ℕ, zero, suc, Bool, false, ◌<◌, ◌≤◌, List, [], ◌++◌, map, length, Option, Some, None, slice_get, codes}
+use Rattle.ae_base.specs.Options.{◌>>=◌}
+use Rattle.ae_rules.specs.Derivations.{Derives, goal_body}
+use Rattle.ae_core.specs.declared.formulas.Formula.{Formula}
 use Rattle.ae_core.specs.declared.problems.Item.TheVariants.{Axiom, Goal}
 use Rattle.ae_core.specs.declared.problems.Signature.{Signature}
 use Rattle.ae_core.specs.declared.problems.Problem.{Problem}
@@ -16,21 +17,15 @@ use Rattle.ae_syntax.specs.declared.faults.SyntaxFault.{SyntaxFault}
 use Rattle.ae_report.specs.Lines.{IsRefusalLine}
 use Rattle.ae_report.specs.declared.refusal.Refusal.{Refusal}
 use Rattle.ae_report.specs.declared.refusal.Refusal.TheVariants as refusal
-use Rattle.ae_driver.specs.declared.form.Chain.{Chain}
-use Rattle.ae_driver.specs.declared.form.Form.{Form}
-use Rattle.ae_driver.specs.declared.search.Named.{Named}
-use Rattle.ae_driver.specs.declared.search.Refutation.{Refutation}
-use Rattle.ae_driver.specs.declared.program.Status.{Status}
-use Rattle.ae_driver.specs.declared.program.Status.TheVariants as status
-use Rattle.ae_driver.specs.Form.{IsFormOf}
-use Rattle.ae_driver.specs.Chains.{problem}
-use Rattle.ae_driver.specs.Search.{Refutes, IsOpen}
+use Rattle.ae_driver.specs.declared.first_text.FirstText.{FirstText}
+use Rattle.ae_driver.specs.declared.program.TheConstants.{INPUT_LIMIT}
+use Rattle.ae_driver.specs.FirstTexts.{IsFirstTextOf}
+use Rattle.ae_driver.specs.Problems.{problem}
 use Rattle.ae_driver.specs.Texts.{Names, proof_text}
-use Rattle.ae_driver.specs.Bytes.{proof_bytes}
-use Rattle.ae_driver.specs.StateTypes.{State}
+use Rattle.ae_journal.specs.States.{IsSaturated}
+use Rattle.ae_journal.specs.Evaluate.{is_true_at, unassigned}
+use Rattle.ae_journal.specs.declared.systems.Saturated.{Saturated}
 use Rattle.ae_driver.specs.StateTexts.{state_text}
-use Rattle.ae_driver.specs.StateBytes.{unknown_bytes}
-use Rattle.ae_driver.specs.States.{IsSaturated}
 
 -- the symbols' names, by their numbers
 abbrev pub symbol_names : Signature → Names
@@ -50,12 +45,14 @@ pub record IsValidPart (p : Problem) (k : ℕ) (part : List ℕ) : Type 0 where
   pub is_text : proof_text (symbol_names p.signature) proof ≡ Some text
   pub written : part ≡ codes "goal " ++ name ++ codes " Valid\n" ++ text
 
--- the part of the goal at place k: the line `goal NAME I don't know`, and the text of a saturated state in which the goal is false; no proof derives the goal
+-- the part of the goal at place k: the line `goal NAME I don't know`, and the text of a state that is saturated whatever the bound on generations is, and in
+-- which the goal is false, evaluated plainly and with constructors; no proof derives the goal
 pub record IsUnknownPart (p : Problem) (k : ℕ) (part : List ℕ) : Type 0 where
   pub name : List ℕ
   pub is_name : goal_name p k ≡ Some name
-  pub state : State
-  pub saturated : IsSaturated p k state
+  pub state : Saturated
+  pub saturated : (bound : ℕ) → IsSaturated p k state bound
+  pub goal_false : (way : Bool) (f : Formula) → goal_body p k ≡ Some f → is_true_at p.signature state.system way unassigned state.literals f ≡ false
   pub none_derives : (proof : Proof) → Derives p k proof → ⊥
   pub text : List ℕ
   pub is_text : state_text (symbol_names p.signature) state ≡ Some text
@@ -75,48 +72,48 @@ pub record IsFileOf (text : List ℕ) (file : File) : Type 0 where
   pub tokenized : IsTokenized text tokens
   pub parsed : IsParsed tokens file
 
--- the text is of the first form, and this is what it says
-pub record Reads (text : List ℕ) (form : Form) : Type 0 where
+-- the text is a first text, and this is what it says
+pub record Reads (text : List ℕ) (first : FirstText) : Type 0 where
   pub file : File
   pub is_file : IsFileOf text file
-  pub is_form : IsFormOf text file form
+  pub is_first : IsFirstTextOf text file first
 
--- why a text is refused: it has no tokens, or they are no file, or the file is not of the first form
+-- why a text is refused: it has no tokens, or they are no file, or the file is no first text
 pub data IsRefused (text : List ℕ) : Refusal → Type 0 where
   by_lexis : (f : LexFault) → IsFault text f → IsRefused text (refusal.Lex f)
   by_syntax : (tokens : List Token) (f : SyntaxFault) → IsTokenized text tokens → IsSyntaxFault text tokens f → IsRefused text (refusal.Syntax f)
-  by_form : (file : File) → IsFileOf text file → ((form : Form) → IsFormOf text file form → ⊥) → IsRefused text refusal.NoForm
+  by_form : (file : File) → IsFileOf text file → ((first : FirstText) → IsFirstTextOf text file first → ⊥) → IsRefused text refusal.NoForm
 
--- a legal output for a text of the first form: one part for each goal, in order
+-- a legal output for a first text: one part for each goal, in order
 pub record IsLegalOutput (text bytes : List ℕ) : Type 0 where
-  pub form : Form
-  pub reads : Reads text form
-  pub parts : AreParts (problem form) 0 (length form.goals) bytes
+  pub first : FirstText
+  pub reads : Reads text first
+  pub parts : AreParts (problem first) 0 (length first.goals) bytes
 
 -- the parts of the first goals of a text, of all of them or of fewer: with some rest they are a legal output
 pub record IsBegun (text bytes : List ℕ) : Type 0 where
-  pub form : Form
-  pub reads : Reads text form
+  pub first : FirstText
+  pub reads : Reads text first
   pub count : ℕ
-  pub at_most : count ≤ length form.goals
-  pub parts : AreParts (problem form) 0 count bytes
+  pub at_most : count ≤ length first.goals
+  pub parts : AreParts (problem first) 0 count bytes
   pub rest : List ℕ
   pub legal : IsLegalOutput text (bytes ++ rest)
 
 -- the source told this text, or told nothing
-abbrev pub MayBe : Option (List ℕ) → List ℕ → Type 0
-MayBe None text = Unit {0}
-MayBe (Some xs) text = xs ≡ text
+abbrev pub Tells : Option (List ℕ) → List ℕ → Type 0
+Tells None text = Unit {0}
+Tells (Some xs) text = xs ≡ text
 
 -- the text that the source had left, within the limit on bytes
 pub record IsRead (left : Option (List ℕ)) (text : List ℕ) : Type 0 where
-  pub told : MayBe left text
-  pub within : length text ≤ 16777216
+  pub told : Tells left text
+  pub within : length text ≤ INPUT_LIMIT
 
 -- the source had more bytes left than the limit, as far as it tells
 abbrev pub IsTooLong : Option (List ℕ) → Type 0
 IsTooLong None = Unit {0}
-IsTooLong (Some xs) = 16777216 < length xs
+IsTooLong (Some xs) = INPUT_LIMIT < length xs
 
 -- ---- what a run has written when it ends
 abbrev pub usage_line : List ℕ
@@ -165,64 +162,10 @@ pub record IsCutOff (left : Option (List ℕ)) (old new : Written) : Type 0 wher
   pub may : MayWrite left bytes
   pub written : GetsPrefix old new bytes
 
--- the source tells a text of the first form within the limit on bytes
+-- the source tells a first text within the limit on bytes
 pub record IsOffered (left : Option (List ℕ)) : Type 0 where
   pub text : List ℕ
   pub told : left ≡ Some text
-  pub within : length text ≤ 16777216
-  pub form : Form
-  pub reads : Reads text form
-
--- ---- the parts, as the writers make them
-abbrev pub valid_bytes : Names → Chain → Refutation → List ℕ
-valid_bytes names g r = codes "goal " ++ g.name ++ codes " Valid\n" ++ proof_bytes names g.hyps g.last r
-
--- the bytes of a part, by a refutation of the goal or by values that tell its sides apart
-pub data IsPartOf (names : Names) (g : Chain) (part : List ℕ) : Type 0 where
-  by_refutation : (r : Refutation) → Refutes (length names) g.hyps g.last r → part ≡ valid_bytes names g r → IsPartOf names g part
-  by_values : (vs : List Named) → IsOpen (length names) g.hyps g.last vs → part ≡ unknown_bytes names g vs → IsPartOf names g part
-
--- how one goal is answered
-abbrev pub PartEnds : Names → Chain → Written → Written → Status → Type 0
-PartEnds names g old new status.Done = (part : List ℕ) × IsPartOf names g part × Gets old new part
-PartEnds names g old new status.WriteFault = (part : List ℕ) × IsPartOf names g part × GetsPrefix old new part
-PartEnds names g old new status.Memory = Unit {0}
-PartEnds names g old new _ = ⊥
-
--- the sink got the parts of so many goals
-pub record HasParts (f : Form) (count : ℕ) (old new : Written) : Type 0 where
-  pub bytes : List ℕ
-  pub parts : AreParts (problem f) 0 count bytes
-  pub written : Gets old new bytes
-
--- the sink got a front of the parts of so many goals, and not all of it
-pub record HasFront (f : Form) (count : ℕ) (old new : Written) : Type 0 where
-  pub bytes : List ℕ
-  pub parts : AreParts (problem f) 0 count bytes
-  pub written : GetsPrefix old new bytes
-
--- how the goals of a form are answered
-abbrev pub GoalsEnd : Form → Written → Written → Status → Type 0
-GoalsEnd f old new status.Done = HasParts f (length f.goals) old new
-GoalsEnd f old new status.WriteFault = (k : ℕ) × (k ≤ length f.goals) × HasFront f k old new
-GoalsEnd f old new status.Memory = (k : ℕ) × (k ≤ length f.goals) × HasParts f k old new
-GoalsEnd f old new _ = ⊥
-
--- how a line of refusal is written
-abbrev pub RefusalEnds : List ℕ → Refusal → Written → Written → Status → Type 0
-RefusalEnds text why old new status.Refused = (line : List ℕ) × IsRefusalLine text why line × Gets old new line
-RefusalEnds text why old new status.WriteFault = (line : List ℕ) × IsRefusalLine text why line × GetsPrefix old new line
-RefusalEnds text why old new status.Memory = Gets old new []
-RefusalEnds text why old new _ = ⊥
-
--- what is written of a text that was read
-abbrev pub IsOfText : List ℕ → List ℕ → Type 0
-IsOfText text bytes = IsBegun text bytes ⊎ ((why : Refusal) × IsRefused text why × IsRefusalLine text why bytes)
-
--- how a text that was read is answered
-abbrev pub TextEnds : List ℕ → Written → Written → Status → Type 0
-TextEnds text old new status.Done = (bytes : List ℕ) × IsLegalOutput text bytes × Gets old new bytes
-TextEnds text old new status.Refused = (why : Refusal) × IsRefused text why × RefusalEnds text why old new status.Refused
-TextEnds text old new status.WriteFault = (bytes : List ℕ) × IsOfText text bytes × GetsPrefix old new bytes
-TextEnds text old new status.Memory = (bytes : List ℕ) × ((bytes ≡ []) ⊎ IsBegun text bytes) × Gets old new bytes
-TextEnds text old new _ = ⊥
+  pub within : length text ≤ INPUT_LIMIT
+  pub first : FirstText
+  pub reads : Reads text first

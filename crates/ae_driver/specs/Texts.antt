@@ -1,7 +1,7 @@
 -- The text of a proof, version 1: lines end with byte 10, words are parted by one blank, numbers are decimal.
 -- Constants have a text so far, formulas of equations, `not` and `or`, and the lines that are allowed so far. No other value has one.
 use Rattle.std.specs.Prelude.{ℕ, Bool, true, false, List, [], ◌∷◌, ◌++◌, map, Option, Some, None, slice_get, codes, decimal}
-use Rattle.ae_core.specs.Sorts.{◌>>=◌}
+use Rattle.ae_base.specs.Options.{◌>>=◌}
 use Rattle.ae_core.specs.declared.terms.Head.TheVariants as head
 use Rattle.ae_core.specs.declared.terms.Term.{Term, Term-F, out-Term}
 use Rattle.ae_core.specs.declared.terms.Term.TheOpen as term_layer
@@ -84,13 +84,14 @@ abbrev pub in_order : List (Option (List ℕ)) → Option (List ℕ)
 in_order [] = Some []
 in_order (o ∷ os) = o >>= λ x. in_order os >>= λ xs. Some (x ++ xs)
 
-abbrev pub hypothesis_text : Names → Lit → Option (List ℕ)
-hypothesis_text names l = literal_text names l >>= λ s. Some (codes "h " ++ s ++ codes "\n")
+-- a line of a word and a literal
+abbrev pub literal_line : List ℕ → Names → Lit → Option (List ℕ)
+literal_line word names l = literal_text names l >>= λ s. Some (word ++ s ++ codes "\n")
 
 -- the hypotheses, the derived lines and the ending
 abbrev pub block_text : Names → Block → Option (List ℕ)
 block_text names b =
-    in_order (map (hypothesis_text names) b.deriv.hyps) >>= λ hs. in_order (map (derived_text names) b.deriv.lines) >>= λ ls. ending_text b.ending >>= λ e.
+    in_order (map (literal_line (codes "h ") names) b.deriv.hyps) >>= λ hs. in_order (map (derived_text names) b.deriv.lines) >>= λ ls. ending_text b.ending >>= λ e.
     Some (codes "block\n" ++ hs ++ ls ++ e)
 
 abbrev pub numbers_text : List ℕ → List ℕ

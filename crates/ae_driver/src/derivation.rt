@@ -1,16 +1,16 @@
 //! Derived lines between constants.
 
 ghost use Rattle.std.specs.Prelude.{◌≡◌, ℕ, [], ◌<◌, IfOk, Some, slice_get};
-ghost use Rattle.ae_core.specs.Clauses.{is_true};
-ghost use Rattle.ae_core.specs.Lines.{equal, states, Allowed};
+ghost use Rattle.ae_rules.specs.Clauses.{is_true};
+ghost use Rattle.ae_rules.specs.Lines.{equal, states, Allowed};
 ghost use Rattle.ae_core.specs.declared.terms.Term.{Term};
-ghost use Rattle.ae_driver.specs.Chains.{constant, equation};
-ghost use Rattle.ae_driver.specs.Form.{IsWithin};
-ghost use Rattle.ae_driver.specs.Search.{At, Grows, Holds, IsDerivation, OfConstants, no_signature};
+ghost use Rattle.ae_driver.specs.Problems.{constant, equation};
+ghost use Rattle.ae_driver.specs.Inner.Places.{IsEquationOver};
+ghost use Rattle.ae_driver.specs.Inner.Search.{At, Grows, Holds, IsDerivation, OfConstants, no_signature};
 
-use crate::form::Equation;
+use crate::first_text::Equation;
 use ae_core::formulas::Lit;
-use ae_core::lists::List;
+use ae_base::lists::List;
 use ae_core::proofs::{Deriv, EqLine};
 use ae_core::terms::{Head, Term};
 use std::alloc::{AllocError, Global};
@@ -40,7 +40,7 @@ impl Model for Derivation {
     ghost use Rattle.std.specs.Coded.{codes};
     ghost use Rattle.ae_core.specs.contracts.formulas.Formula as formula;
     ghost use Rattle.ae_core.specs.contracts.terms.Term as term;
-    ghost use Rattle.ae_driver.specs.Search.{Known, IsDerivation};
+    ghost use Rattle.ae_driver.specs.Inner.Search.{Known, IsDerivation};
 
     ghost Value = { Known };
 
@@ -77,7 +77,7 @@ impl Derivation {
 
     /// The hypothesis of this number, which is the equation.
     pub fn hyp(&mut self, alloc: Global, given: Equation, hyp: usize) -> Result<usize, AllocError>
-        requires within { IsWithin self.old.count given }
+        requires within { IsEquationOver self.old.count given }
         requires given { slice_get self.old.hyps hyp ≡ Some (is_true (equation given)) }
         ensures at { IfOk result (λ k. At self.new k given.left given.right) }
         ensures grows { Grows self.old self.new }

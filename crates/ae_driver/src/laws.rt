@@ -1,8 +1,8 @@
 //! Laws of the definitions. These functions do nothing: each one's contract is a theorem.
 ghost use Rattle.std.specs.Prelude.{ℕ, List, ◌≡◌};
 ghost use Rattle.ae_driver.specs.Output.{Reads};
-ghost use Rattle.ae_driver.specs.Truth.{IsSound};
-ghost use Rattle.ae_driver.specs.declared.form.Form.{Form};
+ghost use Rattle.ae_driver.specs.Soundness.{IsSound};
+ghost use Rattle.ae_driver.specs.declared.first_text.FirstText.{FirstText};
 
 /// The goal of a derivation follows from its hypotheses: whatever values the constants have, where each hypothesis
 /// holds between these, so does the last equation.
@@ -10,7 +10,7 @@ pub fn derivations_are_sound()
     ensures { IsSound }
 {}
 
-/// A text is of the first form in at most one way.
-pub fn one_form()
-    ensures { (text : List ℕ) (f g : Form) → Reads text f → Reads text g → f ≡ g }
+/// A text is a first text in at most one way.
+pub fn one_first_text()
+    ensures { (text : List ℕ) (f g : FirstText) → Reads text f → Reads text g → f ≡ g }
 {}

@@ -2,7 +2,7 @@
 #![tactic(auto)]
 
 mod derivation;
-pub mod form;
+pub mod first_text;
 pub mod laws;
 mod program;
 mod reader;

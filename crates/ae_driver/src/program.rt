@@ -1,24 +1,26 @@
 //! The top call.
 
-ghost use Rattle.std.specs.Prelude.{◌≡◌, ◌≢◌, ◌⊎◌, ◌≤◌, [], length, IfOk};
+ghost use Rattle.std.specs.Prelude.{◌≡◌, ◌≢◌, ◌⊎◌, ◌≤◌, [], length, IfOk, IfSome};
 ghost use Rattle.std.specs.Io.KnownBytes.{IsAtEnd};
 ghost use Rattle.ae_io.specs.Moves.{Rose, Gets, GetsPrefix};
 ghost use Rattle.ae_lex.specs.Lexis.{IsTokenized, IsFault};
 ghost use Rattle.ae_lex.specs.declared.kinds.LexFault.TheVariants.{Memory as NoMemoryForTokens};
 ghost use Rattle.ae_syntax.specs.Files.{IsSyntaxFault};
 ghost use Rattle.ae_syntax.specs.declared.faults.SyntaxFault.TheVariants.{Memory as NoMemoryForTree};
-ghost use Rattle.ae_report.specs.Lines.{IsWithin, refused_at};
-ghost use Rattle.ae_driver.specs.Form.{IsForm, IsGoal};
-ghost use Rattle.ae_driver.specs.Output.{IsFileOf, IsDone, IsOffered, IsRefusedText, IsRefusedByLength, IsOutOfMemory, IsCutOff, IsPartOf, PartEnds, GoalsEnd, RefusalEnds, TextEnds, usage_line, valid_bytes};
-ghost use Rattle.ae_driver.specs.StateBytes.{unknown_bytes};
+ghost use Rattle.ae_report.specs.Lines.{refused_at};
+ghost use Rattle.ae_driver.specs.Inner.Places.{IsWellPlaced, IsGoalOver};
+ghost use Rattle.ae_driver.specs.Output.{IsFileOf, IsDone, IsOffered, IsRefusedText, IsRefusedByLength, IsOutOfMemory, IsCutOff, usage_line};
+ghost use Rattle.ae_driver.specs.Inner.Endings.{IsPartOf, PartEnds, GoalsEnd, RefusalEnds, TextEnds};
+ghost use Rattle.ae_driver.specs.Inner.Bytes.{valid_bytes};
+ghost use Rattle.ae_driver.specs.Inner.StateBytes.{unknown_bytes};
 ghost use Rattle.ae_driver.specs.declared.program.Status.TheVariants.{Done, Refused, ReadFault, WriteFault, Memory, Usage};
 
-use crate::form::{Chain, Form};
-use crate::reader::form_of;
+use crate::first_text::{Chain, FirstText};
+use crate::reader::first_text_of;
 use crate::search::{Named, Outcome, Refutation, settle};
 use crate::state_text::put_unknown;
 use crate::text::put_valid;
-use ae_core::words::Word;
+use ae_base::words::Word;
 use ae_io::{ReadEnd, Sink, Source, read_all, write_all};
 use ae_lex::{LexFault, Token, tokens};
 use ae_report::{Refusal, refusal_text};
@@ -26,7 +28,7 @@ use ae_syntax::decls::File;
 use ae_syntax::{SyntaxFault, parse};
 use std::alloc::{AllocError, Global};
 
-/// The most bytes that one input may have.
+/// The most bytes that one text may have: 16 MiB.
 pub const INPUT_LIMIT: usize = 16777216;
 
 /// How a run ends.
@@ -48,13 +50,17 @@ pub enum Status {
 
 /// Reads a text, and answers its goals in order, each as soon as it is settled.
 ///
-/// `Done` comes only where the text was read to its end, is of the first form, and one part was
-/// written for each goal: `Valid` with the text of a proof that derives the goal in the problem of the
-/// text, or `I don't know` with the text of a saturated state in which the goal is false; then no
-/// proof derives it. `Refused` comes exactly where the text is not of the form or is longer than
-/// `INPUT_LIMIT`, and `Usage` exactly where there are words, unless the line can't be written.
-/// `ReadFault` and `WriteFault` come only where the count of faults of the source or the sink rose in
-/// this call. `Memory` is the one free answer.
+/// - `Done` comes only where there are no words, the source was read to its end, its text is a first text of at most
+///   `INPUT_LIMIT` bytes, and one part was written for each goal: `Valid` with the text of a proof that derives the goal in
+///   the problem of the text, or `I don't know` with the text of a saturated state in which the goal is false; then no
+///   proof derives it.
+/// - `Refused` comes only where the line of the first reason was written: the source had more bytes left than
+///   `INPUT_LIMIT`, the text has a fault of its tokens, its tokens have a fault of syntax, or its tree is no first text.
+/// - `Usage` comes only where there are words, and the usage line was written. Where there are words, nothing is read:
+///   the answer is `Usage`, or `WriteFault` where the line couldn't be written.
+/// - `ReadFault` and `WriteFault` come only where the count of faults of the source or of the sink rose in this call. After
+///   `ReadFault` the sink is as it was; after `WriteFault` it got a proper front of what was being written.
+/// - `Memory` is the one free answer: nothing was written, or the parts of the first goals.
 pub fn run<S: Source, K: Sink>(
     alloc: Global,
     words: &[String],
@@ -68,6 +74,7 @@ pub fn run<S: Source, K: Sink>(
     ensures usage { result ≡ Usage → words.now ≢ [] }
     ensures usage_line { result ≡ Usage → Gets (K.written sink.old) (K.written sink.new) usage_line }
     ensures words { words.now ≢ [] → (result ≡ Usage) ⊎ (result ≡ WriteFault) }
+    ensures unread { words.now ≢ [] → source.new ≡ source.old }
     ensures read_fault { result ≡ ReadFault → Rose (S.faults source.old) (S.faults source.new) }
     ensures nothing { result ≡ ReadFault → sink.new ≡ sink.old }
     ensures write_fault { result ≡ WriteFault → Rose (K.faults sink.old) (K.faults sink.new) }
@@ -102,7 +109,7 @@ fn tell<K: Sink>(sink: &mut K, line: &[u8], status: Status) -> Status
 
 // Writes the line by which a text is refused.
 fn refuse<K: Sink>(alloc: Global, text: &[u8], refusal: &Refusal, sink: &mut K) -> Status
-    requires { IsWithin text.now (refused_at refusal.now) }
+    requires { IfSome (refused_at refusal.now) (λ at. at ≤ length text.now) }
     ensures ends { RefusalEnds text.now refusal.now (K.written sink.old) (K.written sink.new) result }
     ensures write_fault { result ≡ WriteFault → Rose (K.faults sink.old) (K.faults sink.new) }
 {
@@ -171,21 +178,21 @@ fn answer_file<K: Sink>(alloc: Global, text: &[u8], file: &File, sink: &mut K) -
     ensures ends { TextEnds text.now (K.written sink.old) (K.written sink.new) result }
     ensures write_fault { result ≡ WriteFault → Rose (K.faults sink.old) (K.faults sink.new) }
 {
-    match form_of(alloc, text, file) {
-        Ok(Some(form)) => answer_goals(alloc, &form, sink),
+    match first_text_of(alloc, text, file) {
+        Ok(Some(first)) => answer_goals(alloc, &first, sink),
         Ok(None) => refuse(alloc, text, &Refusal::NoForm, sink),
         Err(_) => Status::Memory,
     }
 }
 
-// Answers the goals of a form in order.
-fn answer_goals<K: Sink>(alloc: Global, form: &Form, sink: &mut K) -> Status
-    requires { IsForm form.now }
-    ensures ends { GoalsEnd form.now (K.written sink.old) (K.written sink.new) result }
+// Answers the goals of a first text in order.
+fn answer_goals<K: Sink>(alloc: Global, first: &FirstText, sink: &mut K) -> Status
+    requires { IsWellPlaced first.now }
+    ensures ends { GoalsEnd first.now (K.written sink.old) (K.written sink.new) result }
     ensures write_fault { result ≡ WriteFault → Rose (K.faults sink.old) (K.faults sink.new) }
 {
-    for goal in form.goals.as_slice() {
-        match answer_goal(alloc, form.constants.as_slice(), goal, sink) {
+    for goal in first.goals.as_slice() {
+        match answer_goal(alloc, first.constants.as_slice(), goal, sink) {
             Status::Done => {}
             stopped => return stopped,
         }
@@ -195,7 +202,7 @@ fn answer_goals<K: Sink>(alloc: Global, form: &Form, sink: &mut K) -> Status
 
 // Answers one goal.
 fn answer_goal<K: Sink>(alloc: Global, constants: &[Word], goal: &Chain, sink: &mut K) -> Status
-    requires { IsGoal (length constants.now) goal.now }
+    requires { IsGoalOver (length constants.now) goal.now }
     ensures ends { PartEnds constants.now goal.now (K.written sink.old) (K.written sink.new) result }
     ensures memory { result ≡ Memory → sink.new ≡ sink.old }
     ensures write_fault { result ≡ WriteFault → Rose (K.faults sink.old) (K.faults sink.new) }
@@ -212,7 +219,7 @@ fn answer_goal<K: Sink>(alloc: Global, constants: &[Word], goal: &Chain, sink: &
 
 // The part of a goal.
 fn goal_part(alloc: Global, constants: &[Word], goal: &Chain) -> Result<Vec<u8>, AllocError>
-    requires { IsGoal (length constants.now) goal.now }
+    requires { IsGoalOver (length constants.now) goal.now }
     ensures { IfOk result (λ part. IsPartOf constants.now goal.now part.items) }
 {
     match settle(alloc, constants.len(), goal.hyps.as_slice(), goal.last)? {
@@ -228,7 +235,7 @@ fn valid_part(
     goal: &Chain,
     refutation: &Refutation,
 ) -> Result<Vec<u8>, AllocError>
-    requires { IsGoal (length constants.now) goal.now }
+    requires { IsGoalOver (length constants.now) goal.now }
     ensures { IfOk result (λ part. part.items ≡ valid_bytes constants.now goal.now refutation.now) }
 {
     let mut part = Vec::new(alloc);

@@ -1,27 +1,28 @@
-//! The reader of the first form: from the tree of a text to its type, constants and goals.
+//! The reader of first texts: from the tree of a text to its type, constants and goals.
 
+ghost use Rattle.ae_base.specs.Relations.{Pairwise};
 ghost use Rattle.std.specs.Prelude.{◌≡◌, ◌≢◌, ◌↔◌, ℕ, List, [], ◌∷◌, ◌++◌, slice_get, option_map, Some, IfOk, IsTrue, MatchOption};
 ghost use Rattle.std.specs.List.{AllPairs};
-ghost use Rattle.ae_driver.specs.Form.{Stands, Each, IsConstant, IsEquation, IsChain, IsGoalDecl, IsTypeDecl, IsTypeName, IsResult, IsLogicDecl, IsFormOf};
+ghost use Rattle.ae_driver.specs.FirstTexts.{IsNameAt, IsConstantAt, IsEquation, IsChain, IsGoalDecl, IsTypeDecl, IsTypeName, IsResult, IsLogicDecl, IsFirstTextOf};
 ghost use Rattle.ae_syntax.specs.declared.exprs.Expr.{Expr};
-ghost use Rattle.ae_syntax.specs.declared.exprs.Form.{Binary};
+ghost use Rattle.ae_syntax.specs.declared.exprs.ExprKind.{Binary};
 ghost use Rattle.ae_syntax.specs.declared.decls.Decl.{Decl};
-ghost use Rattle.ae_driver.specs.declared.form.Equation.{Equation};
-ghost use Rattle.ae_driver.specs.declared.form.Chain.{Chain};
-ghost use Rattle.ae_driver.specs.declared.form.Form.{Form};
+ghost use Rattle.ae_driver.specs.declared.first_text.Equation.{Equation};
+ghost use Rattle.ae_driver.specs.declared.first_text.Chain.{Chain};
+ghost use Rattle.ae_driver.specs.declared.first_text.FirstText.{FirstText};
 
-use crate::form::{Chain, Equation, Form};
-use ae_core::lists::List;
-use ae_core::words::Word;
-use ae_syntax::decls::{Decl, DeclForm, File, SymbolResult};
-use ae_syntax::exprs::{BinaryOp, Expr, Form as ExprForm};
+use crate::first_text::{Chain, Equation, FirstText, MOST_HYPOTHESES};
+use ae_base::lists::List;
+use ae_base::words::Word;
+use ae_syntax::decls::{Decl, DeclKind, File, SymbolResult};
+use ae_syntax::exprs::{BinaryOp, Expr, ExprKind};
 use ae_syntax::spans::Span;
-use ae_syntax::types::{TypeForm, WrittenType};
+use ae_syntax::types::{TypeKind, WrittenType};
 use std::alloc::{AllocError, Global};
 
 // The bytes at a place, as text.
 fn str_at(text: &[u8], place: Span) -> Option<&str>
-    ensures { MatchOption result ((name : List ℕ) → Stands text.now place name → ⊥) (λ name. Stands text.now place name.now) }
+    ensures { MatchOption result ((name : List ℕ) → IsNameAt text.now place name → ⊥) (λ name. IsNameAt text.now place name.now) }
 {
     let bytes = text.get(place.from..place.to)?;
     str::from_utf8(bytes).ok()
@@ -29,7 +30,7 @@ fn str_at(text: &[u8], place: Span) -> Option<&str>
 
 // Whether a name stands at a place.
 fn is_at(text: &[u8], place: Span, name: &str) -> bool
-    ensures { IsTrue result ↔ Stands text.now place name.now }
+    ensures { IsTrue result ↔ IsNameAt text.now place name.now }
 {
     match str_at(text, place) {
         Some(found) => found == name,
@@ -39,7 +40,7 @@ fn is_at(text: &[u8], place: Span, name: &str) -> bool
 
 // The name at a place.
 fn name_at(alloc: Global, text: &[u8], place: Span) -> Result<Option<Word>, AllocError>
-    ensures { IfOk result (λ found. MatchOption found ((name : List ℕ) → Stands text.now place name → ⊥) (λ name. Stands text.now place name)) }
+    ensures { IfOk result (λ found. MatchOption found ((name : List ℕ) → IsNameAt text.now place name → ⊥) (λ name. IsNameAt text.now place name)) }
 {
     let Some(name) = str_at(text, place) else {
         return Ok(None);
@@ -61,10 +62,10 @@ fn place(constants: &[Word], name: &str) -> Option<usize>
 
 // The number of the constant that an expression is.
 fn constant(text: &[u8], constants: &[Word], expr: &Expr) -> Option<usize>
-    ensures { MatchOption result ((k : ℕ) → IsConstant text.now constants.now expr.now k → ⊥) (λ k. IsConstant text.now constants.now expr.now k) }
+    ensures { MatchOption result ((k : ℕ) → IsConstantAt text.now constants.now expr.now k → ⊥) (λ k. IsConstantAt text.now constants.now expr.now k) }
 {
-    match expr.form.get() {
-        ExprForm::Apply { name, args } => {
+    match expr.kind.get() {
+        ExprKind::Apply { name, args } => {
             if !args.is_empty() {
                 return None;
             }
@@ -76,10 +77,10 @@ fn constant(text: &[u8], constants: &[Word], expr: &Expr) -> Option<usize>
 
 // The two sides of an expression with this operator.
 fn sides(expr: &Expr, wanted: BinaryOp) -> Option<(&Expr, &Expr)>
-    ensures { MatchOption result ((l r : Expr) → expr.now.form ≡ Binary wanted l r → ⊥) (λ p. expr.now.form ≡ Binary wanted p.0.now p.1.now) }
+    ensures { MatchOption result ((l r : Expr) → expr.now.kind ≡ Binary wanted l r → ⊥) (λ p. expr.now.kind ≡ Binary wanted p.0.now p.1.now) }
 {
-    match expr.form.get() {
-        ExprForm::Binary { op, left, right } => {
+    match expr.kind.get() {
+        ExprKind::Binary { op, left, right } => {
             if *op != wanted {
                 return None;
             }
@@ -143,9 +144,6 @@ fn chain(
     chain(text, constants, right, longer)
 }
 
-/// The most hypotheses of a goal.
-const MOST_HYPOTHESES: usize = 1000;
-
 // The goal that a declaration is.
 fn goal(
     alloc: Global,
@@ -155,7 +153,7 @@ fn goal(
 ) -> Result<Option<Chain>, AllocError>
     ensures { IfOk result (λ found. MatchOption found ((g : Chain) → IsGoalDecl text.now constants.now decl.now g → ⊥) (λ g. IsGoalDecl text.now constants.now decl.now g)) }
 {
-    let DeclForm::Goal { name, body } = &decl.form else {
+    let DeclKind::Goal { name, body } = &decl.kind else {
         return Ok(None);
     };
     let Some(name) = name_at(alloc, text, *name)? else {
@@ -177,7 +175,7 @@ fn goals(
     constants: &[Word],
     decls: &[Decl],
 ) -> Result<Option<List<Chain>>, AllocError>
-    ensures { IfOk result (λ found. MatchOption found ((gs : List Chain) → Each (IsGoalDecl text.now constants.now) decls.now gs → ⊥) (λ gs. Each (IsGoalDecl text.now constants.now) decls.now gs)) }
+    ensures { IfOk result (λ found. MatchOption found ((gs : List Chain) → Pairwise (IsGoalDecl text.now constants.now) decls.now gs → ⊥) (λ gs. Pairwise (IsGoalDecl text.now constants.now) decls.now gs)) }
 {
     let mut found = List::new(alloc);
     for decl in decls {
@@ -196,7 +194,7 @@ fn new_name(
     at: &Span,
     found: &[Word],
 ) -> Result<Option<Word>, AllocError>
-    ensures { IfOk result (λ o. MatchOption o ((name : List ℕ) → Stands text.now at.now name → (k : ℕ) × (slice_get found.now k ≡ Some name)) (λ name. Stands text.now at.now name × ((k : ℕ) → slice_get found.now k ≡ Some name → ⊥))) }
+    ensures { IfOk result (λ o. MatchOption o ((name : List ℕ) → IsNameAt text.now at.now name → (k : ℕ) × (slice_get found.now k ≡ Some name)) (λ name. IsNameAt text.now at.now name × ((k : ℕ) → slice_get found.now k ≡ Some name → ⊥))) }
 {
     let Some(name) = name_at(alloc, text, *at)? else {
         return Ok(None);
@@ -209,7 +207,7 @@ fn new_name(
 
 // The names at these places, where they are different.
 fn names(alloc: Global, text: &[u8], places: &[Span]) -> Result<Option<List<Word>>, AllocError>
-    ensures { IfOk result (λ found. MatchOption found ((ns : List (List ℕ)) → Each (Stands text.now) places.now ns → AllPairs ◌≢◌ ns → ⊥) (λ ns. Each (Stands text.now) places.now ns × AllPairs ◌≢◌ ns)) }
+    ensures { IfOk result (λ found. MatchOption found ((ns : List (List ℕ)) → Pairwise (IsNameAt text.now) places.now ns → AllPairs ◌≢◌ ns → ⊥) (λ ns. Pairwise (IsNameAt text.now) places.now ns × AllPairs ◌≢◌ ns)) }
 {
     let mut found = List::new(alloc);
     for at in places {
@@ -225,11 +223,11 @@ fn names(alloc: Global, text: &[u8], places: &[Span]) -> Result<Option<List<Word
 fn type_name(alloc: Global, text: &[u8], decl: &Decl) -> Result<Option<Word>, AllocError>
     ensures { IfOk result (λ found. MatchOption found ((name : List ℕ) → IsTypeDecl text.now decl.now name → ⊥) (λ name. IsTypeDecl text.now decl.now name)) }
 {
-    let DeclForm::Type {
+    let DeclKind::Type {
         params,
         name,
         fields,
-    } = &decl.form
+    } = &decl.kind
     else {
         return Ok(None);
     };
@@ -243,8 +241,8 @@ fn type_name(alloc: Global, text: &[u8], decl: &Decl) -> Result<Option<Word>, Al
 fn is_type_name(text: &[u8], sort: &WrittenType, type_name: &str) -> bool
     ensures { IsTrue result ↔ IsTypeName text.now sort.now type_name.now }
 {
-    match &sort.form {
-        TypeForm::Named { name, args } => args.is_empty() && is_at(text, *name, type_name),
+    match &sort.kind {
+        TypeKind::Named { name, args } => args.is_empty() && is_at(text, *name, type_name),
         _ => false,
     }
 }
@@ -268,12 +266,12 @@ fn constants(
 ) -> Result<Option<List<Word>>, AllocError>
     ensures { IfOk result (λ found. MatchOption found ((cs : List (List ℕ)) → IsLogicDecl text.now decl.now type_name.now cs → AllPairs ◌≢◌ cs → ⊥) (λ cs. IsLogicDecl text.now decl.now type_name.now cs × AllPairs ◌≢◌ cs)) }
 {
-    let DeclForm::Logic {
+    let DeclKind::Logic {
         ac,
         names: places,
         args,
         result: result_,
-    } = &decl.form
+    } = &decl.kind
     else {
         return Ok(None);
     };
@@ -300,9 +298,9 @@ fn split(file: &File) -> Option<(&Decl, &Decl, &[Decl])>
     Some((&decls[0], &decls[1], &decls[2..]))
 }
 
-/// The form of a file, where it has one. An `Err` is want of memory.
-pub fn form_of(alloc: Global, text: &[u8], file: &File) -> Result<Option<Form>, AllocError>
-    ensures { IfOk result (λ found. MatchOption found ((f : Form) → IsFormOf text.now file.now f → ⊥) (λ f. IsFormOf text.now file.now f)) }
+/// What the file of a text says as a first text; `None` exactly where it is none. An `Err` is want of memory.
+pub fn first_text_of(alloc: Global, text: &[u8], file: &File) -> Result<Option<FirstText>, AllocError>
+    ensures { IfOk result (λ found. MatchOption found ((f : FirstText) → IsFirstTextOf text.now file.now f → ⊥) (λ f. IsFirstTextOf text.now file.now f)) }
 {
     let Some((first, second, others)) = split(file) else {
         return Ok(None);
@@ -316,7 +314,7 @@ pub fn form_of(alloc: Global, text: &[u8], file: &File) -> Result<Option<Form>, 
     let Some(goals) = goals(alloc, text, constants.as_slice(), others)? else {
         return Ok(None);
     };
-    Ok(Some(Form {
+    Ok(Some(FirstText {
         type_name,
         constants,
         goals,

@@ -2,17 +2,18 @@
 
 ghost use Rattle.std.specs.Prelude.{◌≡◌, ℕ, ◌<◌, length, map, min, max, IfOk, OnOk, Some, slice_get};
 ghost use Rattle.std.specs.List.{AllByRecursion};
-ghost use Rattle.ae_core.specs.Clauses.{is_true};
-ghost use Rattle.ae_driver.specs.Chains.{equation, assumed};
-ghost use Rattle.ae_driver.specs.declared.form.Equation.{Equation};
-ghost use Rattle.ae_driver.specs.Form.{IsWithin};
-ghost use Rattle.ae_driver.specs.Search.{At, Grows, Holds, IsValue, Refutes, Valued, IsOutcome};
-ghost use Rattle.ae_driver.specs.Values.{from, merged, numbers_of, replaced, values_after};
+ghost use Rattle.ae_rules.specs.Clauses.{is_true};
+ghost use Rattle.ae_driver.specs.Problems.{equation};
+ghost use Rattle.ae_driver.specs.Inner.ChainProofs.{assumed};
+ghost use Rattle.ae_driver.specs.declared.first_text.Equation.{Equation};
+ghost use Rattle.ae_driver.specs.Inner.Places.{IsEquationOver};
+ghost use Rattle.ae_driver.specs.Inner.Search.{At, Grows, Holds, IsValue, Refutes, Valued, IsOutcome};
+ghost use Rattle.ae_driver.specs.Inner.Merging.{from, merged, numbers_of, replaced, values_after};
 
 use crate::derivation::{Derivation, constant_term};
-use crate::form::Equation;
+use crate::first_text::Equation;
 use ae_core::formulas::{Formula, Lit};
-use ae_core::lists::List;
+use ae_base::lists::List;
 use ae_core::proofs::Deriv;
 use std::alloc::{AllocError, Global};
 
@@ -181,7 +182,7 @@ fn join(
     given: Equation,
     hyp: usize,
 ) -> Result<Joined, AllocError>
-    requires within { IsWithin derivation.old.count given }
+    requires within { IsEquationOver derivation.old.count given }
     requires given { slice_get derivation.old.hyps hyp ≡ Some (is_true (equation given)) }
     requires left { IsValue derivation.old left given.left }
     requires right { IsValue derivation.old right given.right }
@@ -234,7 +235,7 @@ fn merge(
     hyp: usize,
 ) -> Result<(), AllocError>
     requires count { length values.old ≡ derivation.old.count }
-    requires within { IsWithin derivation.old.count given }
+    requires within { IsEquationOver derivation.old.count given }
     requires given { slice_get derivation.old.hyps hyp ≡ Some (is_true (equation given)) }
     requires valued { Valued derivation.old values.old }
     ensures valued { OnOk result (Valued derivation.new values.new) }
@@ -258,7 +259,7 @@ fn take_up(
     hyps: &[Equation],
 ) -> Result<(), AllocError>
     requires count { length values.old ≡ derivation.old.count }
-    requires within { AllByRecursion (IsWithin derivation.old.count) hyps.now }
+    requires within { AllByRecursion (IsEquationOver derivation.old.count) hyps.now }
     requires given { (i : ℕ) (e : Equation) → slice_get hyps.now i ≡ Some e → slice_get derivation.old.hyps i ≡ Some (is_true (equation e)) }
     requires valued { Valued derivation.old values.old }
     ensures valued { OnOk result (Valued derivation.new values.new) }
@@ -285,8 +286,8 @@ pub fn settle(
     hyps: &[Equation],
     last: Equation,
 ) -> Result<Outcome, AllocError>
-    requires hyps { AllByRecursion (IsWithin count) hyps.now }
-    requires last { IsWithin count last }
+    requires hyps { AllByRecursion (IsEquationOver count) hyps.now }
+    requires last { IsEquationOver count last }
     ensures { IfOk result (IsOutcome count hyps.now last) }
 {
     let lits = assumed_literals(alloc, hyps, last)?;
@@ -305,7 +306,7 @@ fn conclude(
     last: Equation,
 ) -> Result<Outcome, AllocError>
     requires count { length values.items ≡ derivation.count }
-    requires last { IsWithin derivation.count last }
+    requires last { IsEquationOver derivation.count last }
     requires valued { Valued derivation values.items }
     requires numbers { numbers_of values.items ≡ values_after (from 0 derivation.count) hyps.now }
     requires hyps { derivation.hyps ≡ assumed hyps.now last }
@@ -331,7 +332,7 @@ fn conclusion(
     right: Named,
     last: Equation,
 ) -> Result<usize, AllocError>
-    requires within { IsWithin derivation.old.count last }
+    requires within { IsEquationOver derivation.old.count last }
     requires left { IsValue derivation.old left last.left }
     requires right { IsValue derivation.old right last.right }
     requires same { left.value ≡ right.value }

@@ -1,18 +1,14 @@
 //! The text of a state, written from a chain of equations and the values of its constants.
 
 ghost use Rattle.std.specs.Prelude.{◌≡◌, ◌++◌, OnOk};
-ghost use Rattle.ae_driver.specs.Bytes.{name_bytes};
-ghost use Rattle.ae_driver.specs.StateTexts.{value_text};
-ghost use Rattle.ae_driver.specs.StateBytes as bytes;
+ghost use Rattle.ae_driver.specs.Inner.Bytes.{name_bytes};
+ghost use Rattle.ae_driver.specs.Inner.StateBytes as bytes;
 
-use crate::form::{Chain, Equation};
+use crate::first_text::{Chain, Equation};
 use crate::search::Named;
-use crate::text::{put, put_closings, put_equation, put_name, put_number, put_openings};
-use ae_core::words::Word;
+use crate::text::{put, put_closings, put_equation, put_equation_line, put_name, put_number, put_openings};
+use ae_base::words::Word;
 use std::alloc::AllocError;
-
-#[cfg(test)]
-mod tests;
 
 // The chain doesn't follow.
 fn put_denied(
@@ -30,15 +26,6 @@ fn put_denied(
     put(out, b"\n")
 }
 
-// The hypothesis stands.
-fn put_standing(out: &mut Vec<u8>, names: &[Word], hyp: Equation) -> Result<(), AllocError>
-    ensures { OnOk result (out.new.items ≡ out.old.items ++ bytes.standing_bytes names.now hyp) }
-{
-    put(out, b"lit +")?;
-    put_equation(out, names, hyp)?;
-    put(out, b"\n")
-}
-
 fn put_literals(
     out: &mut Vec<u8>,
     names: &[Word],
@@ -49,11 +36,9 @@ fn put_literals(
 {
     for i in 0..hyps.len() {
         put_denied(out, names, &hyps[i..], last)?;
-        put_standing(out, names, hyps[i])?;
+        put_equation_line(out, b"lit +", names, hyps[i])?;
     }
-    put(out, b"lit -")?;
-    put_equation(out, names, last)?;
-    put(out, b"\n")
+    put_equation_line(out, b"lit -", names, last)
 }
 
 fn put_named(out: &mut Vec<u8>, names: &[Word], n: usize) -> Result<(), AllocError>
@@ -76,7 +61,7 @@ fn put_names(out: &mut Vec<u8>, names: &[Word]) -> Result<(), AllocError>
 }
 
 fn put_value(out: &mut Vec<u8>, n: usize, value: usize) -> Result<(), AllocError>
-    ensures { OnOk result (out.new.items ≡ out.old.items ++ value_text n value) }
+    ensures { OnOk result (out.new.items ≡ out.old.items ++ bytes.value_bytes n value) }
 {
     put(out, b"value ")?;
     put_number(out, n)?;

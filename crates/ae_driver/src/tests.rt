@@ -2,9 +2,8 @@
 
 ghost use Rattle.std.specs.Prelude.{◌≤◌};
 
-use crate::program::{Status, run};
+use crate::program::{INPUT_LIMIT, Status, run};
 use ae_io::{MemSink, MemSource};
-use itoa::Buffer;
 use std::alloc::{AllocError, Global};
 use std::test::Fail;
 
@@ -28,94 +27,23 @@ fn failing_calls(alloc: Global, calls: Calls) -> Result<Vec<u64>, AllocError> {
     Ok(failing)
 }
 
-fn source_of(alloc: Global, text: &[u8], reads: Calls) -> Result<MemSource, AllocError>
-    requires { 1 ≤ reads.piece }
-{
-    let bytes = Vec::from_slice(alloc, text)?;
-    let failing = failing_calls(alloc, reads)?;
-    Ok(MemSource::new(bytes, reads.piece, failing))
-}
-
-fn sink_of(alloc: Global, room: usize, writes: Calls) -> Result<MemSink, AllocError>
-    requires { 1 ≤ writes.piece }
-{
-    let failing = failing_calls(alloc, writes)?;
-    let room = Vec::with_capacity(alloc, room)?;
-    Ok(MemSink::new(room, writes.piece, failing))
-}
-
-// How the run ends, and what it writes.
-fn ended(
-    alloc: Global,
-    mut source: MemSource,
-    mut sink: MemSink,
-) -> Result<(Status, Vec<u8>), AllocError> {
-    let status = run(alloc, &[], &mut source, &mut sink);
-    let kept = Vec::from_slice(alloc, sink.kept())?;
-    Ok((status, kept))
-}
-
-// How the run ends, and what it writes into so much room.
-fn answer(alloc: Global, text: &[u8], room: usize) -> Result<(Status, Vec<u8>), AllocError> {
-    let source = source_of(alloc, text, WHOLE)?;
-    ended(alloc, source, sink_of(alloc, room, WHOLE)?)
-}
-
-// How the run over these calls ends, and what it writes.
-fn answer_over(
+// How the run over these calls ends, and what it writes into so much room.
+fn answer(
     alloc: Global,
     text: &[u8],
+    room: usize,
     reads: Calls,
     writes: Calls,
 ) -> Result<(Status, Vec<u8>), AllocError>
     requires reads { 1 ≤ reads.piece }
     requires writes { 1 ≤ writes.piece }
 {
-    let source = source_of(alloc, text, reads)?;
-    ended(alloc, source, sink_of(alloc, 1000, writes)?)
-}
-
-fn push_name(text: &mut Vec<u8>, number: usize) -> Result<(), AllocError> {
-    text.push(b'a')?;
-    let mut buffer = Buffer::new();
-    text.extend_from_slice(buffer.format(number).as_bytes())
-}
-
-// The constants a0 to a(count - 1).
-fn push_constants(text: &mut Vec<u8>, count: usize) -> Result<(), AllocError> {
-    push_name(text, 0)?;
-    for number in 1..count {
-        text.extend_from_slice(b", ")?;
-        push_name(text, number)?;
-    }
-    Ok(())
-}
-
-// The goal `a0 = a1 -> a1 = a2 -> .. -> a0 = a(count - 1)`, of so many equations.
-fn chain_text(alloc: Global, count: usize) -> Result<Vec<u8>, AllocError> {
-    let mut text = Vec::new(alloc);
-    text.extend_from_slice(b"type t\nlogic ")?;
-    push_constants(&mut text, count)?;
-    text.extend_from_slice(b" : t\ngoal g : ")?;
-    for number in 1..count {
-        push_name(&mut text, number - 1)?;
-        text.extend_from_slice(b" = ")?;
-        push_name(&mut text, number)?;
-        text.extend_from_slice(b" -> ")?;
-    }
-    text.extend_from_slice(b"a0 = ")?;
-    push_name(&mut text, if count == 0 { 0 } else { count - 1 })?;
-    Ok(text)
-}
-
-// Whether a chain of so many equations is answered with a whole part.
-fn is_answered(alloc: Global, count: usize) -> Result<bool, AllocError> {
-    let (status, part) = answer(alloc, chain_text(alloc, count)?.as_slice(), 1 << 26)?;
-    Ok(
-        status == Status::Done
-            && part.starts_with(b"goal g Valid\nproof 1\ngoal\n")
-            && part.ends_with(b"\nend\n"),
-    )
+    let bytes = Vec::from_slice(alloc, text)?;
+    let mut source = MemSource::new(bytes, reads.piece, failing_calls(alloc, reads)?);
+    let room = Vec::with_capacity(alloc, room)?;
+    let mut sink = MemSink::new(room, writes.piece, failing_calls(alloc, writes)?);
+    let status = run(alloc, &[], &mut source, &mut sink);
+    Ok((status, Vec::from_slice(alloc, sink.kept())?))
 }
 
 const TRANSITIVITY: &[u8] = b"type t\nlogic a, b, c, d, e : t\ngoal g : a = b -> b = c -> a = c\n";
@@ -126,195 +54,113 @@ const TRANSITIVITY_PART: &[u8] =
 const ITSELF_PART: &[u8] =
     b"goal g Valid\nproof 1\ngoal\nblock\nh -(= a a)\neq a a refl\nneq 0 0\nrup [] 1 0\nend\n";
 
-#[test]
-fn transitivity(rt: HostRuntime) -> Result<(), Fail> {
-    let (status, part) = answer(rt.alloc(), TRANSITIVITY, 1000)?;
-    assert_eq!(rt; status, Status::Done);
-    assert!(rt; part.as_slice() == TRANSITIVITY_PART);
-    Ok(())
-}
-
-#[test]
-fn a_constant_equals_itself(rt: HostRuntime) -> Result<(), Fail> {
-    let (status, part) = answer(rt.alloc(), b"type t\nlogic a : t\ngoal g : a = a", 1000)?;
-    assert_eq!(rt; status, Status::Done);
-    assert!(rt; part.as_slice() == ITSELF_PART);
-    Ok(())
-}
-
-#[test]
-fn short_chains(rt: HostRuntime) -> Result<(), Fail> {
-    assert!(rt; is_answered(rt.alloc(), 1)?);
-    assert!(rt; is_answered(rt.alloc(), 2)?);
-    assert!(rt; is_answered(rt.alloc(), 10)?);
-    Ok(())
-}
-
-#[test]
-fn the_longest_chain(rt: HostRuntime) -> Result<(), Fail> {
-    assert!(rt; is_answered(rt.alloc(), 1001)?);
-    Ok(())
-}
-
 const UNKNOWN_PART: &[u8] =
     b"goal g I don't know\nstate 1\nlit -(@or (@not (= a b)) (= a c))\nlit +(= a b)\nlit -(= a c)\nname 0 a\nname 1 b\nname 2 c\nvalue 0 0\nvalue 1 0\nvalue 2 2\nend\n";
 
 const UNKNOWN_PARTS: &[u8] =
     b"goal g1 I don't know\nstate 1\nlit -(= a b)\nname 0 a\nname 1 b\nvalue 0 0\nvalue 1 1\nend\ngoal g2 I don't know\nstate 1\nlit -(= a b)\nname 0 a\nname 1 b\nvalue 0 0\nvalue 1 1\nend\n";
 
-// Whether the run ends so and writes exactly this.
-fn answers(alloc: Global, text: &[u8], status: Status, part: &[u8]) -> Result<bool, AllocError> {
-    let (ended, kept) = answer(alloc, text, 1000)?;
-    Ok(ended == status && kept.as_slice() == part)
-}
+// Texts that are answered, and what is written.
+const ANSWERED: [(&[u8], &[u8]); 6] = [
+    (TRANSITIVITY, TRANSITIVITY_PART),
+    (b"type t\nlogic a : t\ngoal g : a = a", ITSELF_PART),
+    (
+        b"type t (* a (* type *) *) logic(**)a : t goal g : a =(* = *)a",
+        ITSELF_PART,
+    ),
+    (
+        b"type t\nlogic a, b, c : t\ngoal g : a = b -> a = c\n",
+        UNKNOWN_PART,
+    ),
+    (
+        b"type t\nlogic a, b : t\ngoal g1 : a = b\ngoal g2 : a = b\n",
+        UNKNOWN_PARTS,
+    ),
+    (b"type t\nlogic a, b : t\n", b""),
+];
 
-#[test]
-fn a_goal_that_does_not_follow(rt: HostRuntime) -> Result<(), Fail> {
-    let text = b"type t\nlogic a, b, c : t\ngoal g : a = b -> a = c\n";
-    assert!(rt; answers(rt.alloc(), text, Status::Done, UNKNOWN_PART)?);
-    Ok(())
-}
+// Texts that are refused, and the line.
+const REFUSED: [(&[u8], &[u8]); 8] = [
+    (b"goal g : a =", b"refused 1:13 unexpected\n"),
+    (b"(* a (* b *)", b"refused 1:1 open comment\n"),
+    (
+        b"goal g : 170141183460469231731687303715884105728 = 0",
+        b"refused 1:10 wide literal\n",
+    ),
+    (b"theory T", b"refused 1:1 outside profile\n"),
+    (b"logic c : int $", b"refused 1:15 bad byte\n"),
+    (b"type t\nlogic : t", b"refused 2:7 unexpected\n"),
+    (b"type t\nlogic a : t\ngoal g : (a = a)", b"refused form\n"),
+    (b"type t\nlogic a : t\ngoal g : a = b", b"refused form\n"),
+];
 
-#[test]
-fn no_goal_is_assumed_by_the_next(rt: HostRuntime) -> Result<(), Fail> {
-    let text = b"type t\nlogic a, b : t\ngoal g1 : a = b\ngoal g2 : a = b\n";
-    assert!(rt; answers(rt.alloc(), text, Status::Done, UNKNOWN_PARTS)?);
-    Ok(())
-}
-
-#[test]
-fn a_text_without_a_goal(rt: HostRuntime) -> Result<(), Fail> {
-    let text = b"type t\nlogic a, b : t\n";
-    assert!(rt; answers(rt.alloc(), text, Status::Done, b"")?);
-    Ok(())
-}
-
-#[test]
-fn refused_texts(rt: HostRuntime) -> Result<(), Fail> {
-    let text = b"type t\nlogic a : t\ngoal g : a = b";
-    assert!(rt; answers(rt.alloc(), text, Status::Refused, b"refused form\n")?);
-    let long = vec![in rt.alloc(); b' '; 16777217]?;
-    assert!(rt;
-        answers(
-            rt.alloc(),
-            long.as_slice(),
-            Status::Refused,
-            b"refused input too long\n"
-        )?
-    );
-    Ok(())
-}
-
-#[test]
-fn the_first_fault(rt: HostRuntime) -> Result<(), Fail> {
-    let cases: [(&str, &str); 8] = [
-        ("goal g : a =", "refused 1:13 unexpected\n"),
-        ("(* a (* b *)", "refused 1:1 open comment\n"),
-        (
-            "goal g : 170141183460469231731687303715884105728 = 0",
-            "refused 1:10 wide literal\n",
-        ),
-        ("theory T", "refused 1:1 outside profile\n"),
-        ("logic c : int $", "refused 1:15 bad byte\n"),
-        ("type t\nlogic : t", "refused 2:7 unexpected\n"),
-        ("type t\nlogic a : t\ngoal g : (a = a)", "refused form\n"),
-        ("type t type u logic a : t", "refused form\n"),
-    ];
-    for (text, line) in cases {
-        let ended = answers(
-            rt.alloc(),
-            text.as_bytes(),
-            Status::Refused,
-            line.as_bytes(),
-        )?;
-        assert!(rt; ended, "at {text}");
+// The first of these texts that isn't answered so.
+fn first_other(
+    alloc: Global,
+    cases: &[(&[u8], &[u8])],
+    wanted: Status,
+) -> Result<Option<usize>, AllocError> {
+    for (i, case) in cases.iter().enumerate() {
+        let (status, written) = answer(alloc, case.0, 1000, WHOLE, WHOLE)?;
+        if status != wanted || written.as_slice() != case.1 {
+            return Ok(Some(i));
+        }
     }
-    Ok(())
+    Ok(None)
 }
 
 #[test]
-fn comments_between_tokens(rt: HostRuntime) -> Result<(), Fail> {
-    let text = b"type t (* a (* type *) *) logic(**)a : t goal g : a =(* = *)a";
-    assert!(rt; answers(rt.alloc(), text, Status::Done, ITSELF_PART)?);
+fn texts_and_their_answers(rt: HostRuntime) -> Result<(), Fail> {
+    assert_eq!(rt; first_other(rt.alloc(), ANSWERED.as_slice(), Status::Done)?, None);
+    assert_eq!(rt; first_other(rt.alloc(), REFUSED.as_slice(), Status::Refused)?, None);
     Ok(())
 }
 
-// Whether a word gives the usage line, with nothing read.
-fn is_word_refused(alloc: Global) -> Result<bool, AllocError> {
-    let mut words = Vec::new(alloc);
-    words.push(String::from_str(alloc, "a")?)?;
-    let mut source = source_of(alloc, TRANSITIVITY, WHOLE)?;
-    let mut sink = sink_of(alloc, 1000, WHOLE)?;
-    let status = run(alloc, words.as_slice(), &mut source, &mut sink);
-    Ok(
-        status == Status::Usage
-            && sink.kept() == b"usage: altac\n".as_slice()
-            && source.calls() == 0,
-    )
+// How a text of blanks alone ends that is one byte too long.
+fn too_long(alloc: Global) -> Result<(Status, Vec<u8>), AllocError> {
+    let long = vec![in alloc; b' '; INPUT_LIMIT + 1]?;
+    answer(alloc, long.as_slice(), 1000, WHOLE, WHOLE)
 }
 
-#[test]
-fn words_are_refused(rt: HostRuntime) -> Result<(), Fail> {
-    assert!(rt; is_word_refused(rt.alloc())?);
-    Ok(())
-}
-
-// Whether pieces of this size give the whole part.
-fn is_whole_in_pieces(alloc: Global, piece: usize) -> Result<bool, AllocError>
-    requires { 1 ≤ piece }
-{
-    let calls = Calls { piece, ..WHOLE };
-    let (status, part) = answer_over(alloc, TRANSITIVITY, calls, calls)?;
-    Ok(status == Status::Done && part.as_slice() == TRANSITIVITY_PART)
-}
-
-#[test]
-fn small_pieces(rt: HostRuntime) -> Result<(), Fail> {
-    assert!(rt; is_whole_in_pieces(rt.alloc(), 1)?);
-    assert!(rt; is_whole_in_pieces(rt.alloc(), 7)?);
-    Ok(())
-}
-
-// How the run ends where this read fails, and how many bytes it writes.
-fn answer_with_failing_read(alloc: Global, call: u64) -> Result<(Status, usize), AllocError> {
-    let reads = Calls {
-        piece: 20,
-        failing: Some(call),
-    };
-    let (status, part) = answer_over(alloc, TRANSITIVITY, reads, WHOLE)?;
-    Ok((status, part.len()))
-}
-
-#[test]
-fn failing_reads(rt: HostRuntime) -> Result<(), Fail> {
-    // The text is read in four pieces and a fifth read, which finds its end.
-    for call in 0..5 {
-        assert_eq!(rt;
-            answer_with_failing_read(rt.alloc(), call)?,
-            (Status::ReadFault, 0)
-        );
+// The longest chain there is: 1,001 equations.
+fn longest_chain(alloc: Global) -> Result<(Status, Vec<u8>), AllocError> {
+    let mut text = Vec::new(alloc);
+    text.extend_from_slice(b"type t logic a, b : t goal g : ")?;
+    for _ in 0..1000 {
+        text.extend_from_slice(b"a = b -> ")?;
     }
-    assert_eq!(rt;
-        answer_with_failing_read(rt.alloc(), 5)?,
-        (Status::Done, TRANSITIVITY_PART.len())
-    );
+    text.extend_from_slice(b"b = a")?;
+    answer(alloc, text.as_slice(), 1 << 26, WHOLE, WHOLE)
+}
+
+#[test]
+fn limits(rt: HostRuntime) -> Result<(), Fail> {
+    let (status, line) = too_long(rt.alloc())?;
+    assert!(rt; status == Status::Refused && line.as_slice() == b"refused input too long\n".as_slice());
+    let (status, part) = longest_chain(rt.alloc())?;
+    assert!(rt; status == Status::Done && part.starts_with(b"goal g Valid\nproof 1\ngoal\n"));
     Ok(())
 }
 
-// How the run ends where this write of so many bytes fails, and how many bytes of the whole part
-// it writes; none where it writes anything else.
-fn answer_with_failing_write(
+// How the run ends over pieces of this size where this read or this write fails, and how many bytes of the whole part it
+// writes; none where it writes anything else.
+fn cut(
     alloc: Global,
     piece: usize,
-    call: u64,
+    read: Option<u64>,
+    write: Option<u64>,
 ) -> Result<(Status, Option<usize>), AllocError>
     requires { 1 ≤ piece }
 {
+    let reads = Calls {
+        piece,
+        failing: read,
+    };
     let writes = Calls {
         piece,
-        failing: Some(call),
+        failing: write,
     };
-    let (status, part) = answer_over(alloc, TRANSITIVITY, WHOLE, writes)?;
+    let (status, part) = answer(alloc, TRANSITIVITY, 1000, reads, writes)?;
     let count = part.len();
     Ok((
         status,
@@ -325,17 +171,12 @@ fn answer_with_failing_write(
 }
 
 #[test]
-fn failing_writes(rt: HostRuntime) -> Result<(), Fail> {
+fn pieces_and_faults(rt: HostRuntime) -> Result<(), Fail> {
     let alloc = rt.alloc();
-    for (call, count) in [(0, 0), (1, 64), (2, 128), (3, 192), (4, 256), (5, 320)] {
-        assert_eq!(rt;
-            answer_with_failing_write(alloc, 64, call)?,
-            (Status::WriteFault, Some(count))
-        );
-    }
-    assert_eq!(rt;
-        answer_with_failing_write(alloc, 8, 1)?,
-        (Status::WriteFault, Some(8))
-    );
+    let whole = (Status::Done, Some(TRANSITIVITY_PART.len()));
+    assert_eq!(rt; cut(alloc, 7, None, None)?, whole);
+    assert_eq!(rt; cut(alloc, 20, Some(2), None)?, (Status::ReadFault, Some(0)));
+    assert_eq!(rt; cut(alloc, 64, None, Some(0))?, (Status::WriteFault, Some(0)));
+    assert_eq!(rt; cut(alloc, 64, None, Some(3))?, (Status::WriteFault, Some(192)));
     Ok(())
 }

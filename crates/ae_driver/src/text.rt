@@ -2,14 +2,15 @@
 
 ghost use Rattle.std.specs.Prelude.{◌≡◌, ◌++◌, ◌+◌, ◌<◌, ◌^◌, length, OnOk, codes, decimal};
 ghost use Rattle.std.specs.List.{flat_map};
-ghost use Rattle.ae_driver.specs.Bytes as bytes;
-ghost use Rattle.ae_driver.specs.Output.{valid_bytes};
+ghost use Rattle.ae_driver.specs.Inner.Bytes as bytes;
+ghost use Rattle.ae_driver.specs.Inner.Bytes.{valid_bytes};
 
-use crate::form::{Chain, Equation};
+use crate::first_text::{Chain, Equation};
 use crate::search::Refutation;
 use ae_core::proofs::EqLine;
 use ae_core::terms::{Head, Term};
-use ae_core::words::Word;
+use ae_base::words::Word;
+use ae_rules::rows::{OR_FROM_LEFT, OR_FROM_RIGHT};
 use itoa::Buffer;
 use std::alloc::AllocError;
 
@@ -53,6 +54,20 @@ pub fn put_equation(out: &mut Vec<u8>, names: &[Word], of: Equation) -> Result<(
     put(out, b" ")?;
     put_name(out, names, of.right)?;
     put(out, b")")
+}
+
+/// Puts at the end a line of this start and an equation.
+pub fn put_equation_line(
+    out: &mut Vec<u8>,
+    start: &[u8],
+    names: &[Word],
+    of: Equation,
+) -> Result<(), AllocError>
+    ensures { OnOk result (out.new.items ≡ out.old.items ++ bytes.equation_line start.now names.now of) }
+{
+    put(out, start)?;
+    put_equation(out, names, of)?;
+    put(out, b"\n")
 }
 
 /// Puts at the end, for each hypothesis, what stands before the rest of the chain in its formula.
@@ -104,8 +119,8 @@ fn put_defs(
     ensures { OnOk result (out.new.items ≡ out.old.items ++ bytes.defs_bytes names.now hyps.now last) }
 {
     for i in 0..hyps.len() {
-        put_def(out, names, 4, &hyps[i..], last)?;
-        put_def(out, names, 5, &hyps[i..], last)?;
+        put_def(out, names, OR_FROM_LEFT, &hyps[i..], last)?;
+        put_def(out, names, OR_FROM_RIGHT, &hyps[i..], last)?;
     }
     Ok(())
 }
@@ -119,13 +134,9 @@ fn put_assumed(
     ensures { OnOk result (out.new.items ≡ out.old.items ++ bytes.assumed_bytes names.now hyps.now last) }
 {
     for hyp in hyps {
-        put(out, b"h +")?;
-        put_equation(out, names, *hyp)?;
-        put(out, b"\n")?;
+        put_equation_line(out, b"h +", names, *hyp)?;
     }
-    put(out, b"h -")?;
-    put_equation(out, names, last)?;
-    put(out, b"\n")
+    put_equation_line(out, b"h -", names, last)
 }
 
 fn put_head(out: &mut Vec<u8>, names: &[Word], head: Head) -> Result<(), AllocError>

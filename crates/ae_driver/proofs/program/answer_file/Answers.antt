@@ -2,16 +2,16 @@ use Rattle.ae_driver.specs.Output.{by_form}
 use Rattle.ae_report.specs.declared.refusal.Refusal.TheVariants as refusal
 use Rattle.ae_driver.proofs.Answered.{refusal_ends}
 use Rattle.ae_driver.proofs.Existence.{text_ends}
-use Rattle.ae_driver.proofs.Reading.{is_form, when_none, when_some}
+use Rattle.ae_driver.proofs.Reading.{well_placed, when_none, when_some}
 use Rattle.ae_driver.proofs.program.answer_file.Goals as goal
 
 pub answer_goals-requires : goal.answer_goals-requires
-answer_goals-requires g c = is_form c.args.text.now c.args.file.now c.in-Ok-Some.form (when_some c.in-Ok-Some.field-0 c.in-Ok-Some.form _ _ c.in-Ok-Some.field-0-is c.in-Ok-Some.ensures)
+answer_goals-requires g c = well_placed c.args.text.now c.args.file.now c.in-Ok-Some.first (when_some c.in-Ok-Some.field-0 c.in-Ok-Some.first _ _ c.in-Ok-Some.field-0-is c.in-Ok-Some.ensures)
 
 pub returns-in-Ok-Some-clause-ends : goal.returns-in-Ok-Some-clause-ends
 returns-in-Ok-Some-clause-ends g c =
-    let is = when_some c.in-Ok-Some.field-0 c.in-Ok-Some.form _ _ c.in-Ok-Some.field-0-is c.in-Ok-Some.ensures in
-    text_ends c.args.text.now c.in-Ok-Some.form _ _ c.answer_goals.result (record { file = c.args.file.now; is_file = c.requires; is_form = is }) c.answer_goals.ensures.ends
+    let is = when_some c.in-Ok-Some.field-0 c.in-Ok-Some.first _ _ c.in-Ok-Some.field-0-is c.in-Ok-Some.ensures in
+    text_ends c.args.text.now c.in-Ok-Some.first _ _ c.answer_goals.result (record { file = c.args.file.now; is_file = c.requires; is_first = is }) c.answer_goals.ensures.ends
 
 pub returns-in-Ok-None-clause-ends : goal.returns-in-Ok-None-clause-ends
 returns-in-Ok-None-clause-ends g c =

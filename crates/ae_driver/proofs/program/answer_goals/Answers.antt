@@ -1,12 +1,12 @@
 use Rattle.std.proofs.Common.{ap, subst, arith}
-use Rattle.ae_driver.specs.Output.{PartEnds}
+use Rattle.ae_driver.specs.Inner.Endings.{PartEnds}
 use Rattle.ae_driver.specs.declared.program.Status.TheVariants as status
 use Rattle.ae_driver.proofs.Answered.{part_ends, part_done, rose_later, item_at}
 use Rattle.ae_driver.proofs.program.answer_goals.Goals as goal
 
 pub returns-in_default : goal.returns-in_default
 returns-in_default g c =
-    let f = c.args.form.now in
+    let f = c.args.first.now in
     let a = g.K.Sink.written c.args.sink.now in
     let b = g.K.Sink.written c.loop-goal.sink in
     let e = g.K.Sink.written c.answer_goal.new.sink in
@@ -19,7 +19,7 @@ returns-in_default g c =
 
 pub loop-goal-preserved : goal.loop-goal-preserved
 loop-goal-preserved g c =
-    let f = c.args.form.now in
+    let f = c.args.first.now in
     let a = g.K.Sink.written c.args.sink.now in
     let b = g.K.Sink.written c.loop-goal.sink in
     let e = g.K.Sink.written c.answer_goal.new.sink in

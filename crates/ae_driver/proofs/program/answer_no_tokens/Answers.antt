@@ -1,11 +1,11 @@
 use Rattle.ae_driver.specs.Output.{by_lexis}
 use Rattle.ae_report.specs.declared.refusal.Refusal.TheVariants as refusal
 use Rattle.ae_syntax.proofs.Places.{lex_fault_within}
-use Rattle.ae_driver.proofs.Answered.{refusal_ends, lexis_place}
+use Rattle.ae_driver.proofs.Answered.{refusal_ends}
 use Rattle.ae_driver.proofs.program.answer_no_tokens.Goals as goal
 
 pub refuse-requires : goal.refuse-requires
-refuse-requires g c = lexis_place c.args.text.now c.args.fault (lex_fault_within c.args.text.now c.args.fault (c.requires c.in_default.not-Memory))
+refuse-requires g c = lex_fault_within c.args.text.now c.args.fault (c.requires c.in_default.not-Memory)
 
 pub returns-in_default : goal.returns-in_default
 returns-in_default g c = record {

@@ -1,8 +1,9 @@
 use Rattle.std.proofs.Common.{◌≡◌, ap, ◌∙◌, subst, length}
-use Rattle.ae_driver.specs.Search.{IsOutcome, Refutes, IsOpen}
+use Rattle.ae_driver.specs.Inner.Search.{IsOutcome, Refutes, IsOpen}
 use Rattle.ae_driver.specs.declared.search.Outcome.TheVariants as outcome
-use Rattle.ae_driver.specs.Output.{IsPartOf, by_refutation, by_values, valid_bytes}
-use Rattle.ae_driver.specs.StateBytes.{unknown_bytes}
+use Rattle.ae_driver.specs.Inner.Endings.{IsPartOf, by_refutation, by_values}
+use Rattle.ae_driver.specs.Inner.Bytes.{valid_bytes}
+use Rattle.ae_driver.specs.Inner.StateBytes.{unknown_bytes}
 use Rattle.ae_driver.proofs.Answered.{in_words}
 use Rattle.ae_driver.proofs.program.goal_part.Goals as goal
 

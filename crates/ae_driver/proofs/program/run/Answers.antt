@@ -1,5 +1,5 @@
 use Rattle.std.proofs.Common.{Err, inr, ap, subst, []}
-use Rattle.ae_driver.specs.Output.{TextEnds, RefusalEnds}
+use Rattle.ae_driver.specs.Inner.Endings.{TextEnds, RefusalEnds}
 use Rattle.ae_report.specs.declared.refusal.Refusal.TheVariants as refusal
 use Rattle.ae_driver.proofs.Answered.{cut_off_is, is_read, is_too_long, complete_is, not_too_long}
 use Rattle.ae_driver.proofs.program.run.Goals as goal

@@ -1,7 +1,7 @@
 use Rattle.std.proofs.Common.{subst, sym, List, ◌≡◌, ◌++◌}
 use Rattle.std.specs.Prelude.{MatchOption}
-use Rattle.ae_driver.specs.declared.form.Equation.{Equation}
-use Rattle.ae_driver.specs.Form.{IsChain}
+use Rattle.ae_driver.specs.declared.first_text.Equation.{Equation}
+use Rattle.ae_driver.specs.FirstTexts.{IsChain}
 use Rattle.ae_driver.proofs.Answered.{in_words}
 use Rattle.ae_driver.proofs.Reading.{no_hypothesis, last_alone, one_more}
 use Rattle.ae_driver.proofs.reader.+chain.Goals as goal

@@ -1,5 +1,5 @@
 use Rattle.std.proofs.Common.{rules}
-use Rattle.ae_driver.specs.Form.{IsResult}
+use Rattle.ae_driver.specs.FirstTexts.{IsResult}
 use Rattle.ae_driver.proofs.Answered.{in_words}
 use Rattle.ae_driver.proofs.Reading.{no_constants, constants_read}
 use Rattle.ae_driver.proofs.reader.constants.Goals as goal

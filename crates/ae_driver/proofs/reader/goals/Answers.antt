@@ -1,7 +1,9 @@
+use Rattle.ae_base.specs.Relations.{Pairwise}
 use Rattle.std.proofs.Common.{rules, subst, sym, take, ◌+◌}
-use Rattle.ae_driver.specs.Form.{IsGoalDecl, Each}
-use Rattle.ae_driver.specs.declared.form.Chain.{Chain}
-use Rattle.ae_driver.proofs.Reading.{no_goal, each_more}
+use Rattle.ae_driver.specs.FirstTexts.{IsGoalDecl}
+use Rattle.ae_driver.specs.declared.first_text.Chain.{Chain}
+use Rattle.ae_driver.proofs.Reading.{no_goal}
+use Rattle.ae_base.proofs.Relations.{pairwise_more}
 use Rattle.ae_driver.proofs.reader.goals.Goals as goal
 
 pub returns-in_default : goal.returns-in_default
@@ -12,5 +14,5 @@ returns-in_default c =
 pub loop-decl-preserved : goal.loop-decl-preserved
 loop-decl-preserved c =
     let one : IsGoalDecl c.args.text.now c.args.constants.now c.decl-item.result c.in-Some.goal = search (rules, c.in_ok-goal.ensures, c.in-Some.is) in
-    subst (λ gs. Each (IsGoalDecl c.args.text.now c.args.constants.now) (take (c.loop-decl.decl-index + 1) c.args.decls.now) gs) (sym (search (rules, c.push.ensures.ok)))
-    (each_more (IsGoalDecl c.args.text.now c.args.constants.now) c.args.decls.now c.loop-decl.found c.loop-decl.decl-index c.decl-item.result c.in-Some.goal c.loop-decl-test.true c.decl-item.is c.loop-decl.invariant one)
+    subst (λ gs. Pairwise (IsGoalDecl c.args.text.now c.args.constants.now) (take (c.loop-decl.decl-index + 1) c.args.decls.now) gs) (sym (search (rules, c.push.ensures.ok)))
+    (pairwise_more (IsGoalDecl c.args.text.now c.args.constants.now) c.args.decls.now c.loop-decl.found c.loop-decl.decl-index c.decl-item.result c.in-Some.goal c.loop-decl-test.true c.decl-item.is c.loop-decl.invariant one)

@@ -1,6 +1,6 @@
 use Rattle.std.proofs.Common.{◌≡◌, map, take}
-use Rattle.ae_core.specs.Clauses.{is_true}
-use Rattle.ae_driver.specs.Chains.{equation}
+use Rattle.ae_rules.specs.Clauses.{is_true}
+use Rattle.ae_driver.specs.Problems.{equation}
 use Rattle.ae_driver.proofs.search.assumed_literals.Given as goal
 
 abbrev pub invariant-loop-hyp : goal.invariant-loop-hyp

@@ -1,7 +1,7 @@
 use Rattle.std.proofs.Common.{sym, ◌∙◌, subst}
-use Rattle.ae_core.specs.Lines.{Stated, equal}
-use Rattle.ae_driver.specs.Chains.{constant}
-use Rattle.ae_driver.specs.Search.{IsDerivation}
+use Rattle.ae_rules.specs.Lines.{Stated, equal}
+use Rattle.ae_driver.specs.Problems.{constant}
+use Rattle.ae_driver.specs.Inner.Search.{IsDerivation}
 use Rattle.ae_driver.proofs.search.conclude.Goals as goal
 
 pub returns : goal.returns

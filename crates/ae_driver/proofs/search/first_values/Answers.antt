@@ -1,7 +1,7 @@
 use Rattle.std.proofs.Common.{rules, arith, ◌++◌, ◌∷◌, [], refl, sym, ap, ◌∙◌}
 use Rattle.ae_driver.proofs.Growing.{valued_push}
-use Rattle.ae_driver.specs.Values.{numbers_of}
-use Rattle.ae_driver.proofs.ValueLaws.{numbers_push, from_more}
+use Rattle.ae_driver.specs.Inner.Merging.{numbers_of}
+use Rattle.ae_driver.proofs.MergingInOrder.{numbers_push, from_more}
 use Rattle.ae_driver.proofs.search.first_values.Goals as goal
 
 pub loop-symbol-preserved : goal.loop-symbol-preserved

@@ -1,6 +1,6 @@
 use Rattle.std.proofs.Common.{◌≡◌, length}
-use Rattle.ae_driver.specs.Search.{Valued}
-use Rattle.ae_driver.specs.Values.{from, numbers_of}
+use Rattle.ae_driver.specs.Inner.Search.{Valued}
+use Rattle.ae_driver.specs.Inner.Merging.{from, numbers_of}
 use Rattle.ae_driver.proofs.search.first_values.Given as goal
 
 abbrev pub invariant-loop-symbol : goal.invariant-loop-symbol

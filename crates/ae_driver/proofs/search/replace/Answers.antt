@@ -1,7 +1,7 @@
 use Rattle.std.proofs.Common.{◌<◌, None, sym, ap, ◌∙◌, subst}
 use Rattle.ae_driver.proofs.Growing.{valued_grows, valued_set, grows_then}
-use Rattle.ae_driver.specs.Values.{numbers_of, replaced}
-use Rattle.ae_driver.proofs.ValueLaws.{numbers_set, numbers_get, length_numbers, replace_step}
+use Rattle.ae_driver.specs.Inner.Merging.{numbers_of, replaced}
+use Rattle.ae_driver.proofs.MergingInOrder.{numbers_set, numbers_get, length_numbers, replace_step}
 use Rattle.ae_driver.proofs.search.replace.Goals as goal
 
 pub loop-k-preserved : goal.loop-k-preserved

@@ -1,6 +1,6 @@
 use Rattle.std.proofs.Common.{◌≡◌, ◌++◌, map, take, drop}
-use Rattle.ae_driver.specs.Search.{Valued, Grows}
-use Rattle.ae_driver.specs.Values.{numbers_of, replaced}
+use Rattle.ae_driver.specs.Inner.Search.{Valued, Grows}
+use Rattle.ae_driver.specs.Inner.Merging.{numbers_of, replaced}
 use Rattle.ae_driver.proofs.search.replace.Given as goal
 
 abbrev pub invariant-loop-k : goal.invariant-loop-k

@@ -1,8 +1,8 @@
 use Rattle.std.proofs.Common.{get_or, sym, ap, ◌∙◌}
 use Rattle.ae_driver.proofs.Growing.{grows_then}
-use Rattle.ae_driver.specs.Values.{numbers_of, merged}
-use Rattle.ae_driver.proofs.ValueLaws.{values_more}
-use Rattle.ae_driver.specs.declared.form.Equation.{Equation}
+use Rattle.ae_driver.specs.Inner.Merging.{numbers_of, merged}
+use Rattle.ae_driver.proofs.MergingInOrder.{values_more}
+use Rattle.ae_driver.specs.declared.first_text.Equation.{Equation}
 use Rattle.ae_driver.proofs.search.take_up.Goals as goal
 
 pub loop-i-preserved : goal.loop-i-preserved

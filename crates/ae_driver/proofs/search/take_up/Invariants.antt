@@ -1,6 +1,6 @@
 use Rattle.std.proofs.Common.{◌≡◌, length, take}
-use Rattle.ae_driver.specs.Search.{Valued, Grows}
-use Rattle.ae_driver.specs.Values.{numbers_of, values_after}
+use Rattle.ae_driver.specs.Inner.Search.{Valued, Grows}
+use Rattle.ae_driver.specs.Inner.Merging.{numbers_of, values_after}
 use Rattle.ae_driver.proofs.search.take_up.Given as goal
 
 abbrev pub invariant-loop-i : goal.invariant-loop-i

@@ -1,5 +1,5 @@
 use Rattle.std.proofs.Common.{◌≡◌, ◌++◌, drop}
-use Rattle.ae_driver.specs.StateBytes.{literals_bytes}
+use Rattle.ae_driver.specs.Inner.StateBytes.{literals_bytes}
 use Rattle.ae_driver.proofs.state_text.put_literals.Given as goal
 
 abbrev pub invariant-loop-i : goal.invariant-loop-i

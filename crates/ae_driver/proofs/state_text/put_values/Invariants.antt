@@ -1,5 +1,5 @@
 use Rattle.std.proofs.Common.{◌≡◌, ◌++◌, drop}
-use Rattle.ae_driver.specs.StateBytes.{values_bytes}
+use Rattle.ae_driver.specs.Inner.StateBytes.{values_bytes}
 use Rattle.ae_driver.proofs.state_text.put_values.Given as goal
 
 abbrev pub invariant-loop-n : goal.invariant-loop-n

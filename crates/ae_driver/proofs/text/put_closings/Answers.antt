@@ -1,5 +1,5 @@
 use Rattle.std.proofs.Common.{◌+◌, ◌++◌, ap, ◌∙◌, sym, drop, codes, append_assoc}
-use Rattle.ae_driver.specs.Bytes.{closing_bytes}
+use Rattle.ae_driver.specs.Inner.Bytes.{closing_bytes}
 use Rattle.ae_driver.proofs.TextLaws.{closing_step}
 use Rattle.ae_driver.proofs.text.put_closings.Goals as goal
 

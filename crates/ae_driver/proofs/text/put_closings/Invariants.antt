@@ -1,5 +1,5 @@
 use Rattle.std.proofs.Common.{◌≡◌, ◌++◌, drop}
-use Rattle.ae_driver.specs.Bytes.{closing_bytes}
+use Rattle.ae_driver.specs.Inner.Bytes.{closing_bytes}
 use Rattle.ae_driver.proofs.text.put_closings.Given as goal
 
 abbrev pub invariant-loop-hyp : goal.invariant-loop-hyp

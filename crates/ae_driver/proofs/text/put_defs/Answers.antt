@@ -1,7 +1,7 @@
 use Rattle.std.proofs.Common.{◌+◌, ◌-◌, ◌++◌, ◌≡◌, ap, ◌∙◌, sym, drop, take, length}
 use Rattle.std.proofs.Math.Seq.{take-length}
 use Rattle.std.proofs.lemmas.List.{length-drop}
-use Rattle.ae_driver.specs.Bytes.{def_bytes, defs_bytes}
+use Rattle.ae_driver.specs.Inner.Bytes.{def_bytes, defs_bytes}
 use Rattle.ae_driver.proofs.TextLaws.{defs_step, three}
 use Rattle.ae_driver.proofs.text.put_defs.Goals as goal
 

@@ -1,5 +1,5 @@
 use Rattle.std.proofs.Common.{◌≡◌, ◌++◌, drop}
-use Rattle.ae_driver.specs.Bytes.{defs_bytes}
+use Rattle.ae_driver.specs.Inner.Bytes.{defs_bytes}
 use Rattle.ae_driver.proofs.text.put_defs.Given as goal
 
 abbrev pub invariant-loop-i : goal.invariant-loop-i

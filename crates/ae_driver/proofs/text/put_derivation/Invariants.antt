@@ -1,6 +1,6 @@
 use Rattle.std.proofs.Common.{◌≡◌, ◌++◌, drop}
 use Rattle.std.specs.List.{flat_map}
-use Rattle.ae_driver.specs.Bytes.{derived_bytes}
+use Rattle.ae_driver.specs.Inner.Bytes.{derived_bytes}
 use Rattle.ae_driver.proofs.text.put_derivation.Given as goal
 
 abbrev pub invariant-loop-line : goal.invariant-loop-line

@@ -1,6 +1,6 @@
 use Rattle.std.proofs.Common.{◌+◌, ◌++◌, ap, ◌∙◌, sym, length, codes, decimal, drop}
 use Rattle.ae_driver.specs.Texts.{numbers_text}
-use Rattle.ae_driver.specs.Chains.{hints}
+use Rattle.ae_driver.specs.Inner.ChainProofs.{hints}
 use Rattle.ae_driver.proofs.TextLaws.{hints_step, regrouped}
 use Rattle.ae_driver.proofs.text.put_hints.Goals as goal
 

@@ -1,6 +1,6 @@
 use Rattle.std.proofs.Common.{◌≡◌, ◌+◌, ◌++◌, drop, length, codes}
 use Rattle.ae_driver.specs.Texts.{numbers_text}
-use Rattle.ae_driver.specs.Chains.{hints}
+use Rattle.ae_driver.specs.Inner.ChainProofs.{hints}
 use Rattle.ae_driver.proofs.text.put_hints.Given as goal
 
 abbrev pub invariant-loop-i : goal.invariant-loop-i

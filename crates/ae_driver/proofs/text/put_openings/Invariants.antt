@@ -1,6 +1,6 @@
 use Rattle.std.proofs.Common.{◌≡◌, ◌++◌, drop}
 use Rattle.std.specs.List.{flat_map}
-use Rattle.ae_driver.specs.Bytes.{opening_bytes}
+use Rattle.ae_driver.specs.Inner.Bytes.{opening_bytes}
 use Rattle.ae_driver.proofs.text.put_openings.Given as goal
 
 abbrev pub invariant-loop-hyp : goal.invariant-loop-hyp

@@ -1,6 +1,6 @@
 use Rattle.std.proofs.Common.{◌++◌, ap, ◌∙◌, codes, length}
 use Rattle.std.specs.List.{flat_map}
-use Rattle.ae_driver.specs.Bytes.{defs_bytes, assumed_bytes, derived_bytes, ending_bytes, rup_bytes}
+use Rattle.ae_driver.specs.Inner.Bytes.{defs_bytes, assumed_bytes, derived_bytes, ending_bytes, rup_bytes}
 use Rattle.ae_driver.proofs.TextLaws.{eight}
 use Rattle.ae_driver.proofs.text.put_proof.Goals as goal
 

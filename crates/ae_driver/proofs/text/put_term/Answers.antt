@@ -1,5 +1,5 @@
 use Rattle.std.proofs.Common.{◌++◌, sym, ap, ◌∙◌, append-nil}
-use Rattle.ae_driver.specs.Bytes.{term_bytes}
+use Rattle.ae_driver.specs.Inner.Bytes.{term_bytes}
 use Rattle.ae_driver.proofs.TextLaws.{bytes_bound, bytes_num, bytes_fresh}
 use Rattle.ae_driver.proofs.text.put_term.Goals as goal
 

@@ -1,5 +1,5 @@
 use Rattle.std.proofs.Common.{◌++◌, ap, ◌∙◌, codes}
-use Rattle.ae_driver.specs.Bytes.{proof_bytes}
+use Rattle.ae_driver.specs.Inner.Bytes.{proof_bytes}
 use Rattle.ae_driver.proofs.TextLaws.{four}
 use Rattle.ae_driver.proofs.text.put_valid.Goals as goal
 

@@ -1,7 +1,7 @@
 use Rattle.std.proofs.Common.{[], ◌∷◌, ◌++◌, sym, ap, ◌∙◌, subst}
-use Rattle.ae_core.specs.Lines.{Allowed, Stated, equal}
-use Rattle.ae_driver.specs.Chains.{constant}
-use Rattle.ae_driver.specs.Search.{IsDerivation, OfConstants, no_signature}
+use Rattle.ae_rules.specs.Lines.{Allowed, Stated, equal}
+use Rattle.ae_driver.specs.Problems.{constant}
+use Rattle.ae_driver.specs.Inner.Search.{IsDerivation, OfConstants, no_signature}
 use Rattle.ae_driver.proofs.Growing.{push, stated_last}
 use Rattle.ae_driver.proofs.derivation.Derivation.push.Goals as goal
 

@@ -1,0 +1,100 @@
+-- In the system of the constants a constant evaluates to the value that it has there, and a chain whose values tell the sides of its end apart is false.
+use Rattle.std.specs.Prelude.{◌≡◌, ◌≢◌, ℕ, zero, suc, ◌+◌, ◌<◌, Bool, true, false, ◌&&◌, nat_eq, List, [], ◌∷◌, map, length, get_or, cond, Option, Some, None}
+use Rattle.std.specs.List.{AllByRecursion}
+use Rattle.std.proofs.Common.{refl, sym, ap, ◌∙◌, subst, arith, true≢false, ⊎_elim}
+use Rattle.std.proofs.lemmas.Bool.Decides.{eqb_tells}
+use Rattle.ae_base.specs.Decided.{decided}
+use Rattle.ae_core.specs.Decided.{Head_discrete, Sorts_discrete}
+use Rattle.ae_base.specs.Options.{or_else}
+use Rattle.ae_core.specs.Sorts.{same_sorts}
+use Rattle.ae_core.proofs.Recursion.{para_apply}
+use Rattle.ae_core.specs.declared.terms.Sort.{Sort, Int}
+use Rattle.ae_core.specs.declared.terms.Head.{Head}
+use Rattle.ae_core.specs.declared.terms.Head.TheVariants.{Symbol}
+use Rattle.ae_core.specs.declared.terms.Term.{Term, out-Term}
+use Rattle.ae_core.specs.declared.terms.Term.TheVariants.{outs-Apply}
+use Rattle.ae_core.specs.declared.formulas.Lit.{Lit}
+use Rattle.ae_core.specs.declared.problems.Signature.{Signature}
+use Rattle.ae_num.specs.declared.forms.Value.{Leaf}
+use Rattle.ae_journal.specs.Values.{Val, Val_discrete, leaf, meaning}
+use Rattle.ae_journal.specs.Truth.{is_said}
+use Rattle.ae_journal.specs.Inner.Numbering.{numbering}
+use Rattle.ae_journal.specs.Evaluation.{is_application, named_among, new, result_sort, ev_step, ev, alike, same_as_stated}
+use Rattle.ae_journal.specs.Evaluate.{value, unassigned, reduced_by, is_true_at}
+use Rattle.ae_journal.specs.declared.systems.System.{System}
+use Rattle.ae_driver.specs.declared.first_text.Equation.{Equation}
+use Rattle.ae_driver.specs.declared.first_text.FirstText.{FirstText}
+use Rattle.ae_driver.specs.Inner.Places.{IsEquationOver}
+use Rattle.ae_driver.specs.Problems.{constant, chain, signature}
+use Rattle.ae_driver.specs.Inner.StateChains.{constants_from, constant_system}
+use Rattle.ae_driver.proofs.MergedValues.{IsValues, Same}
+use Rattle.ae_base.proofs.Decided.{decided_of, decided_not}
+use Rattle.ae_driver.proofs.ConstantSystems.{same_number, meaning_leaf}
+use Rattle.ae_driver.proofs.Saturated.{chain_false}
+
+leaves_alike : (a b : ℕ) → decided (Val_discrete (leaf a) (leaf b)) ≡ nat_eq a b
+leaves_alike a b =
+    ⊎_elim
+    (λ s. decided_of (Val_discrete (leaf a) (leaf b)) (ap leaf s.1) ∙ sym s.0)
+    (λ d. decided_not (Val_discrete (leaf a) (leaf b)) (λ e. d.1 (same_leaf e)) ∙ sym d.0)
+    (eqb_tells a b)
+  where
+    same_leaf : leaf a ≡ leaf b → a ≡ b
+    same_leaf e = cc
+
+found_first : {A : Type 0} (o : Option A) (x d : A) → o ≡ Some x → or_else o d ≡ x
+found_first o x d e = ap (λ p. or_else p d) e
+
+module _ (sig : Signature) (y : System) (way : Bool) where
+  -- the name that stands for a constant
+  is_it : (n : ℕ) → is_application sig y numbering (reduced_by y) way (Symbol n) [] [] (out-Term (constant n)) ≡ true
+  is_it n =
+      ap (is_application sig y numbering (reduced_by y) way (Symbol n) [] []) (outs-Apply (Symbol n) [] [])
+      ∙ ap (λ b. b && same_sorts [] [] && true) (decided_of (Head_discrete (Symbol n) (Symbol n)) refl)
+      ∙ ap (λ b. b && true) (decided_of (Sorts_discrete [] []) refl)
+
+  is_another : (m n : ℕ) → m ≢ n → is_application sig y numbering (reduced_by y) way (Symbol m) [] [] (out-Term (constant n)) ≡ false
+  is_another m n differ =
+      ap (is_application sig y numbering (reduced_by y) way (Symbol m) [] []) (outs-Apply (Symbol n) [] [])
+      ∙ ap (λ b. b && same_sorts [] [] && true) (decided_not (Head_discrete (Symbol m) (Symbol n)) (λ e. differ (same_number m n e)))
+
+  found : (n k i : ℕ) (vs : List ℕ) → i < n → length vs ≡ n
+      → named_among sig y numbering (reduced_by y) way (Symbol (k + i)) [] [] (constants_from k n) (map Leaf vs) ≡ Some (leaf (get_or vs i 0))
+  found zero k i vs lt e = absurd (omega (arith, lt))
+  found (suc n) k i [] lt e = absurd (omega (arith, e))
+  found (suc n) k zero (v ∷ vs) lt e =
+      let same : k + 0 ≡ k = omega arith in
+      ap (λ m. named_among sig y numbering (reduced_by y) way (Symbol m) [] [] (constants_from k (suc n)) (map Leaf (v ∷ vs))) same
+      ∙ ap (λ b. cond b (Some (meaning (Leaf v))) (named_among sig y numbering (reduced_by y) way (Symbol k) [] [] (constants_from (k + 1) n) (map Leaf vs))) (is_it k)
+      ∙ ap Some (meaning_leaf v)
+  found (suc n) k (suc i) (v ∷ vs) lt e =
+      let next : k + suc i ≡ (k + 1) + i = omega arith in
+      ap (λ b. cond b (Some (meaning (Leaf v))) (named_among sig y numbering (reduced_by y) way (Symbol (k + suc i)) [] [] (constants_from (k + 1) n) (map Leaf vs)))
+      (is_another (k + suc i) k (λ h. absurd (omega (arith, h))))
+      ∙ ap (λ m. named_among sig y numbering (reduced_by y) way (Symbol m) [] [] (constants_from (k + 1) n) (map Leaf vs)) next
+      ∙ found n (k + 1) i vs (omega (arith, lt)) (omega (arith, e))
+
+module _ (f : FirstText) (vs : List ℕ) (is : IsValues (length f.constants) vs) (way : Bool) where
+  abbrev y : System
+  y = constant_system (length f.constants) vs
+
+  evaluates : (c : ℕ) → c < length f.constants → value (signature f) y way unassigned (constant c) ≡ leaf (get_or vs c 0)
+  unfolding ev
+  evaluates c lt =
+      para_apply Val (ev_step (signature f) y numbering (reduced_by y) way unassigned) (Symbol c) [] []
+      ∙ found_first (named_among (signature f) y numbering (reduced_by y) way (Symbol c) [] [] y.names y.values) (leaf (get_or vs c 0)) _
+      (ap (λ m. named_among (signature f) y numbering (reduced_by y) way (Symbol m) [] [] y.names y.values) start ∙ found (signature f) y way (length f.constants) 0 c vs lt is.count)
+    where
+      start : c ≡ 0 + c
+      start = omega arith
+
+  agree : (a b : ℕ) → a < length f.constants → b < length f.constants
+      → alike (signature f) y numbering (reduced_by y) way unassigned (constant a) (constant b) ≡ nat_eq (get_or vs a 0) (get_or vs b 0)
+  agree a b la lb = (λ i. decided (Val_discrete (evaluates a la i) (evaluates b lb i))) ∙ leaves_alike (get_or vs a 0) (get_or vs b 0)
+
+  pub goal_is_false : (literals : List Lit) (g : Equation) → IsEquationOver (length f.constants) g → get_or vs g.left 0 ≢ get_or vs g.right 0
+      → (hs : List Equation) → AllByRecursion (IsEquationOver (length f.constants)) hs → AllByRecursion (Same vs) hs
+      → is_true_at (signature f) y way unassigned literals (chain hs g) ≡ false
+  goal_is_false literals g w differ hs ws same =
+      chain_false (length f.constants) vs (alike (signature f) y numbering (reduced_by y) way unassigned)
+      (is_said (same_as_stated (signature f) y numbering (reduced_by y) way unassigned) literals) agree g w differ hs ws same

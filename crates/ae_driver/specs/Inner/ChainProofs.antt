@@ -1,0 +1,31 @@
+-- The proof of a chain that follows: it splits the negated chain into the hypotheses and the negated end, and one block refutes these.
+use Rattle.std.specs.Prelude.{ℕ, ◌+◌, List, [], ◌∷◌, ◌++◌, map, length}
+use Rattle.ae_rules.specs.Clauses.{is_true, is_false}
+use Rattle.ae_core.specs.declared.formulas.Lit.{Lit}
+use Rattle.ae_core.specs.declared.proofs.Block.{Block}
+use Rattle.ae_core.specs.declared.proofs.Proof.{Proof}
+use Rattle.ae_core.specs.declared.proofs.ClauseLine.{ClauseLine}
+use Rattle.ae_core.specs.declared.proofs.ClauseLine.TheVariants.{Goal, Def, Block as BlockLine, Rup}
+use Rattle.ae_rules.specs.declared.rows.TheConstants.{OR_FROM_LEFT, OR_FROM_RIGHT}
+use Rattle.ae_driver.specs.declared.first_text.Equation.{Equation}
+use Rattle.ae_driver.specs.Problems.{equation, chain}
+
+-- the literals that the block assumes: each hypothesis is true, the last equation is false
+abbrev pub assumed : List Equation → Equation → List Lit
+assumed es g = map (λ e. is_true (equation e)) es ++ is_false (equation g) ∷ []
+
+-- the defining lines of a chain
+abbrev pub defs : List Equation → Equation → List ClauseLine
+defs [] g = []
+defs (e ∷ es) g = Def OR_FROM_LEFT (chain (e ∷ es) g) ∷ Def OR_FROM_RIGHT (chain (e ∷ es) g) ∷ defs es g
+
+-- the hints: q is the line whose clause has the rest of the chain, p the next defining line, b the block
+abbrev pub hints : List Equation → ℕ → ℕ → ℕ → List ℕ
+hints [] q p b = b ∷ q ∷ []
+hints (e ∷ es) q p b = q ∷ p ∷ hints es (p + 1) (p + 2) b
+
+abbrev pub proof_lines : List Equation → Equation → Block → List ClauseLine
+proof_lines es g b = Goal ∷ (defs es g ++ BlockLine b ∷ Rup [] (hints es 0 1 (length es + length es + 1)) ∷ [])
+
+abbrev pub chain_proof : List Equation → Equation → Block → Proof
+chain_proof es g b = record { lines = proof_lines es g b }
