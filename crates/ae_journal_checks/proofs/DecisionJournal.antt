@@ -151,7 +151,8 @@ module _ (fresh : Formula → ℕ) where
 
     has_other : either_clause ≡ c → Contains c (is_true other)
     has_other p = subst (λ (d : Clause). Contains d (is_true other)) p
-        (subst (Contains either_clause) other_literal (contains_later (is_false one_or_other) (yes_of one ∷ yes_of other ∷ []) (yes_of other) (contains_later (yes_of one) (yes_of other ∷ []) (yes_of other) (contains_here (yes_of other) []))))
+        (subst (Contains either_clause) other_literal (contains_later (is_false one_or_other) (yes_of one ∷ yes_of other ∷ []) (yes_of other)
+        (contains_later (yes_of one) (yes_of other ∷ []) (yes_of other) (contains_here (yes_of other) []))))
 
     by_literal : (p : either_clause ≡ c) → Contains either_clause l → ⊥
     by_literal p i =

@@ -41,11 +41,11 @@ use Rattle.ae_journal.proofs.Splits.{contains_one, contains_cases, contains_here
 use Rattle.ae_journal_checks.specs.Examples.{T, function_signature, constant, f_of, fixed, block, some_fixed, fixed_goal, instance_problem, instance_story, instance_line}
 use Rattle.ae_journal_checks.specs.Laws.{OneInstanceMayCome}
 
-abbrev a : Term
+abbrev pub a : Term
 a = constant 0
 
 -- ---- sorts
-put_T : put_sort [] T ≡ T
+pub put_T : put_sort [] T ≡ T
 unfolding T
 put_T = put_named [] 0 []
 
@@ -90,28 +90,28 @@ formula_sorted =
     formula_in_ex function_signature may [] block ∙ quant_in_block function_signature may [] block
     ∙ (λ i. (closed_T i && true) && ((trigger_sorted i && true) && true) && body_sorted i)
 
-have_sort : have_sorts function_signature (a ∷ []) (T ∷ []) ≡ true
+pub have_sort : have_sorts function_signature (a ∷ []) (T ∷ []) ≡ true
 have_sort = (λ i. or_else (all_known (sort_a i ∷ []) >>= λ os. Some (same_sorts os (T ∷ []))) false) ∙ yes_sorts (T ∷ [])
 
 -- ---- the clause of the instance
-abbrev clause : Clause
+abbrev pub clause : Clause
 clause = is_true some_fixed ∷ no_of (put_formula (a ∷ []) (fixed (Bound 0))) ∷ []
 
-concludes : conclusion instance_problem 0 (clause_line.Inst some_fixed (a ∷ [])) ≡ Some clause
+pub concludes : conclusion instance_problem 0 (clause_line.Inst some_fixed (a ∷ [])) ≡ Some clause
 unfolding some_fixed
 concludes =
     (λ i. only (formula_sorted i && (known (sort_a i) && true)) (instance_clause function_signature some_fixed (a ∷ []) (out-Formula some_fixed)))
     ∙ ap (instance_clause function_signature some_fixed (a ∷ [])) (outs-Ex block) ∙ ap (λ b. when b clause) have_sort
 
-universal : is_universal (is_false some_fixed) ≡ true
+pub universal : is_universal (is_false some_fixed) ≡ true
 unfolding some_fixed
 universal = ap (is_universal_by false) (outs-Ex block)
 
-pattern_is : pattern_of instance_problem 0 (of_literal (is_false some_fixed)) ≡ Some (literal_pattern function_signature block)
+pub pattern_is : pattern_of instance_problem 0 (of_literal (is_false some_fixed)) ≡ Some (literal_pattern function_signature block)
 unfolding some_fixed
 pattern_is = ap (λ y. only (is_universal_by false y) (quant_of y) >>= λ q. Some (literal_pattern function_signature q)) (outs-Ex block)
 
-no_arithmetic : (t : Term) → is_arithmetic (f_of t) ≡ false
+pub no_arithmetic : (t : Term) → is_arithmetic (f_of t) ≡ false
 unfolding is_arithmetic f_of
 no_arithmetic t = ap is_arithmetic_layer (outs-Apply (head.Symbol 1) [] (t ∷ []))
 
@@ -119,7 +119,7 @@ goal_literal : no_of fixed_goal ≡ is_false fixed_goal
 unfolding fixed_goal
 goal_literal = literal_or false some_fixed (fixed a)
 
-some_literal : no_of some_fixed ≡ is_false some_fixed
+pub some_literal : no_of some_fixed ≡ is_false some_fixed
 unfolding some_fixed
 some_literal = literal_ex false block
 

@@ -1,9 +1,8 @@
 -- The journal of one learnt clause is legal.
-use Rattle.std.proofs.Common.{◌≡◌, ◌≢◌, ℕ, zero, suc, ◌<◌, List, [], ◌∷◌, ◌++◌, slice_get, Bool, true, false, Option, Some, refl, sym, ◌∙◌, ap, subst, arith, inl, inr, ◌⊎◌}
+use Rattle.std.proofs.Common.{◌≡◌, ℕ, List, [], ◌∷◌, ◌++◌, slice_get, true, false, Option, Some, refl, sym, ◌∙◌, ap, subst, arith, inl, inr}
 use Rattle.std.specs.List.{Contains}
 use Rattle.std.proofs.lemmas.Option.{same_Some}
 use Rattle.ae_base.specs.Options.{only}
-use Rattle.ae_core.specs.Sorts.{formula_ok}
 use Rattle.ae_core.proofs.SortLaws.{formula_in_true}
 use Rattle.ae_core.specs.Sorts.{is_closed_sort}
 use Rattle.ae_core.specs.declared.formulas.Formula.{Formula, True}

@@ -5,3 +5,4 @@ pub mod RuleJournal
 pub mod DecisionJournal
 pub mod InstanceLine
 pub mod LearntJournal
+pub mod BackJournal

@@ -135,3 +135,22 @@ true_problem = record { signature = signature; items = Goal (103 ∷ []) 0 True 
 
 abbrev pub true_story : Story
 true_story = record { names = []; lines = line.Learn (is_true True ∷ []) ∷ [] }
+
+-- ---- the goal `(exists x : t [f(x)]. f(x) = x) or not (f(a) = a or a = f(a))`, and a journal that decides, instantiates and goes back
+unfoldable pub first_choice : Formula
+first_choice = fixed (constant 0)
+
+unfoldable pub second_choice : Formula
+second_choice = Eq (constant 0) (f_of (constant 0))
+
+unfoldable pub choices : Formula
+choices = Or first_choice second_choice
+
+unfoldable pub back_goal : Formula
+back_goal = Or some_fixed (Not choices)
+
+abbrev pub back_problem : Problem
+back_problem = record { signature = function_signature; items = Goal (103 ∷ []) 0 back_goal ∷ [] }
+
+abbrev pub back_story : Story
+back_story = record { names = []; lines = line.Decide (is_true first_choice) ∷ instance_line ∷ line.Back 0 ∷ [] }

@@ -3,7 +3,7 @@ use Rattle.std.specs.Prelude.{ℕ, ◌<◌, [], ◌∷◌, ◌≡◌, ◌≢◌}
 use Rattle.ae_core.specs.declared.formulas.Formula.{Formula}
 use Rattle.ae_journal.specs.Journals.{counted_in}
 use Rattle.ae_journal.specs.Legal.{IsLegalLine, AreLegal, IsLegalJournal, setting}
-use Rattle.ae_journal_checks.specs.Examples.{problem, story, longer_story, choice_problem, choice_story, true_problem, true_story, instance_problem, instance_story, instance_line, rule_line}
+use Rattle.ae_journal_checks.specs.Examples.{problem, story, longer_story, choice_problem, choice_story, true_problem, true_story, back_problem, back_story, instance_problem, instance_story, instance_line, rule_line}
 
 -- the journal is legal for each bound, with exactly one counted line
 abbrev pub OneRuleIsLegal : Type 0
@@ -31,3 +31,7 @@ OneInstanceMayCome = (bound : ℕ) (fresh : Formula → ℕ) → 0 < bound → I
 -- a journal of one learnt clause is legal
 abbrev pub OneLearntClauseIsLegal : Type 0
 OneLearntClauseIsLegal = (bound : ℕ) → IsLegalJournal true_problem 0 bound true_story × (counted_in true_story.lines ≡ 1)
+
+-- a decision, an instance and going back behind the decision are legal lines
+abbrev pub GoingBackIsLegal : Type 0
+GoingBackIsLegal = (bound : ℕ) (fresh : Formula → ℕ) → 0 < bound → AreLegal (setting back_problem 0 back_story fresh) bound [] back_story.lines

@@ -1,4 +1,4 @@
--- Journals and states as examples: what the definitions of legal journals allow and refuse of them.
+-- Journals as examples: what the definition of a legal journal allows and refuses of them.
 -- Examples has the problem and the journal of the worked example; Laws has the statements.
 pub mod Examples
 pub mod Laws

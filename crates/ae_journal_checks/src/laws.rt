@@ -1,5 +1,5 @@
 //! Laws of examples.
-ghost use Rattle.ae_journal_checks.specs.Laws.{OneRuleIsLegal, RepeatedRuleIsRefused, NothingIsCounted, FourLinesAreLegal, OneDecisionIsLegal, OneInstanceMayCome, OneLearntClauseIsLegal};
+ghost use Rattle.ae_journal_checks.specs.Laws.{OneRuleIsLegal, RepeatedRuleIsRefused, NothingIsCounted, FourLinesAreLegal, OneDecisionIsLegal, OneInstanceMayCome, OneLearntClauseIsLegal, GoingBackIsLegal};
 
 /// A journal of one rule is legal, with one counted line.
 pub fn one_rule_is_legal()
@@ -34,4 +34,9 @@ pub fn one_instance_may_come()
 /// A journal of one learnt clause is legal.
 pub fn one_learnt_clause_is_legal()
     ensures { OneLearntClauseIsLegal }
+{}
+
+/// A decision, an instance and going back behind the decision are legal lines.
+pub fn going_back_is_legal()
+    ensures { GoingBackIsLegal }
 {}
