@@ -1,0 +1,8 @@
+pub mod Terms
+pub mod Entered
+pub mod NoBlocks
+pub mod RuleJournal
+pub mod DecisionJournal
+pub mod InstanceLine
+pub mod LearntJournal
+pub mod BackJournal

@@ -1,0 +1,42 @@
+//! Laws of examples.
+ghost use Rattle.ae_journal_checks.specs.Laws.{OneRuleIsLegal, RepeatedRuleIsRefused, NothingIsCounted, FourLinesAreLegal, OneDecisionIsLegal, OneInstanceMayCome, OneLearntClauseIsLegal, GoingBackIsLegal};
+
+/// A journal of one rule is legal, with one counted line.
+pub fn one_rule_is_legal()
+    ensures { OneRuleIsLegal }
+{}
+
+/// With its line repeated it is not.
+pub fn repeated_rule_is_refused()
+    ensures { RepeatedRuleIsRefused }
+{}
+
+/// Without its line nothing is counted.
+pub fn nothing_is_counted()
+    ensures { NothingIsCounted }
+{}
+
+/// A journal of two rules, their pair and a name with a new value is legal, with four counted lines.
+pub fn four_lines_are_legal()
+    ensures { FourLinesAreLegal }
+{}
+
+/// A journal of one decision is legal.
+pub fn one_decision_is_legal()
+    ensures { OneDecisionIsLegal }
+{}
+
+/// An instance may come where the bound on generations allows one.
+pub fn one_instance_may_come()
+    ensures { OneInstanceMayCome }
+{}
+
+/// A journal of one learnt clause is legal.
+pub fn one_learnt_clause_is_legal()
+    ensures { OneLearntClauseIsLegal }
+{}
+
+/// A decision, an instance and going back behind the decision are legal lines.
+pub fn going_back_is_legal()
+    ensures { GoingBackIsLegal }
+{}
