@@ -1,17 +1,9 @@
 -- A refuted chain is a valid goal of its text's problem, and a chain that values tell apart is one that has a saturated state.
-use Rattle.std.specs.Prelude.{ℕ, zero, suc, ◌+◌, ◌<◌, ◌≤◌, ◌⊎◌, Bool, true, false, List, [], ◌∷◌, ◌++◌, ◌≡◌, map, length, get_or, take, slice_get, ◌≢◌, Option, Some, None, IfSome, Result, Ok, Err, IfOk}
+use Rattle.std.specs.Prelude.{ℕ, zero, suc, ◌+◌, ◌<◌, ◌≤◌, ◌⊎◌, Bool, false, List, [], ◌∷◌, ◌++◌, ◌≡◌, map, length, get_or, take, slice_get, ◌≢◌, Option, Some, None, IfSome, Result, Ok, Err, IfOk}
 use Rattle.std.specs.List.{AllByRecursion}
 use Rattle.std.proofs.Common.{refl, sym, ap, ◌∙◌, subst, arith, inl, inr, ⊎_elim, append_assoc, append-nil, length-append}
-use Rattle.ae_core.specs.Decided.{Sorts_discrete}
-use Rattle.ae_base.specs.Options.{◌>>=◌, or_else, only, known}
-use Rattle.ae_core.specs.Sorts.{sort_of, term_ok, is_closed_sort, symbol_sort}
-use Rattle.ae_core.specs.Putting.{put_sort}
-use Rattle.ae_rules.specs.Clauses.{no_of}
+use Rattle.ae_base.specs.Options.{◌>>=◌, or_else}
 use Rattle.ae_rules.specs.Derivations.{Derives, goal_body}
-use Rattle.ae_core.proofs.SortLaws.{sort_in_apply}
-use Rattle.ae_core.proofs.PuttingLaws.{put_named}
-use Rattle.ae_core.specs.declared.terms.Term.{Term}
-use Rattle.ae_core.specs.declared.terms.Head.TheVariants.{Symbol}
 use Rattle.ae_core.specs.declared.formulas.Formula.{Formula}
 use Rattle.ae_core.specs.declared.problems.Problem.{Problem}
 use Rattle.ae_core.specs.declared.proofs.Proof.{Proof}
@@ -21,7 +13,7 @@ use Rattle.ae_driver.specs.declared.first_text.FirstText.{FirstText}
 use Rattle.ae_driver.specs.declared.search.Named.{Named}
 use Rattle.ae_driver.specs.declared.search.Refutation.{Refutation}
 use Rattle.ae_driver.specs.Inner.Places.{IsWellPlaced, IsGoalOver}
-use Rattle.ae_driver.specs.Problems.{constant, chain, symbol_entry, goal_item, signature, problem, the_type}
+use Rattle.ae_driver.specs.Problems.{chain, symbol_entry, goal_item, signature, problem, the_type}
 use Rattle.ae_driver.specs.Inner.ChainProofs.{chain_proof}
 use Rattle.ae_driver.specs.Inner.Search.{Refutes, IsOpen, block_of}
 use Rattle.ae_driver.specs.Texts.{proof_text}

@@ -1,7 +1,7 @@
 -- The reader of first texts.
-use Rattle.std.proofs.Common.{◌≡◌, ◌≢◌, ℕ, ◌+◌, ◌<◌, ◌≤◌, List, [], ◌∷◌, ◌++◌, length, take, drop, get_or, Some, None, zero, suc, sym, ap, ◌∙◌, subst, arith, refl, rules, append_assoc}
-use Rattle.std.specs.Prelude.{◌↔◌, Bool, false, IsTrue, slice_get, Option, MatchOption, option_map, slice_index_or}
-use Rattle.std.proofs.lemmas.List.{append-nil, take_more, take_all}
+use Rattle.std.proofs.Common.{◌≡◌, ◌≢◌, ℕ, ◌+◌, ◌<◌, ◌≤◌, List, [], ◌∷◌, ◌++◌, length, take, get_or, Some, None, zero, suc, sym, ap, ◌∙◌, subst, arith, refl, rules, append_assoc}
+use Rattle.std.specs.Prelude.{◌↔◌, Bool, false, IsTrue, slice_get, Option, MatchOption, option_map}
+use Rattle.std.proofs.lemmas.List.{append-nil}
 use Rattle.std.proofs.lemmas.List.Quantifiers.{all_pairs_push}
 use Rattle.std.specs.List.{AllPairs, AllByRecursion}
 use Rattle.ae_syntax.specs.declared.spans.Span.{Span}
