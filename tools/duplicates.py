@@ -11,7 +11,8 @@ the variables' own types beside them in any order. An item that states no relati
 
     tools/duplicates.py             the groups of statements that stand twice or more; exit status 1 if there is one
     tools/duplicates.py --all       every statement over library types alone, by crate and file: what may go to ae_base
-    tools/duplicates.py --library   also those that the kit's std proves already (KIT in the environment, or /opt/rattle)
+    tools/duplicates.py --library   also those that the kit's std proves already (KIT in the environment, or /opt/rattle), and statements
+                                    that std or ae_base has, at types of a crate's own
 ROOT in the environment is another copy of the repository to look at.
 """
 import os
@@ -30,9 +31,7 @@ LOOSE = {"→", "×", "⊎", "↔"}
 TESTS = {"≡", "≢", "<", "≤", "<ℤ", "≤ℤ", "∣", "∈"}
 PLAIN_TYPES = {"ℕ", "ℤ", "ℚ", "Bool", "List", "Option", "Result", "Type", "Unit", "Ordering", "Some", "None", "Ok", "Err", "Less", "Equal", "Greater"}
 RELATIONS = {"≡", "≢", "<", "≤", "⊥", "¬", "↔", "∈", "Path", "IsTrue", "Decides", "IsPermutation", "AllByRecursion", "All", "⊎", "<ℤ", "≤ℤ", "Dec"}
-SYMBOLS = "()[]{}|,"
 TOKEN = re.compile(r"\|\||[()\[\]{}|,]|[^\s()\[\]{}|,]+")
-HEAD = re.compile(r"^( *)((?:pub |abbrev |unfoldable |opaque )*)([^\s:(){}]+)((?: +[({][^:]*:[^\n]*?[)}])*) : (.*)$")
 SKIP = ("use ", "pub use ", "mod ", "pub mod ", "infix", "--", "data ", "pub data ", "record ", "pub record ", "syntax", "pub syntax",
         "unfolding", "tactic", "pub tactic", "ruleset", "pub ruleset", "rules", "pub rules")
 
@@ -448,13 +447,66 @@ def library_statements():
     return found
 
 
+def parts_of(statement):
+    """What is stated, and the types of its variables, of a statement without clauses."""
+    if " where " in statement:
+        return None
+    shown, _, kinds = statement.partition(" | ")
+    return shown, dict(re.findall(r"(v\d+):(.*?)(?=, v\d+:|$)", kinds))
+
+
+def is_instance(general, special):
+    """Whether the types of the one are those of the other with types put for type variables."""
+    if general.keys() != special.keys():
+        return False
+    seen = set()
+
+    def wild(found):
+        name = found.group(0)
+        if name in general:
+            return name
+        if name in seen:
+            return "(?P=%s)" % name
+        seen.add(name)
+        return "(?P<%s>.+?)" % name
+
+    pattern = "\n".join(re.sub(r"v\d+", wild, re.escape(kind)) for _, kind in sorted(general.items()))
+    return bool(re.fullmatch(pattern, "\n".join(kind for _, kind in sorted(special.items()))))
+
+
+def print_instances(every, library):
+    """Statements that are one of ae_base or of the kit's std, at types of their own."""
+    general = defaultdict(list)
+    for statement, (_, module, name) in library.items():
+        if parts_of(statement):
+            general[parts_of(statement)[0]].append((parts_of(statement)[1], "use %s.{%s}" % (module, name), statement))
+    for statement, places in every.items():
+        if parts_of(statement) and any(path.startswith("crates/%s/" % SHARED) for path, _, _ in places):
+            path, line, name = places[0]
+            general[parts_of(statement)[0]].append((parts_of(statement)[1], "%s:%d %s" % (path, line, name), statement))
+    count = 0
+    for statement, places in sorted(every.items(), key=lambda e: e[1][0]):
+        if not parts_of(statement):
+            continue
+        shown, kinds = parts_of(statement)
+        for types, home_of, whole in general.get(shown, []):
+            if whole != statement and is_instance(types, kinds):
+                count += len(places)
+                print("an instance of %s : %s" % (home_of, statement))
+                for place in places:
+                    print("    %s:%d %s" % place)
+                break
+    print("instances of what ae_base or the kit proves: %d" % count)
+
+
 def main(arguments):
-    seen = defaultdict(list)
+    seen, every = defaultdict(list), defaultdict(list)
     crates = os.path.join(ROOT, "crates")
     per_crate = defaultdict(int)
     for crate in sorted(os.listdir(crates)):
         for part in ("specs", "proofs"):
             for path, line, name, statement, generic, _ in statements(os.path.join(crates, crate, part), crate == SHARED):
+                every[statement].append((os.path.relpath(path, ROOT), line, name))
                 if generic or crate == SHARED:
                     per_crate[crate] += 1
                     seen[statement].append((os.path.relpath(path, ROOT), line, name))
@@ -471,6 +523,8 @@ def main(arguments):
             print("in the kit: use %s.{%s} : %s" % (*library[statement][1:], statement))
             for place in places:
                 print("    %s:%d %s" % place)
+    if "--library" in arguments:
+        print_instances(every, library)
     groups_found = {s: p for s, p in seen.items() if len(p) > 1}
     copies = sum(len(p) - 1 for p in groups_found.values())
     for statement, places in sorted(groups_found.items(), key=lambda e: (-len(e[1]), e[1][0])):

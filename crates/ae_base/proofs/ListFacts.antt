@@ -1,9 +1,9 @@
 -- Lists and their places. The library has lemmas.List (map-append, map_push, map-id, append_assoc, append-nil, reverse-append,
 -- length-append, length-reverse, take_more, take_all, take-append-le, drop_all, get_or_default, set-get_or, get_or_append_left, ..),
 -- lemmas.List.Folds (list_all-append, list_all-map, list_any-append, ..), lemmas.Option (slice_get-map, ..) and Math.Seq.
-use Rattle.std.specs.Prelude.{ℕ, zero, suc, ◌+◌, ◌-◌, ◌<◌, ◌≡◌, Bool, true, ◌⊎◌, List, [], ◌∷◌, ◌++◌, map, length, reverse, slice_get, Some}
+use Rattle.std.specs.Prelude.{ℕ, zero, suc, ◌+◌, ◌<◌, ◌≡◌, Bool, true, ◌⊎◌, List, [], ◌∷◌, ◌++◌, map, length, reverse, slice_get, Some}
 use Rattle.std.specs.List.{list_all, list_any}
-use Rattle.std.proofs.Common.{refl, sym, ap, ◌∙◌, inl, inr, arith, get_or, take, drop, drop-cons, take_all, length-drop}
+use Rattle.std.proofs.Common.{refl, sym, ap, ◌∙◌, inl, inr, arith, get_or, take, drop}
 use Rattle.std.proofs.lemmas.Bool.{and_parts, and_from}
 use Rattle.std.proofs.lemmas.Option.{none-some, same_Some, slice_get-map, slice_get-get_or, get_or_from_slice_get, slice_get_within}
 use Rattle.std.specs.Option.{option_map}
@@ -74,14 +74,6 @@ get_front (y ∷ xs) (suc i) (suc k) x e = let r = get_front xs i k x e in (r.0,
 -- the value at a place, at any default, and that the place is one of the list
 pub get_read : {X : Type 0} (xs : List X) (k : ℕ) (x d : X) → slice_get xs k ≡ Some x → (get_or xs k d ≡ x) × (k < length xs)
 get_read xs k x d e = (get_or_from_slice_get xs k x d e, slice_get_within xs k x e)
-
--- ---- from a place on
-pub drop_here : {X : Type 0} (xs : List X) (i : ℕ) (d : X) → i < length xs → drop i xs ≡ get_or xs i d ∷ drop (i + 1) xs
-drop_here xs i d l = drop-cons xs i d l ∙ ap (λ (n : ℕ). get_or xs i d ∷ drop n xs) (let e : suc i ≡ i + 1 = omega arith in e)
-
--- a slice from a place to the end
-pub take_rest : {X : Type 0} (xs : List X) (i : ℕ) → take (length xs - i) (drop i xs) ≡ drop i xs
-take_rest xs i = take_all (length xs - i) (drop i xs) (omega (arith, length-drop i xs))
 
 -- ---- tests of all and of some
 -- what passes both tests, where one holds of all and one of some

@@ -5,15 +5,17 @@ use mathlib.Core.Path.{refl, sym, ap, ◌∙◌, subst}
 use mathlib.Core.List.{append_assoc}
 use native.Mathlib.Omega.{arith}
 use denote.Ref.{Bor}
-use Rattle.ae_core.specs.Decided.{Head_discrete, Sorts_discrete, pick, pick_yes, pick_no}
-use Rattle.ae_core.specs.Lines.{flat, flat_step}
+use Rattle.ae_core.specs.Decided.{Head_discrete, Sorts_discrete}
+use Rattle.ae_base.specs.Decided.{pick}
+use Rattle.ae_base.proofs.Decided.{pick_yes, pick_no}
+use Rattle.ae_rules.specs.Lines.{flat, flat_step}
 use Rattle.ae_core.proofs.Recursion.{para_bound, para_num, para_fresh, para_apply}
 use Rattle.ae_core.specs.declared.terms.Sort.{Sort}
 use Rattle.ae_core.specs.declared.terms.Head.{Head}
 use Rattle.ae_core.specs.declared.terms.Term.{Term, Term-F, Bound, Num, Fresh, Apply, out-Term, roll-Term, roll-out-Term}
 use Rattle.ae_core.specs.declared.terms.Term.TheOpen as layer
 use Rattle.ae_core.specs.declared.terms.Term.TheVariants.{rolls-Bound, rolls-Num, rolls-Fresh, rolls-Apply}
-use Rattle.ae_calc.specs.Lent.{values}
+use Rattle.ae_calc.specs.Inner.LentTerms.{values}
 
 -- what holds where a call answers
 pub on_ok : {A E : Type 0} (r : Result A E) (P Q : Type 0) → (P → Q) → OnOk r P → OnOk r Q

@@ -6,17 +6,20 @@ use Rattle.std.proofs.lemmas.List.Folds.{list_any-append, flat_map-map}
 use Rattle.std.proofs.lemmas.List.{take_all, length-drop}
 use mathlib.Core.Path.{refl, sym, ap, ◌∙◌}
 use native.Mathlib.Omega.{arith}
-use Rattle.ae_core.specs.Decided.{decided, Sort_discrete, Term_discrete}
-use Rattle.ae_core.specs.Sorts.{same_sort, or_else, ◌>>=◌}
-use Rattle.ae_core.specs.Instances.{count_from, constants, constants_step, formula_constants, formula_constants_step}
+use Rattle.ae_base.specs.Decided.{decided}
+use Rattle.ae_core.specs.Decided.{Sort_discrete, Term_discrete}
+use Rattle.ae_core.specs.Sorts.{same_sort}
+use Rattle.ae_base.specs.Options.{or_else, ◌>>=◌}
+use Rattle.ae_rules.specs.Instances.{count_from}
+use Rattle.ae_core.specs.Constants.{constants, constants_step, formula_constants, formula_constants_step}
 use Rattle.ae_core.specs.declared.terms.Sort.{Sort}
 use Rattle.ae_core.specs.declared.terms.Head.{Head}
 use Rattle.ae_core.specs.declared.terms.Term.{Term, Bound, Num, Fresh, Apply}
 use Rattle.ae_core.specs.declared.formulas.Formula.{Formula, True, False, Eq, Lt, Le, Pred, Not, And, Or, Xor, Iff, All, Ex}
 use Rattle.ae_core.specs.declared.formulas.Quant.{Quant, Quant-F, fold-Quant}
 use Rattle.ae_core.proofs.Recursion.{fold_bound, fold_num, fold_fresh, fold_apply, fold_true, fold_false, fold_eq, fold_lt, fold_le, fold_pred, fold_not, fold_and, fold_or, fold_xor, fold_iff, fold_all, fold_ex, fold_block}
-use Rattle.ae_calc.specs.Mentions.{has_sort, is_put, mentions, formula_mentions, quant_mentions}
-use Rattle.ae_calc.proofs.Counting.{count_more}
+use Rattle.ae_calc.specs.Inner.Mentions.{has_sort, is_put, mentions, formula_mentions, quant_mentions}
+use Rattle.ae_calc.proofs.FreshTerms.{count_more}
 
 -- ---- lists
 pub any_flat : {A B : Type 0} (p : B → Bool) (f : A → List B) (xs : List A) → list_any p (flat_map f xs) ≡ list_any (λ x. list_any p (f x)) xs

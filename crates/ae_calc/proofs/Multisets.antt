@@ -14,10 +14,12 @@ use denote.Param.Members.{Mut}
 use mathlib.Core.Path.{refl, sym, ap, ◌∙◌, subst}
 use native.Mathlib.Omega.{arith}
 use Rattle.ae_core.specs.Orders.{term_order}
-use Rattle.ae_core.specs.Decided.{Term_discrete, pick, pick_yes, pick_no}
+use Rattle.ae_core.specs.Decided.{Term_discrete}
+use Rattle.ae_base.specs.Decided.{pick}
+use Rattle.ae_base.proofs.Decided.{pick_yes, pick_no}
 use Rattle.ae_core.proofs.OrderLaws.{term_total, term_exact}
 use Rattle.ae_core.specs.declared.terms.Term.{Term}
-use Rattle.ae_calc.specs.Lent.{values, IsRisingList}
+use Rattle.ae_calc.specs.Inner.LentTerms.{values, IsRisingList}
 
 abbrev SameSums : List Term → List Term → Type 0
 SameSums xs ys = (f : Term → ℕ) → sum_by f xs ≡ sum_by f ys

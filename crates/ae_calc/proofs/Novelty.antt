@@ -5,12 +5,14 @@ use Rattle.std.proofs.lemmas.List.Folds.{list_any-append}
 use Rattle.std.proofs.lemmas.Bool.{or_parts}
 use mathlib.Core.Path.{refl, sym, ap, ◌∙◌, subst}
 use native.Mathlib.Omega.{arith}
-use Rattle.ae_core.specs.Decided.{decided, Term_discrete}
-use Rattle.ae_core.specs.Sorts.{or_else}
-use Rattle.ae_core.specs.Lines.{states}
-use Rattle.ae_core.specs.Clauses.{Clause}
-use Rattle.ae_core.specs.Instances.{count_from, fresh_terms, constants, formula_constants, clause_constants}
-use Rattle.ae_core.specs.Derivations.{AreNew, conclusion, own_constants, line_constants}
+use Rattle.ae_base.specs.Decided.{decided}
+use Rattle.ae_core.specs.Decided.{Term_discrete}
+use Rattle.ae_base.specs.Options.{or_else}
+use Rattle.ae_rules.specs.Lines.{states}
+use Rattle.ae_rules.specs.Clauses.{Clause}
+use Rattle.ae_rules.specs.Instances.{count_from, fresh_terms}
+use Rattle.ae_core.specs.Constants.{constants, formula_constants, clause_constants}
+use Rattle.ae_rules.specs.Derivations.{AreNew, conclusion, own_constants, line_constants}
 use Rattle.ae_core.specs.declared.terms.Sort.{Sort}
 use Rattle.ae_core.specs.declared.terms.Term.{Term}
 use Rattle.ae_core.specs.declared.formulas.Formula.{Formula, All, Ex}
@@ -19,7 +21,7 @@ use Rattle.ae_core.specs.declared.problems.Problem.{Problem}
 use Rattle.ae_core.specs.declared.proofs.EqLine.{EqLine}
 use Rattle.ae_core.specs.declared.proofs.ClauseLine.{ClauseLine}
 use Rattle.ae_core.specs.declared.proofs.ClauseLine.TheVariants.{Hyp, Goal, Def, Inst, Fresh as FreshLine, Exh, Tri, Block, Rup}
-use Rattle.ae_calc.specs.Mentions.{is_put, mentions, formula_mentions, clause_mentions, derived_mentions, own_mentions, line_mentions, no_mention}
+use Rattle.ae_calc.specs.Inner.Mentions.{is_put, mentions, formula_mentions, clause_mentions, derived_mentions, own_mentions, line_mentions, no_mention}
 use Rattle.ae_calc.proofs.Mentioning.{any_flat}
 
 -- ---- what a line mentions, and its constants

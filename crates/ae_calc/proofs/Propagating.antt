@@ -3,8 +3,8 @@ use Rattle.std.specs.Prelude.{ℕ, zero, suc, ◌+◌, ◌<◌, ◌≤◌, Bool,
 use Rattle.std.specs.List.{list_all}
 use mathlib.Core.Path.{refl, ap, ◌∙◌}
 use native.Mathlib.Omega.{arith}
-use Rattle.ae_core.specs.Sorts.{when}
-use Rattle.ae_core.specs.Clauses.{Clause, opposite, stands, has_true, is_or_stands, next_false, refutes}
+use Rattle.ae_base.specs.Options.{when}
+use Rattle.ae_rules.specs.Clauses.{Clause, opposite, stands, has_true, is_or_stands, next_false, refutes}
 use Rattle.ae_core.specs.declared.formulas.Lit.{Lit}
 
 one_more : (i : ℕ) → suc i ≡ i + 1

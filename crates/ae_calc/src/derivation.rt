@@ -1,9 +1,9 @@
 //! Whether a proof derives its goal.
 ghost use Rattle.std.specs.Prelude.{◌↔◌, [], IfOk, IfErr, OnOk, IsTrue};
-ghost use Rattle.ae_core.specs.Derivations.{AreAllowed, Derives};
+ghost use Rattle.ae_rules.specs.Derivations.{AreAllowed, Derives};
 ghost use Rattle.ae_num.specs.Forms.{IfWide};
-ghost use Rattle.ae_calc.specs.Ending.{EndsEmpty};
-ghost use Rattle.ae_calc.specs.Widths.{IsProofWithin, IsProofWide};
+ghost use Rattle.ae_calc.specs.Inner.LastLine.{EndsEmpty};
+ghost use Rattle.ae_calc.specs.Reached.{Fit, FirstWide, ProofReaches};
 
 use crate::clause_lines::{allowed, conclusion};
 use ae_core::problems::Problem;
@@ -12,7 +12,7 @@ use ae_num::numbers::NumFail;
 use std::alloc::{AllocError, Global};
 
 /// Whether each clause line is allowed after those before it.
-#[tactic(auto, using(crate::proofs::Steps::clause_lines_more, crate::proofs::Steps::clause_lines_stop, crate::proofs::Proving::within_more, crate::proofs::Proving::within_stop, crate::proofs::Proving::wide_at))]
+#[tactic(auto, using(crate::proofs::AllowedLines::clause_lines_more, crate::proofs::AllowedLines::clause_lines_stop, crate::proofs::ProofReach::fit_more, crate::proofs::ProofReach::fit_stop, crate::proofs::ProofReach::wide_at))]
 pub fn are_allowed(
     alloc: Global,
     problem: &Problem,
@@ -20,8 +20,8 @@ pub fn are_allowed(
     lines: &[ClauseLine],
 ) -> Result<bool, NumFail>
     ensures exact { IfOk result (λ b. IsTrue b ↔ AreAllowed problem.now goal [] lines.now) }
-    ensures fits { OnOk result (IsProofWithin problem.now goal [] lines.now) }
-    ensures wide { IfErr result (λ fail. IfWide fail (λ w. IsProofWide problem.now goal [] lines.now w)) }
+    ensures fits { OnOk result (Fit (ProofReaches problem.now goal [] lines.now)) }
+    ensures wide { IfErr result (λ fail. IfWide fail (FirstWide (ProofReaches problem.now goal [] lines.now))) }
 {
     for i in 0..lines.len() {
         if !allowed(alloc, problem, goal, &lines[..i], &lines[i])? {
@@ -32,7 +32,7 @@ pub fn are_allowed(
 }
 
 /// Whether the last line states the empty clause.
-#[tactic(auto, using(crate::proofs::Steps::last_of_read))]
+#[tactic(auto, using(crate::proofs::AllowedLines::last_of_read))]
 pub fn ends_empty(
     alloc: Global,
     problem: &Problem,
@@ -60,8 +60,8 @@ pub fn derives(
     proof: &Proof,
 ) -> Result<bool, NumFail>
     ensures exact { IfOk result (λ b. IsTrue b ↔ Derives problem.now goal proof.now) }
-    ensures fits { OnOk result (IsProofWithin problem.now goal [] proof.now.lines) }
-    ensures wide { IfErr result (λ fail. IfWide fail (λ w. IsProofWide problem.now goal [] proof.now.lines w)) }
+    ensures fits { OnOk result (Fit (ProofReaches problem.now goal [] proof.now.lines)) }
+    ensures wide { IfErr result (λ fail. IfWide fail (FirstWide (ProofReaches problem.now goal [] proof.now.lines))) }
 {
     let lines = proof.lines.as_slice();
     if !are_allowed(alloc, problem, goal, lines)? {

@@ -1,10 +1,10 @@
 //! The endings of a block.
 ghost use Rattle.std.specs.Prelude.{◌≡◌, ◌≢◌, ◌↔◌, [], true, false, IsTrue, IfOk, OnOk, IfErr, MatchOption, List, Some, None};
 ghost use Rattle.ae_num.specs.Forms.{first_wide, IfWide};
-ghost use Rattle.ae_core.specs.Lines.{states, Stated, Equated};
-ghost use Rattle.ae_core.specs.Derivations.{EndsNeq, EndsClash, EndsPred, IsConstructor, Ends};
+ghost use Rattle.ae_rules.specs.Lines.{states, Stated, Equated};
+ghost use Rattle.ae_rules.specs.Derivations.{EndsNeq, EndsClash, EndsPred, IsConstructor, Ends};
 ghost use Rattle.ae_numeric.specs.Stated.{ending_steps};
-ghost use Rattle.ae_calc.specs.Endings.{AreDifferentConstructors, AppliesBoth};
+ghost use Rattle.ae_calc.specs.Inner.EndingParts.{AreDifferentConstructors, AppliesBoth};
 ghost use Rattle.ae_core.specs.declared.terms.Term.{Apply};
 ghost use Rattle.ae_core.specs.declared.terms.Head.{Head as HeadOf};
 
@@ -12,10 +12,11 @@ use crate::equations::{assumes, equates_all};
 use ae_core::formulas::{Formula, Lit};
 use ae_core::problems::{Nature, Signature};
 use ae_core::proofs::{Ending, EqLine, Relation};
-use ae_core::terms::{Head, Term, same_head, same_sorts};
+use ae_core::terms::{Head, Term};
+use ae_core::equality::{same_head, same_sorts};
 use ae_num::numbers::NumFail;
 use ae_numeric::combinations::{const_ends, zero_ends};
-use ae_numeric::facts::stated;
+use ae_rules::facts::stated;
 use ae_numeric::rounding::gcd_ends;
 use std::alloc::Global;
 

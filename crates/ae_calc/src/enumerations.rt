@@ -1,7 +1,7 @@
 //! The clauses of enumerations, and of the order of two numbers.
 ghost use Rattle.std.specs.Prelude.{◌≡◌, ◌∷◌, [], IfOk, map};
-ghost use Rattle.ae_core.specs.Clauses.{is_true};
-ghost use Rattle.ae_core.specs.Instances as spec;
+ghost use Rattle.ae_rules.specs.Clauses.{is_true};
+ghost use Rattle.ae_rules.specs.Instances as spec;
 ghost use Rattle.ae_core.specs.declared.formulas.Formula.{Eq, Lt};
 ghost use Rattle.ae_core.specs.declared.terms.Head.TheVariants.{Symbol};
 ghost use Rattle.ae_core.specs.declared.terms.Sort.{out-Sort};

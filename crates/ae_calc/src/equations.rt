@@ -1,7 +1,7 @@
 //! The rules of derived lines that compare terms: equality, hypotheses, arguments and the fields of records.
 ghost use Rattle.std.specs.Prelude.{◌≡◌, ◌↔◌, ◌⊎◌, ◌∷◌, [], true, false, IfOk, IsTrue, Some, slice_get};
-ghost use Rattle.ae_core.specs.Lines.{states, Stated, AllowedTrans, AllowedCong, AllowedField, AllowedFields, Equated, Given, equal, fact_ok, fields_from};
-ghost use Rattle.ae_calc.specs.Records.{count_of, IsWritten, AreRecordsEquated};
+ghost use Rattle.ae_rules.specs.Lines.{states, Stated, AllowedTrans, AllowedCong, AllowedField, AllowedFields, Equated, Given, equal, fact_ok, fields_from};
+ghost use Rattle.ae_calc.specs.Inner.RecordFields.{count_of, IsWritten, AreRecordsEquated};
 ghost use Rattle.ae_core.specs.declared.formulas.Formula.{Eq, Lt, Le};
 ghost use Rattle.ae_core.specs.declared.terms.Term.{Apply};
 ghost use Rattle.ae_core.specs.declared.terms.Head.TheVariants as head;
@@ -10,8 +10,9 @@ use ae_core::formulas::{Formula, Lit};
 use ae_core::problems::{Kind, Signature};
 use ae_core::proofs::{EqLine, Relation};
 use ae_core::sorts::{same_known, same_numeric, sort_of};
-use ae_core::terms::{Head, Sort, Term, same_head, same_sorts, same_term};
-use ae_numeric::facts::stated;
+use ae_core::terms::{Head, Sort, Term};
+use ae_core::equality::{same_head, same_sorts, same_term};
+use ae_rules::facts::stated;
 use std::alloc::{AllocError, Global};
 
 /// Whether the two terms of a fact are closed and have one sort, which is numeric where they are compared.

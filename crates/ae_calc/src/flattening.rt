@@ -1,12 +1,13 @@
 //! Applications of an associative and commutative symbol: the same multiset, flattened.
 ghost use Rattle.std.specs.Prelude.{◌≡◌, ◌↔◌, ◌++◌, IfOk, OnOk, IsTrue, map};
 ghost use Rattle.std.specs.List.Sorted.{IsPermutation};
-ghost use Rattle.ae_core.specs.Lines.{AllowedAc, IsAc, flat};
-ghost use Rattle.ae_calc.specs.Lent.{values, IsRisingList};
+ghost use Rattle.ae_rules.specs.Lines.{AllowedAc, IsAc, flat};
+ghost use Rattle.ae_calc.specs.Inner.LentTerms.{values, IsRisingList};
 
 use ae_core::orders::compare_terms;
 use ae_core::problems::{Nature, Signature};
-use ae_core::terms::{Head, Op, Sort, Term, same_head, same_sorts, same_term};
+use ae_core::terms::{Head, Op, Sort, Term};
+use ae_core::equality::{same_head, same_sorts, same_term};
 use std::alloc::{AllocError, Global};
 
 /// Whether a head is associative and commutative: a declared symbol of that nature, or the product of a numeric sort.

@@ -1,9 +1,9 @@
 //! Whether the constants that a line puts are new: they stand in no earlier line, and not in the line's formula.
 ghost use Rattle.std.specs.Prelude.{◌≡◌, ◌↔◌, IfOk, IsTrue};
 ghost use Rattle.std.specs.List.{list_any};
-ghost use Rattle.ae_calc.specs.Mentions as spec;
-ghost use Rattle.ae_core.specs.Derivations.{AreNew};
-ghost use Rattle.ae_core.specs.Instances as instances;
+ghost use Rattle.ae_calc.specs.Inner.Mentions as spec;
+ghost use Rattle.ae_rules.specs.Derivations.{AreNew};
+ghost use Rattle.ae_rules.specs.Instances as instances;
 ghost use Rattle.ae_core.specs.declared.formulas.Formula.{out-Formula};
 
 use crate::clause_lines::conclusion;
@@ -12,7 +12,7 @@ use ae_core::formulas::Formula;
 use ae_core::problems::Problem;
 use ae_core::proofs::{ClauseLine, EqLine};
 use ae_core::terms::Sort;
-use ae_numeric::facts::stated;
+use ae_rules::facts::stated;
 use std::alloc::{AllocError, Global};
 
 /// Whether one of the constants stands in what one of the derived lines states.

@@ -1,15 +1,12 @@
 //! The clauses of the lines that put sorts or terms: hypotheses, instances and fresh constants.
 ghost use Rattle.std.specs.Prelude.{◌≡◌, ◌∷◌, [], IfOk, ◌+◌, ◌≤◌, ◌^◌, length, not};
-ghost use Rattle.ae_core.specs.Sorts.{when};
-ghost use Rattle.ae_core.specs.Clauses.{literal};
+ghost use Rattle.ae_base.specs.Options.{when};
+ghost use Rattle.ae_rules.specs.Clauses.{literal};
 ghost use Rattle.ae_core.specs.Putting.{put_formula};
-ghost use Rattle.ae_core.specs.Derivations.{conclusion};
-ghost use Rattle.ae_core.specs.Instances as spec;
+ghost use Rattle.ae_rules.specs.Instances as spec;
 ghost use Rattle.ae_core.specs.declared.formulas.Formula.{out-Formula};
-ghost use Rattle.ae_core.specs.declared.proofs.ClauseLine.TheVariants.{Hyp};
 
-use crate::literals::literal;
-use crate::rows::with_part;
+use ae_rules::literals::{literal, signed};
 use ae_core::copies::copy_sort;
 use ae_core::formulas::{Clause, Formula, Quant};
 use ae_core::lists::{Boxed, List, at};
@@ -56,26 +53,6 @@ pub fn hypothesis(
     }
 }
 
-/// The clause of a hypothesis.
-pub fn hypothesis_clause(
-    alloc: Global,
-    problem: &Problem,
-    goal: usize,
-    place: usize,
-    sorts: &[Sort],
-) -> Result<Option<Clause>, AllocError>
-    ensures { IfOk result (λ c. c ≡ conclusion problem.now goal (Hyp place sorts.now)) }
-{
-    match hypothesis(alloc, problem, goal, place, sorts)? {
-        None => Ok(None),
-        Some(formula) => {
-            let mut clause = List::new(alloc);
-            clause.push(literal(alloc, true, &formula)?)?;
-            Ok(Some(clause))
-        }
-    }
-}
-
 /// Whether terms are closed and well sorted, one for each of the sorts, of that sort.
 pub fn have_sorts(
     alloc: Global,
@@ -102,7 +79,10 @@ pub fn put_clause(
     ensures { IfOk result (λ c. c ≡ record { positive = sign; formula = whole.now } ∷ literal (not sign) (put_formula terms.now quant.now.body) ∷ []) }
 {
     let body = substitute(alloc, quant, terms)?;
-    with_part(alloc, sign, whole, !sign, &body)
+    let mut clause = List::new(alloc);
+    clause.push(signed(alloc, sign, whole)?)?;
+    clause.push(literal(alloc, !sign, &body)?)?;
+    Ok(clause)
 }
 
 /// The same where the terms are of the sorts of the block's variables; otherwise there is none.
@@ -146,7 +126,7 @@ pub fn are_numbered(first: usize, sorts: &[Sort]) -> bool
 }
 
 /// Fresh constants of these sorts, numbered from the first one.
-#[tactic(auto, using(crate::proofs::Counting::count_more))]
+#[tactic(auto, using(crate::proofs::FreshTerms::count_more))]
 pub fn count_from(alloc: Global, first: usize, sorts: &[Sort]) -> Result<List<Term>, AllocError>
     requires { first + length sorts.now ≤ 2 ^ 64 }
     ensures { IfOk result (λ ts. ts ≡ spec.count_from first sorts.now) }

@@ -11,9 +11,5 @@ pub mod flattening;
 pub mod fresh;
 pub mod instances;
 pub mod lines;
-pub mod literals;
 pub mod mentions;
 pub mod propagation;
-pub mod rows;
-#[cfg(test)]
-mod tests;

@@ -1,24 +1,21 @@
 //! The derived lines of a block, and a block as a whole.
 ghost use Rattle.std.specs.Prelude.{◌≡◌, ◌↔◌, [], true, false, IfOk, OnOk, IfErr, IsTrue, Some, None};
 ghost use Rattle.ae_num.specs.Forms.{first_wide, IfWide};
-ghost use Rattle.ae_core.specs.Lines.{Allowed, AllAllowed, fact_ok};
-ghost use Rattle.ae_core.specs.Derivations.{Ends, IsContradictory};
+ghost use Rattle.ae_rules.specs.Lines.{Allowed, AllAllowed, fact_ok};
+ghost use Rattle.ae_rules.specs.Derivations.{Ends, IsContradictory};
 ghost use Rattle.ae_numeric.specs.Stated.{line_steps};
-ghost use Rattle.ae_calc.specs.Widths.{AreWithin, AreFirstWide, IsLineAllowed};
+ghost use Rattle.ae_calc.specs.Reached.{Fit, FirstWide, BlockReaches, IsLineAllowed};
 
 use crate::endings::ends;
-use crate::equations::{
-    assumes, assumes_at_most, assumes_below, congruent, equates, fact_is_ok, fields_allowed,
-    is_written_field, joined,
-};
+use crate::equations::{assumes, assumes_at_most, assumes_below, congruent, equates, fact_is_ok, fields_allowed, is_written_field, joined};
 use crate::flattening::ac_allowed;
 use ae_core::formulas::Lit;
 use ae_core::problems::Signature;
 use ae_core::proofs::{Block, Ending, EqLine};
-use ae_core::terms::same_term;
+use ae_core::equality::same_term;
 use ae_num::numbers::NumFail;
 use ae_numeric::combinations::{le_sum_allowed, lin_allowed, lt_sum_allowed};
-use ae_numeric::facts::stated;
+use ae_rules::facts::stated;
 use ae_numeric::rounding::round_allowed;
 use std::alloc::Global;
 
@@ -130,8 +127,8 @@ pub fn lines_allowed(
     ending: &Ending,
 ) -> Result<bool, NumFail>
     ensures exact { IfOk result (λ b. IsTrue b ↔ (AllAllowed signature.now (fact_ok signature.now) hyps.now [] lines.now × Ends signature.now hyps.now lines.now ending.now)) }
-    ensures fits { OnOk result (AreWithin signature.now hyps.now ending.now [] lines.now) }
-    ensures wide { IfErr result (λ fail. IfWide fail (λ w. AreFirstWide signature.now hyps.now ending.now [] lines.now w)) }
+    ensures fits { OnOk result (Fit (BlockReaches signature.now hyps.now ending.now [] lines.now)) }
+    ensures wide { IfErr result (λ fail. IfWide fail (FirstWide (BlockReaches signature.now hyps.now ending.now [] lines.now))) }
 {
     for i in 0..lines.len() {
         if !line_allowed(alloc, signature, hyps, &lines[..i], &lines[i])? {
@@ -144,8 +141,8 @@ pub fn lines_allowed(
 /// Whether a block is allowed: each line after those before it, and the ending after all of them.
 pub fn block_allowed(alloc: Global, signature: &Signature, block: &Block) -> Result<bool, NumFail>
     ensures exact { IfOk result (λ b. IsTrue b ↔ IsContradictory signature.now block.now) }
-    ensures fits { OnOk result (AreWithin signature.now block.now.deriv.hyps block.now.ending [] block.now.deriv.lines) }
-    ensures wide { IfErr result (λ fail. IfWide fail (λ w. AreFirstWide signature.now block.now.deriv.hyps block.now.ending [] block.now.deriv.lines w)) }
+    ensures fits { OnOk result (Fit (BlockReaches signature.now block.now.deriv.hyps block.now.ending [] block.now.deriv.lines)) }
+    ensures wide { IfErr result (λ fail. IfWide fail (FirstWide (BlockReaches signature.now block.now.deriv.hyps block.now.ending [] block.now.deriv.lines))) }
 {
     let hyps = block.deriv.hyps.as_slice();
     let lines = block.deriv.lines.as_slice();

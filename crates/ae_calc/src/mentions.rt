@@ -3,7 +3,7 @@
 //! The constants are those of a list of sorts, numbered from a first number on.
 ghost use Rattle.std.specs.Prelude.{◌≡◌, ◌+◌};
 ghost use Rattle.std.specs.List.{list_any};
-ghost use Rattle.ae_calc.specs.Mentions as spec;
+ghost use Rattle.ae_calc.specs.Inner.Mentions as spec;
 ghost use Rattle.ae_core.specs.declared.terms.Term.{Fresh};
 
 use ae_core::formulas::{Formula, Lit, Quant};

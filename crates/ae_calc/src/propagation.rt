@@ -1,12 +1,14 @@
 //! Unit propagation along hinted clauses.
 ghost use Rattle.std.specs.Prelude.{◌≡◌, IfOk};
 ghost use Rattle.std.specs.List.{list_all};
-ghost use Rattle.ae_core.specs.Clauses as spec;
-ghost use Rattle.ae_core.specs.Decided.{decided, Lit_discrete};
+ghost use Rattle.ae_rules.specs.Clauses as spec;
+ghost use Rattle.ae_base.specs.Decided.{decided};
+ghost use Rattle.ae_core.specs.Decided.{Lit_discrete};
 
-use crate::literals::opposite;
+use ae_rules::literals::opposite;
 use ae_core::copies::copy_clause;
-use ae_core::formulas::{Clause, Lit, same_formula, same_lit};
+use ae_core::formulas::{Clause, Lit};
+use ae_core::equality::{same_formula, same_lit};
 use std::alloc::{AllocError, Global};
 
 /// Whether two literals are the same, as the definitions say it.

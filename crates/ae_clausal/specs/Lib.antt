@@ -1,0 +1,1 @@
+-- What `defining` answers is defined in ae_rules, specs/Defining.antt.

@@ -1,11 +1,12 @@
 //! The orders, the copies and what puts sorts and terms on a few values. What is expected is read off the ranks of the
 //! definition, or written by hand.
 use crate::copies::{copy_formula, copy_sort, copy_term};
-use crate::formulas::{Formula, Quant, same_formula};
+use crate::equality::{same_formula, same_term};
+use crate::formulas::{Formula, Quant};
 use crate::lists::{Boxed, List};
 use crate::orders::{compare_formulas, compare_terms};
 use crate::putting::{instance, substitute};
-use crate::terms::{Head, Op, Sort, Term, same_term};
+use crate::terms::{Head, Op, Sort, Term};
 use std::alloc::{AllocError, Global};
 use std::test::Fail;
 

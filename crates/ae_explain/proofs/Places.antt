@@ -1,5 +1,5 @@
 -- Where formulas stand, and their levels.
-use Rattle.std.proofs.Common.{◌≡◌, ◌≢◌, ℕ, zero, suc, ◌<◌, ◌≤◌, max, true, false, cond, List, [], ◌∷◌, length, refl, sym, ap, ◌∙◌, subst, arith, true≢false, ◌⊎◌, inl, inr, Option, Some, None}
+use Rattle.std.proofs.Common.{◌≡◌, ◌≢◌, ℕ, zero, suc, ◌<◌, ◌≤◌, max, cond, List, [], ◌∷◌, length, refl, sym, ap, ◌∙◌, subst, arith, ◌⊎◌, inl, inr, Option, Some, None}
 use Rattle.std.proofs.lemmas.Bool.{cases_eq, cases_lt}
 use Rattle.std.proofs.lemmas.Option.{same_Some, none-some}
 use Rattle.std.specs.List.{Contains}
@@ -12,7 +12,7 @@ use Rattle.ae_core.specs.declared.formulas.Lit.{Lit}
 use Rattle.ae_explain.specs.declared.trail.Assigned.{Assigned}
 use Rattle.ae_explain.specs.Trail.{Apart, at, place_in, IsLawful, Enters, level_before}
 use Rattle.ae_explain.specs.Levels.{level_at, level_of, greatest_of}
-use Rattle.ae_base.proofs.Decided.{decided_of, decided_yes, decided_not}
+use Rattle.ae_base.proofs.Decided.{decided_of, decided_not}
 use Rattle.ae_base.proofs.Options.{mapped_some}
 
 apart_tail : (a : Assigned) (t : List Assigned) → Apart (a ∷ t) → Apart t

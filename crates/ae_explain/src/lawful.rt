@@ -5,8 +5,8 @@ ghost use Rattle.ae_explain.specs.Trail.{at, level_before, AreFalse, Enters, IsF
 
 use crate::marks::clause_at;
 use crate::trail::Trail;
-use ae_core::formulas::{Clause, Lit};
 use ae_core::equality::same_lit;
+use ae_core::formulas::{Clause, Lit};
 
 /// Whether a literal is false by the first `n` literals of a trail, in time logarithmic in the trail.
 fn is_false_below(trail: &Trail, n: usize, lit: &Lit) -> bool

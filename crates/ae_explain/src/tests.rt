@@ -1,8 +1,8 @@
 //! What is learnt from small trails. What is expected was found by hand, on the graph of the reasons.
 use crate::marks::clause_at;
 use crate::{Assigned, Learnt, Trail, are_false, conflict_clause, is_lawful};
-use ae_core::formulas::{Clause, Formula, Lit};
 use ae_core::equality::same_lit;
+use ae_core::formulas::{Clause, Formula, Lit};
 use ae_core::lists::List;
 use std::alloc::{AllocError, Global};
 

@@ -133,7 +133,8 @@ live_grows kept (j ∷ ls) a = more_after kept j ls a.0 (live_grows (after_line 
     pushed_on : (kept : List Line) (j : Line) (ls : List Line) → ((more : List Line) × (live_after (kept ++ j ∷ []) ls ≡ (kept ++ j ∷ []) ++ more)) → (more : List Line) × (live_after (kept ++ j ∷ []) ls ≡ kept ++ more)
     pushed_on kept j ls r = (j ∷ r.0, r.1 ∙ append_assoc kept (j ∷ []) r.0)
 
-    more_after : (kept : List Line) (j : Line) (ls : List Line) → ¬ IsBack j → ((more : List Line) × (live_after (after_line kept j) ls ≡ after_line kept j ++ more)) → (more : List Line) × (live_after (after_line kept j) ls ≡ kept ++ more)
+    more_after : (kept : List Line) (j : Line) (ls : List Line) → ¬ IsBack j → ((more : List Line) × (live_after (after_line kept j) ls ≡ after_line kept j ++ more))
+        → (more : List Line) × (live_after (after_line kept j) ls ≡ kept ++ more)
     more_after kept (line.Back n) ls h r = absurd (h tt)
     more_after kept (line.Decide l) ls h r = pushed_on kept (line.Decide l) ls r
     more_after kept (line.Orient o) ls h r = pushed_on kept (line.Orient o) ls r

@@ -45,7 +45,8 @@ no_second_drop x js u l d m =
     let s = m.stands in
     elim (last_cases (live js) s.before s.after (line.Drop (oriented.Rule u l d)) (line.Orient (oriented.Rule u l m.right)) (sym (live_push js (line.Drop (oriented.Rule u l d))) ∙ s.is)) [
       | inl e ↦ other_line u l m.right d e
-      | inr c ↦ s.kept d (subst (λ (w : List Line). Contains w (line.Drop (oriented.Rule u l d))) (sym c.1) (Contains-append_right c.0 (line.Drop (oriented.Rule u l d) ∷ []) (line.Drop (oriented.Rule u l d)) (contains_here (line.Drop (oriented.Rule u l d)) [])))
+      | inr c ↦ s.kept d (subst (λ (w : List Line). Contains w (line.Drop (oriented.Rule u l d))) (sym c.1)
+          (Contains-append_right c.0 (line.Drop (oriented.Rule u l d) ∷ []) (line.Drop (oriented.Rule u l d)) (contains_here (line.Drop (oriented.Rule u l d)) [])))
     ]
 
 pub nothing_known_is_learnt : NothingKnownIsLearnt

@@ -1,10 +1,12 @@
 -- The literals of a formula's defining clauses are of the formula or of its parts; the sides of an inequality stand outside quantified parts.
 use Rattle.std.proofs.Common.{◌≡◌, ℕ, List, [], ◌∷◌, Bool, true, false, not, nat_eq, cond, arith, Option, Some, None, refl, sym, ◌∙◌, ap, subst, inl, inr, ◌⊎◌}
 use Rattle.std.specs.List.{AllByRecursion, Contains}
-use Rattle.ae_rules.specs.declared.rows.TheConstants.{AND_TO_LEFT, AND_TO_RIGHT, AND_FROM_BOTH, OR_FROM_LEFT, OR_FROM_RIGHT, OR_TO_EITHER, IFF_TO_RIGHT, IFF_TO_LEFT, IFF_FROM_NEITHER, IFF_FROM_BOTH, XOR_TO_EITHER, XOR_TO_NOT_BOTH, XOR_FROM_LEFT, XOR_FROM_RIGHT, TRUE_STANDS, FALSE_FAILS}
+use Rattle.ae_rules.specs.declared.rows.TheConstants.{AND_TO_LEFT, AND_TO_RIGHT, AND_FROM_BOTH, OR_FROM_LEFT, OR_FROM_RIGHT, OR_TO_EITHER, IFF_TO_RIGHT, IFF_TO_LEFT, IFF_FROM_NEITHER}
+use Rattle.ae_rules.specs.declared.rows.TheConstants.{IFF_FROM_BOTH, XOR_TO_EITHER, XOR_TO_NOT_BOTH, XOR_FROM_LEFT, XOR_FROM_RIGHT, TRUE_STANDS, FALSE_FAILS}
 use Rattle.ae_core.specs.Inner.Induction.{by_formulas}
 use Rattle.ae_rules.specs.Clauses.{Clause, literal, yes_of, no_of, is_true, is_false, row, row_at}
-use Rattle.ae_rules.proofs.ClauseLaws.{literal_true, literal_false, literal_eq, literal_lt, literal_le, literal_pred, literal_not, literal_and, literal_or, literal_xor, literal_iff, literal_all, literal_ex, row_true, row_false, row_eq, row_lt, row_le, row_pred, row_not, row_and, row_or, row_xor, row_iff, row_all, row_ex}
+use Rattle.ae_rules.proofs.ClauseLaws.{literal_true, literal_false, literal_eq, literal_lt, literal_le, literal_pred, literal_not, literal_and, literal_or, literal_xor, literal_iff, literal_all}
+use Rattle.ae_rules.proofs.ClauseLaws.{literal_ex, row_true, row_false, row_eq, row_lt, row_le, row_pred, row_not, row_and, row_or, row_xor, row_iff, row_all, row_ex}
 use Rattle.ae_core.proofs.Recursion.{fold_lt, fold_le}
 use Rattle.ae_core.specs.declared.terms.Term.{Term}
 use Rattle.ae_core.specs.declared.formulas.Formula.{Formula, Formula-F, True, False, Eq, Lt, Le, Pred, Not, And, Or, Xor, Iff, All, Ex, out-Formula}
@@ -98,22 +100,40 @@ module _ (P : Formula → Type 0) (closed : (h a : Formula) → P h → Contains
   pub row_part : (f : Formula) → Rows f
   row_part =
       by_formulas Rows (λ q. Unit {0})
-      (λ p r c e. tabled r ((TRUE_STANDS, is_true True ∷ []) ∷ []) c (sym (row_true r) ∙ e) (one_each (is_true True) p, tt))
-      (λ p r c e. tabled r ((FALSE_FAILS, is_false False ∷ []) ∷ []) c (sym (row_false r) ∙ e) (one_each (is_false False) p, tt))
+      (λ p r c e. tabled r ((TRUE_STANDS, is_true True ∷ []) ∷ []) c
+      (sym (row_true r) ∙ e) (one_each (is_true True) p, tt))
+      (λ p r c e. tabled r ((FALSE_FAILS, is_false False ∷ []) ∷ []) c
+      (sym (row_false r) ∙ e) (one_each (is_false False) p, tt))
       (λ a b. no_row (Eq a b) (λ r. row_eq r a b))
       (λ a b. no_row (Lt a b) (λ r. row_lt r a b))
       (λ a b. no_row (Le a b) (λ r. row_le r a b))
       (λ q os us. no_row (Pred q os us) (λ r. row_pred r q os us))
       (λ a h. no_row (Not a) (λ r. row_not r a))
       (λ a b h k p r c e. let o : parts_of (And a b) ≡ a ∷ b ∷ [] = ap parts_by (outs-And a b) in
-      tabled r ((AND_TO_LEFT, is_false (And a b) ∷ yes_of a ∷ []) ∷ (AND_TO_RIGHT, is_false (And a b) ∷ yes_of b ∷ []) ∷ (AND_FROM_BOTH, is_true (And a b) ∷ no_of a ∷ no_of b ∷ []) ∷ []) c (sym (row_and r a b) ∙ e) (of_first (And a b) a b o p false true, (of_second (And a b) a b o p false true, (of_both (And a b) a b o p true false false, tt))))
+      tabled r ((AND_TO_LEFT, is_false (And a b) ∷ yes_of a ∷ [])
+      ∷ (AND_TO_RIGHT, is_false (And a b) ∷ yes_of b ∷ [])
+      ∷ (AND_FROM_BOTH, is_true (And a b) ∷ no_of a ∷ no_of b ∷ []) ∷ []) c
+      (sym (row_and r a b) ∙ e)
+      (of_first (And a b) a b o p false true, (of_second (And a b) a b o p false true, (of_both (And a b) a b o p true false false, tt))))
       (λ a b h k p r c e. let o : parts_of (Or a b) ≡ a ∷ b ∷ [] = ap parts_by (outs-Or a b) in
-      tabled r ((OR_FROM_LEFT, is_true (Or a b) ∷ no_of a ∷ []) ∷ (OR_FROM_RIGHT, is_true (Or a b) ∷ no_of b ∷ []) ∷ (OR_TO_EITHER, is_false (Or a b) ∷ yes_of a ∷ yes_of b ∷ []) ∷ []) c (sym (row_or r a b) ∙ e) (of_first (Or a b) a b o p true false, (of_second (Or a b) a b o p true false, (of_both (Or a b) a b o p false true true, tt))))
+      tabled r ((OR_FROM_LEFT, is_true (Or a b) ∷ no_of a ∷ [])
+      ∷ (OR_FROM_RIGHT, is_true (Or a b) ∷ no_of b ∷ [])
+      ∷ (OR_TO_EITHER, is_false (Or a b) ∷ yes_of a ∷ yes_of b ∷ []) ∷ []) c
+      (sym (row_or r a b) ∙ e)
+      (of_first (Or a b) a b o p true false, (of_second (Or a b) a b o p true false, (of_both (Or a b) a b o p false true true, tt))))
       (λ a b h k p r c e. let o : parts_of (Xor a b) ≡ a ∷ b ∷ [] = ap parts_by (outs-Xor a b) in
-      tabled r ((XOR_TO_EITHER, is_false (Xor a b) ∷ yes_of a ∷ yes_of b ∷ []) ∷ (XOR_TO_NOT_BOTH, is_false (Xor a b) ∷ no_of a ∷ no_of b ∷ []) ∷ (XOR_FROM_LEFT, is_true (Xor a b) ∷ no_of a ∷ yes_of b ∷ []) ∷ (XOR_FROM_RIGHT, is_true (Xor a b) ∷ yes_of a ∷ no_of b ∷ []) ∷ []) c (sym (row_xor r a b) ∙ e)
+      tabled r ((XOR_TO_EITHER, is_false (Xor a b) ∷ yes_of a ∷ yes_of b ∷ [])
+      ∷ (XOR_TO_NOT_BOTH, is_false (Xor a b) ∷ no_of a ∷ no_of b ∷ [])
+      ∷ (XOR_FROM_LEFT, is_true (Xor a b) ∷ no_of a ∷ yes_of b ∷ [])
+      ∷ (XOR_FROM_RIGHT, is_true (Xor a b) ∷ yes_of a ∷ no_of b ∷ []) ∷ []) c
+      (sym (row_xor r a b) ∙ e)
       (of_both (Xor a b) a b o p false true true, (of_both (Xor a b) a b o p false false false, (of_both (Xor a b) a b o p true false true, (of_both (Xor a b) a b o p true true false, tt)))))
       (λ a b h k p r c e. let o : parts_of (Iff a b) ≡ a ∷ b ∷ [] = ap parts_by (outs-Iff a b) in
-      tabled r ((IFF_TO_RIGHT, is_false (Iff a b) ∷ no_of a ∷ yes_of b ∷ []) ∷ (IFF_TO_LEFT, is_false (Iff a b) ∷ yes_of a ∷ no_of b ∷ []) ∷ (IFF_FROM_NEITHER, is_true (Iff a b) ∷ yes_of a ∷ yes_of b ∷ []) ∷ (IFF_FROM_BOTH, is_true (Iff a b) ∷ no_of a ∷ no_of b ∷ []) ∷ []) c (sym (row_iff r a b) ∙ e)
+      tabled r ((IFF_TO_RIGHT, is_false (Iff a b) ∷ no_of a ∷ yes_of b ∷ [])
+      ∷ (IFF_TO_LEFT, is_false (Iff a b) ∷ yes_of a ∷ no_of b ∷ [])
+      ∷ (IFF_FROM_NEITHER, is_true (Iff a b) ∷ yes_of a ∷ yes_of b ∷ [])
+      ∷ (IFF_FROM_BOTH, is_true (Iff a b) ∷ no_of a ∷ no_of b ∷ []) ∷ []) c
+      (sym (row_iff r a b) ∙ e)
       (of_both (Iff a b) a b o p false false true, (of_both (Iff a b) a b o p false true false, (of_both (Iff a b) a b o p true true true, (of_both (Iff a b) a b o p true false false, tt)))))
       (λ q h. no_row (All q) (λ r. row_all r q))
       (λ q h. no_row (Ex q) (λ r. row_ex r q))

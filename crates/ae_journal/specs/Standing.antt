@@ -105,7 +105,8 @@ module _ (x : Setting) where
   pub data SurelyStands (js : List Line) : Lit → Type 0 where
     by_decision : (l : Lit) → IsDecided js l → SurelyStands js l
     by_given : (c : Clause) (l : Lit) → IsGiven js c → Contains c l → ((m : Lit) → Contains c m → m ≢ l → SurelyStands js (opposite m)) → SurelyStands js l
-    by_row : (w l : Lit) (r : ℕ) (c : Clause) → SurelyStands js w → row r w.formula ≡ Some c → Contains c (opposite w) → Contains c l → ((m : Lit) → Contains c m → m ≢ l → SurelyStands js (opposite m)) → SurelyStands js l
+    by_row : (w l : Lit) (r : ℕ) (c : Clause) → SurelyStands js w → row r w.formula ≡ Some c → Contains c (opposite w)
+        → Contains c l → ((m : Lit) → Contains c m → m ≢ l → SurelyStands js (opposite m)) → SurelyStands js l
 
   -- ---- equations that may stand, and what follows from them
   abbrev pub MayEquate : List Line → Term → Term → Type 0

@@ -1,5 +1,8 @@
 //! Laws of the definitions of states and journals.
-ghost use Rattle.ae_journal.specs.Laws.{OneRepresentative, OneValue, LeafRepresentative, OneRepresentativeNow, RepresentsItself, OneLeaf, LeastGenerations, GenerationsRise, GenerationsFall, FrontsAreLegal, BackRestores, BackAfterLearn, NothingIsLost, MayStandGrows, SurelyStandsGrows, LiteralsAreFormulas, RowsAreOfNames, NoSecondRule, NoSecondPair, NoPairWithItself, NoSecondDrop, NothingKnownIsLearnt, NothingSureIsDecided, NoSecondInstance, NoSecondBack, BackUndoes, NoInstanceAtBound, NoNameIsDropped, SomePair, SomeDrop};
+ghost use Rattle.ae_journal.specs.Laws.{OneRepresentative, OneValue, LeafRepresentative, OneRepresentativeNow, RepresentsItself, OneLeaf, LeastGenerations, GenerationsRise, GenerationsFall};
+ghost use Rattle.ae_journal.specs.Laws.{FrontsAreLegal, BackRestores, BackAfterLearn, NothingIsLost, MayStandGrows, SurelyStandsGrows, LiteralsAreFormulas, RowsAreOfNames, NoSecondRule};
+ghost use Rattle.ae_journal.specs.Laws.{NoSecondPair, NoPairWithItself, NoSecondDrop, NothingKnownIsLearnt, NothingSureIsDecided, NoSecondInstance, NoSecondBack, BackUndoes, NoInstanceAtBound};
+ghost use Rattle.ae_journal.specs.Laws.{NoNameIsDropped, SomePair, SomeDrop};
 
 /// A value has one representative within a sort, and no smaller name has the value.
 pub fn one_representative()

@@ -2,9 +2,8 @@
 -- `f` says how often a name comes out that stands so often in the one list and so often in the other.
 use Rattle.std.proofs.Common.{◌≡◌, ◌≢◌, ℕ, suc, ◌+◌, ◌<◌, ◌≤◌, List, [], ◌∷◌, ◌++◌, length, get_or, drop, ◌⊎◌, inl, inr, refl, sym, ◌∙◌, ap, subst, arith, append_assoc, append-nil, Less, Equal, Greater, nat_cmp}
 use Rattle.std.specs.List.Sorted.{IsNonDecreasing}
-use Rattle.std.proofs.lemmas.List.{drop_all}
+use Rattle.std.proofs.lemmas.List.{drop_all, drop_more}
 use Rattle.std.proofs.lemmas.Bool.{cases_eq}
-use Rattle.ae_base.proofs.ListFacts.{drop_here}
 use Rattle.ae_base.proofs.Orders.{cmp_below, cmp_equal, cmp_above}
 use Rattle.ae_multiset.specs.Multisets.{count}
 use Rattle.ae_multiset.proofs.Counts.{count_same, count_other, count-append}
@@ -47,8 +46,8 @@ rises_back (x ∷ xs) ys h = rises_back xs ys h.1
 -- a name below the one at a place stands nowhere from there on
 pub none_from : (z : ℕ) (xs : List ℕ) (i : ℕ) → Rises (drop i xs) → i < length xs → z < get_or xs i 0 → count z (drop i xs) ≡ 0
 none_from z xs i h l m =
-    let r : Rises (get_or xs i 0 ∷ drop (i + 1) xs) = subst Rises (drop_here xs i 0 l) h in
-    ap (count z) (drop_here xs i 0 l) ∙ (count_other z (get_or xs i 0) (drop (i + 1) xs) (λ e. absurd (omega (arith, e, m))) ∙ count_below (get_or xs i 0) z (drop (i + 1) xs) r.0 m)
+    let r : Rises (get_or xs i 0 ∷ drop (i + 1) xs) = subst Rises (drop_more xs i 0 l) h in
+    ap (count z) (drop_more xs i 0 l) ∙ (count_other z (get_or xs i 0) (drop (i + 1) xs) (λ e. absurd (omega (arith, e, m))) ∙ count_below (get_or xs i 0) z (drop (i + 1) xs) r.0 m)
 
 -- ---- what a merge keeps
 -- the names that are out, and those that are to come, are all that come out
@@ -110,16 +109,16 @@ module _ (f : ℕ → ℕ → ℕ) (left right out : List ℕ) where
   -- ---- the turns
   module _ (i j : ℕ) (m : Merging f left right out i j) (i_in : i < length left) (j_in : j < length right) where
     at_left : Merges f left right out (get_or left i 0 ∷ drop (i + 1) left) (drop j right)
-    at_left = subst (λ (w : List ℕ). Merges f left right out w (drop j right)) (drop_here left i 0 i_in) m.counts
+    at_left = subst (λ (w : List ℕ). Merges f left right out w (drop j right)) (drop_more left i 0 i_in) m.counts
 
     at_right : Merges f left right out (drop i left) (get_or right j 0 ∷ drop (j + 1) right)
-    at_right = subst (λ (w : List ℕ). Merges f left right out (drop i left) w) (drop_here right j 0 j_in) m.counts
+    at_right = subst (λ (w : List ℕ). Merges f left right out (drop i left) w) (drop_more right j 0 j_in) m.counts
 
     rises_at_left : Rises (out ++ get_or left i 0 ∷ drop (i + 1) left)
-    rises_at_left = subst (λ (w : List ℕ). Rises (out ++ w)) (drop_here left i 0 i_in) m.left_rises
+    rises_at_left = subst (λ (w : List ℕ). Rises (out ++ w)) (drop_more left i 0 i_in) m.left_rises
 
     rises_at_right : Rises (out ++ get_or right j 0 ∷ drop (j + 1) right)
-    rises_at_right = subst (λ (w : List ℕ). Rises (out ++ w)) (drop_here right j 0 j_in) m.right_rises
+    rises_at_right = subst (λ (w : List ℕ). Rises (out ++ w)) (drop_more right j 0 j_in) m.right_rises
 
     -- the name of the left list comes out, which is not the larger one
     pub take_left : get_or left i 0 ≤ get_or right j 0
@@ -130,7 +129,7 @@ module _ (f : ℕ → ℕ → ℕ) (left right out : List ℕ) where
       right_in = m.right_in;
       counts = push_left (get_or left i 0) (drop (i + 1) left) (drop j right) at_left e;
       left_rises = subst Rises (sym (append_assoc out (get_or left i 0 ∷ []) (drop (i + 1) left))) rises_at_left;
-      right_rises = subst (λ (w : List ℕ). Rises ((out ++ get_or left i 0 ∷ []) ++ w)) (sym (drop_here right j 0 j_in))
+      right_rises = subst (λ (w : List ℕ). Rises ((out ++ get_or left i 0 ∷ []) ++ w)) (sym (drop_more right j 0 j_in))
           (subst Rises (sym (append_assoc out (get_or left i 0 ∷ []) (get_or right j 0 ∷ drop (j + 1) right)))
           (rises_put out (get_or left i 0) (get_or right j 0) (drop (i + 1) left) (drop (j + 1) right) rises_at_left rises_at_right l));
     }
@@ -152,7 +151,7 @@ module _ (f : ℕ → ℕ → ℕ) (left right out : List ℕ) where
       left_in = m.left_in;
       right_in = omega arith;
       counts = push_right (get_or right j 0) (drop i left) (drop (j + 1) right) at_right e;
-      left_rises = subst (λ (w : List ℕ). Rises ((out ++ get_or right j 0 ∷ []) ++ w)) (sym (drop_here left i 0 i_in))
+      left_rises = subst (λ (w : List ℕ). Rises ((out ++ get_or right j 0 ∷ []) ++ w)) (sym (drop_more left i 0 i_in))
           (subst Rises (sym (append_assoc out (get_or right j 0 ∷ []) (get_or left i 0 ∷ drop (i + 1) left)))
           (rises_put out (get_or right j 0) (get_or left i 0) (drop (j + 1) right) (drop (i + 1) left) rises_at_right rises_at_left l));
       right_rises = subst Rises (sym (append_assoc out (get_or right j 0 ∷ []) (drop (j + 1) right))) rises_at_right;
@@ -170,7 +169,7 @@ module _ (f : ℕ → ℕ → ℕ) (left right out : List ℕ) where
 
     module _ (same : get_or left i 0 ≡ get_or right j 0) where
       at_both : Merges f left right out (get_or left i 0 ∷ drop (i + 1) left) (get_or left i 0 ∷ drop (j + 1) right)
-      at_both = subst (λ (w : List ℕ). Merges f left right out w (get_or left i 0 ∷ drop (j + 1) right)) (drop_here left i 0 i_in)
+      at_both = subst (λ (w : List ℕ). Merges f left right out w (get_or left i 0 ∷ drop (j + 1) right)) (drop_more left i 0 i_in)
           (subst (λ (w : ℕ). Merges f left right out (drop i left) (w ∷ drop (j + 1) right)) (sym same) at_right)
 
       -- the name of both comes out once

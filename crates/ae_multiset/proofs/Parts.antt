@@ -2,11 +2,10 @@
 use Rattle.std.proofs.Common.{◌≡◌, ◌≢◌, Bool, true, false, Decides, MatchBool, nat_eq, refl, ℕ, zero, suc, ◌+◌, ◌<◌, ◌≤◌, List, [], ◌∷◌, length, get_or, drop, inl, inr, ap, subst, sym, ◌∙◌, arith}
 use Rattle.std.proofs.lemmas.Bool.{cases_eq, false≢true}
 use Rattle.std.proofs.lemmas.Bool.Decides.{Decides-eqb}
-use Rattle.std.proofs.lemmas.List.{drop_all}
+use Rattle.std.proofs.lemmas.List.{drop_all, drop_more}
 use Rattle.ae_multiset.specs.Multisets.{count, IsPart}
 use Rattle.ae_multiset.proofs.Counts.{count_same, count_other}
 use Rattle.ae_multiset.proofs.Rising.{Rises}
-use Rattle.ae_base.proofs.ListFacts.{drop_here}
 use Rattle.ae_multiset.proofs.Merging.{none_from}
 
 pub drop_rises : (xs : List ℕ) (i : ℕ) → Rises xs → Rises (drop i xs)
@@ -27,7 +26,7 @@ split z x xs ys = omega arith
 
 module _ (small large : List ℕ) (i j : ℕ) (m : IsPartFrom small large i j) where
   here : (i_in : i < length small) → count (get_or small i 0) (drop i small) ≡ 1 + count (get_or small i 0) (drop (i + 1) small)
-  here i_in = ap (count (get_or small i 0)) (drop_here small i 0 i_in) ∙ count_same (get_or small i 0) (drop (i + 1) small)
+  here i_in = ap (count (get_or small i 0)) (drop_more small i 0 i_in) ∙ count_same (get_or small i 0) (drop (i + 1) small)
 
   -- a name that the whole lacks
   pub misses : Rises large → i < length small → j < length large → get_or small i 0 < get_or large j 0 → IsPart small large → ⊥
@@ -49,10 +48,10 @@ module _ (small large : List ℕ) (i j : ℕ) (m : IsPartFrom small large i j) w
   }
     where
       at_small : (z : ℕ) → count z (drop i small) ≡ count z (get_or small i 0 ∷ drop (i + 1) small)
-      at_small z = ap (count z) (drop_here small i 0 i_in)
+      at_small z = ap (count z) (drop_more small i 0 i_in)
 
       at_large : (z : ℕ) → count z (drop j large) ≡ count z (get_or small i 0 ∷ drop (j + 1) large)
-      at_large z = ap (count z) (subst (λ (w : ℕ). drop j large ≡ w ∷ drop (j + 1) large) (sym e) (drop_here large j 0 j_in))
+      at_large z = ap (count z) (subst (λ (w : ℕ). drop j large ≡ w ∷ drop (j + 1) large) (sym e) (drop_more large j 0 j_in))
 
   -- a name that the part lacks
   pub passes : Rises small → i < length small → j < length large → get_or large j 0 < get_or small i 0 → IsPartFrom small large i (j + 1)
@@ -64,7 +63,7 @@ module _ (small large : List ℕ) (i j : ℕ) (m : IsPartFrom small large i j) w
   }
     where
       at_large : (z : ℕ) → count z (drop j large) ≡ count z (get_or large j 0 ∷ drop (j + 1) large)
-      at_large z = ap (count z) (drop_here large j 0 j_in)
+      at_large z = ap (count z) (drop_more large j 0 j_in)
 
       heavier : (z : ℕ) → count z (drop (j + 1) large) ≤ count z (get_or large j 0 ∷ drop (j + 1) large)
       heavier z = omega arith

@@ -1,7 +1,8 @@
 -- One key of a list of parts, and the list without it.
 use Rattle.std.specs.Prelude.{ℕ, pos, ◌≡◌, ◌≢◌, ◌<◌, ◌+◌, Bool, true, false, cond, ◌||◌, nat_eq, List, [], ◌∷◌, ◌++◌, drop, length}
-use Rattle.std.proofs.Common.{refl, sym, ap, ◌∙◌, subst, append_assoc, get_or, drop-cons, add-one}
+use Rattle.std.proofs.Common.{refl, sym, ap, ◌∙◌, subst, append_assoc, get_or}
 use Rattle.std.proofs.lemmas.Bool.{eq-eqb, ne_eqb, eqb-true}
+use Rattle.std.proofs.lemmas.List.{drop_more}
 use Rattle.ae_num.specs.declared.forms.Part.{Part}
 use Rattle.ae_num.specs.Forms.{factor_of, AllAbove, IsRising, has_key, others}
 
@@ -16,32 +17,29 @@ pub ruleset others_push = (others_same, others_other)
 others-append : (p : Part) (ps : List Part) (key : ℕ) → others (p ∷ []) key ++ others ps key ≡ others (p ∷ ps) key
 others-append p ps key = elim (nat_eq p.key key) as (λ b. cond b [] (p ∷ []) ++ others ps key ≡ cond b (others ps key) (p ∷ others ps key)) [ true ↦ refl | false ↦ refl ]
 
-part_at : (ps : List Part) (i : ℕ) (d : Part) → i < length ps → drop i ps ≡ get_or ps i d ∷ drop (i + 1) ps
-part_at ps i d h = drop-cons ps i d h ∙ ap (λ k. get_or ps i d ∷ drop k ps) (sym (add-one i))
-
 pub others_step : (ps qs : List Part) (i : ℕ) (d : Part) (key : ℕ) (ys ys' W : List Part) → qs ≡ ps → i < length qs → ys' ≡ ys ++ others (get_or qs i d ∷ []) key
     → ys ++ others (drop i ps) key ≡ W → ys' ++ others (drop (i + 1) ps) key ≡ W
 others_step ps qs i d key ys ys' W same h e w =
     let p = get_or ps i d in
     let rest = others (drop (i + 1) ps) key in
     ap (λ t. t ++ rest) (e ∙ ap (λ t. ys ++ others (get_or t i d ∷ []) key) same) ∙ append_assoc ys (others (p ∷ []) key) rest
-    ∙ ap (λ t. ys ++ t) (others-append p (drop (i + 1) ps) key) ∙ ap (λ t. ys ++ others t key) (sym (part_at ps i d (subst (λ t. i < length t) same h))) ∙ w
+    ∙ ap (λ t. ys ++ t) (others-append p (drop (i + 1) ps) key) ∙ ap (λ t. ys ++ others t key) (sym (drop_more ps i d (subst (λ t. i < length t) same h))) ∙ w
 
 pub found_key : (ps : List Part) (i : ℕ) (d : Part) (key : ℕ) → i < length ps → (get_or ps i d).key ≡ key → has_key ps key ≡ has_key (drop i ps) key → has_key ps key ≡ true
 found_key ps i d key h e k =
-    k ∙ ap (λ t. has_key t key) (part_at ps i d h) ∙ ap (λ b. b || has_key (drop (i + 1) ps) key) (eq-eqb (get_or ps i d).key key e)
+    k ∙ ap (λ t. has_key t key) (drop_more ps i d h) ∙ ap (λ b. b || has_key (drop (i + 1) ps) key) (eq-eqb (get_or ps i d).key key e)
 
 pub found_factor : (ps : List Part) (i : ℕ) (d : Part) (key : ℕ) → i < length ps → (get_or ps i d).key ≡ key → factor_of ps key ≡ factor_of (drop i ps) key → (get_or ps i d).factor ≡ factor_of ps key
 found_factor ps i d key h e k =
-    sym (k ∙ ap (λ t. factor_of t key) (part_at ps i d h) ∙ ap (λ b. cond b (get_or ps i d).factor (factor_of (drop (i + 1) ps) key)) (eq-eqb (get_or ps i d).key key e))
+    sym (k ∙ ap (λ t. factor_of t key) (drop_more ps i d h) ∙ ap (λ b. cond b (get_or ps i d).factor (factor_of (drop (i + 1) ps) key)) (eq-eqb (get_or ps i d).key key e))
 
 pub next_key : (ps : List Part) (i : ℕ) (d : Part) (key : ℕ) → i < length ps → (get_or ps i d).key ≢ key → has_key ps key ≡ has_key (drop i ps) key → has_key ps key ≡ has_key (drop (i + 1) ps) key
 next_key ps i d key h n k =
-    k ∙ ap (λ t. has_key t key) (part_at ps i d h) ∙ ap (λ b. b || has_key (drop (i + 1) ps) key) (ne_eqb (get_or ps i d).key key n)
+    k ∙ ap (λ t. has_key t key) (drop_more ps i d h) ∙ ap (λ b. b || has_key (drop (i + 1) ps) key) (ne_eqb (get_or ps i d).key key n)
 
 pub next_factor : (ps : List Part) (i : ℕ) (d : Part) (key : ℕ) → i < length ps → (get_or ps i d).key ≢ key → factor_of ps key ≡ factor_of (drop i ps) key → factor_of ps key ≡ factor_of (drop (i + 1) ps) key
 next_factor ps i d key h n k =
-    k ∙ ap (λ t. factor_of t key) (part_at ps i d h) ∙ ap (λ b. cond b (get_or ps i d).factor (factor_of (drop (i + 1) ps) key)) (ne_eqb (get_or ps i d).key key n)
+    k ∙ ap (λ t. factor_of t key) (drop_more ps i d h) ∙ ap (λ b. cond b (get_or ps i d).factor (factor_of (drop (i + 1) ps) key)) (ne_eqb (get_or ps i d).key key n)
 
 -- ---- the list without a key
 above_others : (j : ℕ) (ps : List Part) (key : ℕ) → AllAbove j ps → AllAbove j (others ps key)

@@ -11,6 +11,7 @@ use Rattle.std.proofs.lemmas.Int.{to_z-of_z}
 use Rattle.std.proofs.lemmas.Nat.Gcd.{dvd_trans, dvd_refl}
 use mir.Syntax.{w128}
 use mir.Val.{SFits, of_z, to_z}
+use Rattle.std.proofs.lemmas.List.{drop_all}
 use Rattle.ae_num.specs.declared.forms.Part.{Part}
 use Rattle.ae_num.specs.Forms.{IsCommonDivisor}
 
@@ -47,12 +48,6 @@ pub common_next : (ps : List Part) (i : ℕ) (d : Part) (before after g : ℕ) �
 common_next ps i d before after g h x y =
     subst (λ ns. IsCommonDivisor (before ∷ ns) g) (sym (sizes_at ps i d h)) (common_step before (unsigned_abs (get_or ps i d).factor) after _ g x y)
 
-pub past_end : (ps : List Part) (i : ℕ) → length ps ≤ i → drop i ps ≡ []
-past_end [] zero h = refl
-past_end [] (suc i) h = refl
-past_end (p ∷ ps) zero h = absurd (omega arith)
-past_end (p ∷ ps) (suc i) h = past_end ps i (omega arith)
-
 -- ---- the same, for numbers that are read back from their bits
 pub small_read : (ps qs : List Part) (i : ℕ) (d : Part) → qs ≡ ps → i < length qs → AllSmall ps → unsigned_abs (to_z w128 (of_z w128 (get_or qs i d).factor)) < 2 ^ 127
 small_read ps qs i d e h a =
@@ -77,7 +72,7 @@ start_gcd den constant r ns g p q s x y =
     common_step (unsigned_abs den) (unsigned_abs constant) (unsigned_abs r) ns g moved (subst (λ k. IsCommonDivisor (k ∷ ns) g) (ap unsigned_abs (read_back r s)) y)
 
 pub all_read : (ps : List Part) (i n g : ℕ) → length ps ≤ i → n ≡ g → IsCommonDivisor (n ∷ map (λ p. unsigned_abs p.factor) (drop i ps)) g
-all_read ps i n g h e = subst (λ t. IsCommonDivisor (n ∷ map (λ p. unsigned_abs p.factor) t) g) (sym (past_end ps i h)) (subst (λ k. IsCommonDivisor (n ∷ []) k) e (common_one n))
+all_read ps i n g h e = subst (λ t. IsCommonDivisor (n ∷ map (λ p. unsigned_abs p.factor) t) g) (sym (drop_all i ps h)) (subst (λ k. IsCommonDivisor (n ∷ []) k) e (common_one n))
 
 -- ---- quotients
 quotient_fits : (x d : ℤ) → SFits w128 x → pos 0 <ℤ d → SFits w128 (int_div x d)

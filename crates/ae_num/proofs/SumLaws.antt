@@ -1,9 +1,10 @@
 -- The parts that are made of pairs: their steps, factors, order and size.
 use Rattle.std.specs.Prelude.{ℕ, ℤ, pos, ◌≡◌, ◌≢◌, ◌<◌, ◌^◌, Bool, true, false, cond, ◌||◌, nat_eq, nat_lt, List, [], ◌∷◌, ◌++◌, map, unsigned_abs, None, Some, drop, length}
 use Rattle.std.specs.List.{AllByRecursion}
-use Rattle.std.proofs.Common.{arith, refl, sym, ap, ◌∙◌, subst, append_assoc, ◌+◌, get_or, drop-cons, add-one}
+use Rattle.std.proofs.Common.{arith, refl, sym, ap, ◌∙◌, subst, append_assoc, ◌+◌, get_or}
 use Rattle.std.proofs.lemmas.Bool.Decides.{nat_tests}
 use lib.IntN.{ℤ_discrete}
+use Rattle.std.proofs.lemmas.List.{drop_more}
 use Rattle.ae_base.specs.Decided.{pick}
 use Rattle.ae_base.proofs.Decided.{pick_yes, pick_no}
 use Rattle.std.proofs.lemmas.Bool.{eqb-true, ltb-true}
@@ -191,9 +192,6 @@ module _ (f : ℤ → ℤ → ℤ) (P Q : List Part) where
 kept-append : (p : Part) (ps : List Part) → kept p [] ++ ps ≡ kept p ps
 kept-append p ps = elim (ℤ_discrete p.factor (pos 0)) as (λ d. pick d [] (p ∷ []) ++ ps ≡ pick d ps (p ∷ ps)) [ yes e ↦ refl | no n ↦ refl ]
 
-pub drop_at : (xs : List Pair) (i : ℕ) (d : Pair) → i < length xs → drop i xs ≡ get_or xs i d ∷ drop (i + 1) xs
-drop_at xs i d h = drop-cons xs i d h ∙ ap (λ k. get_or xs i d ∷ drop k xs) (sym (add-one i))
-
 part_of : ℤ → Pair → Part
 part_of z r = record { key = r.key; factor = z }
 
@@ -205,14 +203,14 @@ combined_step m xs i d ps ps' W z h e q w =
     let rest = combined (outcome_of m) (drop (i + 1) xs) in
     let p : Part = record { key = r.key; factor = z } in
     ap (λ t. t ++ rest) q ∙ append_assoc ps (kept p []) rest ∙ ap (λ t. ps ++ t) (kept-append p rest)
-    ∙ ap (λ y. ps ++ kept (record { key = r.key; factor = y }) rest) e ∙ ap (λ t. ps ++ combined (outcome_of m) t) (sym (drop_at xs i d h)) ∙ w
+    ∙ ap (λ y. ps ++ kept (record { key = r.key; factor = y }) rest) e ∙ ap (λ t. ps ++ combined (outcome_of m) t) (sym (drop_more xs i d h)) ∙ w
 
 pub steps_step : (m : Combination) (xs : List Pair) (i : ℕ) (d : Pair) → i < length xs → first_wide (steps_of m (get_or xs i d).left (get_or xs i d).right) ≡ None
     → first_wide (all_steps m xs) ≡ first_wide (all_steps m (drop i xs)) → first_wide (all_steps m xs) ≡ first_wide (all_steps m (drop (i + 1) xs))
 steps_step m xs i d h n e =
-    e ∙ ap (λ t. first_wide (all_steps m t)) (drop_at xs i d h) ∙ first_wide-none (steps_of m (get_or xs i d).left (get_or xs i d).right) (all_steps m (drop (i + 1) xs)) n
+    e ∙ ap (λ t. first_wide (all_steps m t)) (drop_more xs i d h) ∙ first_wide-none (steps_of m (get_or xs i d).left (get_or xs i d).right) (all_steps m (drop (i + 1) xs)) n
 
 pub steps_stop : (m : Combination) (xs : List Pair) (i : ℕ) (d : Pair) (w : Wide) → i < length xs → first_wide (steps_of m (get_or xs i d).left (get_or xs i d).right) ≡ Some w
     → first_wide (all_steps m xs) ≡ first_wide (all_steps m (drop i xs)) → first_wide (all_steps m xs) ≡ Some w
 steps_stop m xs i d w h n e =
-    e ∙ ap (λ t. first_wide (all_steps m t)) (drop_at xs i d h) ∙ first_wide-some (steps_of m (get_or xs i d).left (get_or xs i d).right) (all_steps m (drop (i + 1) xs)) w n
+    e ∙ ap (λ t. first_wide (all_steps m t)) (drop_more xs i d h) ∙ first_wide-some (steps_of m (get_or xs i d).left (get_or xs i d).right) (all_steps m (drop (i + 1) xs)) w n

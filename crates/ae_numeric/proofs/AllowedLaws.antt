@@ -5,8 +5,8 @@ use Rattle.std.proofs.Common.{refl, sym, ap, ◌∙◌, true≢false, inl, inr, 
 use Rattle.std.proofs.lemmas.Bool.{and_parts}
 use Rattle.std.proofs.lemmas.Bool.Decides.{nat_tests}
 use borrow.Author.Differences.{ints}
-use Rattle.ae_core.specs.Sorts.{◌>>=◌}
-use Rattle.ae_core.specs.Lines.{Fact, equal, at_most, below, states, Combined, IsEqual, MayCount, SomeBelow, AllowedLin, AllowedLeSum, AllowedLtSum}
+use Rattle.ae_base.specs.Options.{◌>>=◌}
+use Rattle.ae_rules.specs.Lines.{Fact, equal, at_most, below, states, Combined, IsEqual, MayCount, SomeBelow, AllowedLin, AllowedLeSum, AllowedLtSum}
 use Rattle.ae_core.specs.declared.terms.Term.{Term}
 use Rattle.ae_core.specs.declared.problems.Signature.{Signature}
 use Rattle.ae_core.specs.declared.proofs.EqLine.{EqLine}
@@ -14,7 +14,7 @@ use Rattle.ae_core.specs.declared.proofs.Scaled.{Scaled}
 use Rattle.ae_core.specs.declared.proofs.Relation.{Relation}
 use Rattle.ae_core.specs.declared.proofs.Relation.TheVariants.{Equal, AtMost, Below}
 use Rattle.ae_numeric.specs.Stated.{is_equation}
-use Rattle.ae_numeric.specs.Sums.{may_join, IsSum, may_count, is_strict, is_strict_part}
+use Rattle.ae_numeric.specs.Inner.Sums.{may_join, IsSum, may_count, is_strict, is_strict_part}
 use Rattle.ae_numeric.proofs.FitLaws.{stated_line, and_true}
 
 each_map : {X : Type 0} (P Q : X → Type 0) (xs : List X) → ((x : X) → P x → Q x) → AllByRecursion P xs → AllByRecursion Q xs

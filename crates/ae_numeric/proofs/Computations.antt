@@ -8,7 +8,7 @@ use Rattle.ae_num.specs.declared.numbers.NumFail.{NumFail}
 use Rattle.ae_num.specs.declared.numbers.NumFail.TheVariants.{Wide as WideFail, Memory}
 use Rattle.ae_num.specs.Forms.{Step, first_wide, IfWide, plus_steps, scale_steps, sum_of, multiple_of}
 use Rattle.ae_num.proofs.StepLaws.{first_wide-none, first_wide-some}
-use Rattle.ae_core.specs.Lines.{Fact}
+use Rattle.ae_rules.specs.Lines.{Fact}
 use Rattle.ae_core.specs.declared.terms.Term.{Term}
 use Rattle.ae_numeric.specs.Stated.{Computation, Computed, known, added, scaled, added_up}
 use Rattle.ae_numeric.specs.Computing.{IsResult, IsWideIn}

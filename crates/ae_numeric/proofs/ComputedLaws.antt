@@ -11,7 +11,7 @@ use Rattle.ae_num.proofs.StepLaws.{first_wide-some, first_wide-none}
 use Rattle.ae_core.specs.declared.terms.Term.{Term}
 use Rattle.ae_numeric.specs.Stated.{Computation, Computed, known, scaled}
 use Rattle.ae_numeric.specs.Computing.{IsResult, IsWideIn}
-use Rattle.ae_numeric.specs.Rules.{joined, AreResults}
+use Rattle.ae_numeric.specs.Inner.Rules.{joined, AreResults}
 use Rattle.ae_numeric.specs.declared.forms.Operation.{Operation}
 use Rattle.ae_numeric.specs.declared.forms.Operation.TheVariants.{Sum, Difference, Product}
 

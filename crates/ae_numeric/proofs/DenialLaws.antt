@@ -1,5 +1,5 @@
 -- Where a form is a number that a relation denies.
-use Rattle.std.specs.Prelude.{ℕ, zero, suc, ℤ, pos, negsuc, neg_ℤ, ◌<ℤ◌, ◌≡◌, ◌≢◌, ◌↔◌, ◌&&◌, slice_get, Some, Bool, IsTrue, true, false, not, cond, nat_lt, int_lt, List, [], ◌∷◌}
+use Rattle.std.specs.Prelude.{ℕ, zero, suc, ℤ, pos, negsuc, neg_ℤ, ◌<ℤ◌, ◌≡◌, ◌≢◌, ◌↔◌, ◌&&◌, slice_get, Some, Ok, Bool, IsTrue, true, false, not, cond, nat_lt, int_lt, List, [], ◌∷◌}
 use Rattle.std.specs.Ordering.{int_eq, is_eq}
 use Rattle.std.specs.declared.cmp.Ordering.TheVariants.{Less, Greater, Equal as Same}
 use Rattle.std.proofs.Common.{refl, sym, ap, ◌∙◌, subst, true≢false, arith}
@@ -10,24 +10,27 @@ use Rattle.ae_math.specs.Fractions.{zero_ℚ, neg_ℚ, ◌*ℚ◌, frac, ratio, 
 use Rattle.ae_math.specs.Forms.{minus}
 use Rattle.ae_math.proofs.FractionLaws.{frac_same, mul_zero_q}
 use Rattle.ae_math.proofs.FormLaws.{factor_in-scale}
+use Rattle.std.specs.declared.result.Result.{Result}
+use Rattle.ae_num.specs.declared.numbers.NumFail.{NumFail}
 use Rattle.ae_num.specs.declared.forms.Part.{Part}
 use Rattle.ae_num.specs.declared.forms.Lin.{Lin}
 use Rattle.ae_core.specs.Decided.{Term_discrete}
-use Rattle.ae_core.specs.Linear.{Linear, form}
-use Rattle.ae_core.specs.Derivations.{IsConstant}
-use Rattle.ae_core.specs.Sorts.{sort_of, same_numeric, ◌>>=◌}
-use Rattle.ae_core.specs.Lines.{Fact, equal, states, Stated, AreNumbers}
+use Rattle.ae_rules.specs.Linear.{Linear, form}
+use Rattle.ae_rules.specs.Derivations.{IsNumber}
+use Rattle.ae_core.specs.Sorts.{sort_of, same_numeric}
+use Rattle.ae_base.specs.Options.{◌>>=◌}
+use Rattle.ae_rules.specs.Lines.{Fact, equal, states, Stated, AreNumbers}
 use Rattle.ae_core.specs.declared.problems.Signature.{Signature}
 use Rattle.ae_core.specs.declared.proofs.EqLine.{EqLine}
-use Rattle.ae_core.specs.declared.proofs.Ending.TheVariants as ending
-use Rattle.ae_numeric.specs.Stated.{of_one_sort, steps_where, ending_steps, is_equation, is_inequality, forward, backward}
+use Rattle.ae_numeric.specs.Stated.{of_one_sort}
 use Rattle.std.proofs.lemmas.Option.{same_Some}
 use Rattle.ae_core.specs.declared.terms.Term.{Term}
 use Rattle.ae_core.specs.declared.proofs.Relation.{Relation}
 use Rattle.ae_core.specs.declared.proofs.Relation.TheVariants.{Equal, AtMost, Below}
 use Rattle.ae_numeric.specs.Computing.{IsFormOf, IsSorted}
-use Rattle.ae_numeric.specs.Sums.{meant, summed}
-use Rattle.ae_numeric.specs.Denials.{denies, Denies, IsDenied, denied_steps}
+use Rattle.ae_numeric.specs.Inner.Sums.{meant, summed}
+use Rattle.ae_numeric.specs.Inner.Denials.{denies, Denies, IsDenied, denied_steps}
+use Rattle.ae_num.proofs.Checks.{StepChecks, states_no, states_like}
 use Rattle.ae_numeric.proofs.Meanings.{ratio_is_zero, no_parts_constant, part_occurs}
 use Rattle.ae_numeric.proofs.FitLaws.{Minus, minus_turned, one_sort, of_sort, sorted_of, and_true}
 
@@ -89,16 +92,16 @@ number_test Below z (pos (suc n)) p =
     (λ e. is ∙ not_true (int_lt (pos 0) z) e, λ h. not_of (int_lt (pos 0) z) (sym is ∙ h))
 
 -- ---- left minus right, and right minus left
-constant_turned : (s t : Linear) → IsConstant (minus s t) → IsConstant (minus t s)
+constant_turned : (s t : Linear) → IsNumber (minus s t) → IsNumber (minus t s)
 constant_turned s t h u = (minus_turned t s).factors u ∙ factor_in-scale Term_discrete Minus (minus s t).parts u ∙ ap (λ x. Minus *ℚ x) (h u) ∙ mul_zero_q Minus
 
 zero_turned : (s t : Linear) → (minus s t).constant ≡ zero_ℚ → (minus t s).constant ≡ zero_ℚ
 zero_turned s t e = (minus_turned t s).constants ∙ ap (λ x. Minus *ℚ x) e ∙ mul_zero_q Minus
 
 abbrev IsGapDenied : Relation → Term → Term → Type 0
-IsGapDenied r s t = IsConstant (minus (form t) (form s)) × Denies r (minus (form t) (form s)).constant
+IsGapDenied r s t = IsNumber (minus (form t) (form s)) × Denies r (minus (form t) (form s)).constant
 
-turned_denial : (r : Relation) (s t : Term) → (IsConstant (meant r s t) × Denies r (meant r s t).constant) ↔ IsGapDenied r s t
+turned_denial : (r : Relation) (s t : Term) → (IsNumber (meant r s t) × Denies r (meant r s t).constant) ↔ IsGapDenied r s t
 turned_denial AtMost s t = (λ h. h, λ h. h)
 turned_denial Below s t = (λ h. h, λ h. h)
 turned_denial Equal s t = (
@@ -107,7 +110,7 @@ turned_denial Equal s t = (
 )
 
 -- ---- a form that is a number
-parts_none : (ks : List Term) (f : Lin) (a : Linear) → IsFormOf ks f a → IsConstant a → f.parts ≡ []
+parts_none : (ks : List Term) (f : Lin) (a : Linear) → IsFormOf ks f a → IsNumber a → f.parts ≡ []
 parts_none ks f a p h = by_parts f.parts refl
   where
     by_parts : (ps : List Part) → f.parts ≡ ps → ps ≡ []
@@ -131,22 +134,19 @@ known_parts sig s t e =
     (and_true (and_true e itself) e, sorted_of sig s o.0 o.2, sorted_of sig t o.0 o.3, (o.0, o.1, (o.2, o.3)))
 
 module _ (sig : Signature) (f : Fact) where
-  pub numbers_left : same_numeric (sort_of sig f.left) (sort_of sig f.right) ≡ true → IsSorted f.left
-  numbers_left e = (known_parts sig f.left f.right e).1
+  pub numbers_sorted : same_numeric (sort_of sig f.left) (sort_of sig f.right) ≡ true → record { left : IsSorted f.left; right : IsSorted f.right }
+  numbers_sorted e = let k = known_parts sig f.left f.right e in record { left = k.1; right = k.2 }
 
-  pub numbers_right : same_numeric (sort_of sig f.left) (sort_of sig f.right) ≡ true → IsSorted f.right
-  numbers_right e = (known_parts sig f.left f.right e).2
-
-  pub numbers_known : same_numeric (sort_of sig f.left) (sort_of sig f.right) ≡ true → AreNumbers sig f
+  numbers_known : same_numeric (sort_of sig f.left) (sort_of sig f.right) ≡ true → AreNumbers sig f
   numbers_known e = (known_parts sig f.left f.right e).3
 
-  pub numbers_test : AreNumbers sig f → same_numeric (sort_of sig f.left) (sort_of sig f.right) ≡ true
+  numbers_test : AreNumbers sig f → same_numeric (sort_of sig f.left) (sort_of sig f.right) ≡ true
   numbers_test (s, n, h) = of_sort (sort_of sig f.left) (sort_of sig f.right) s n h.0 h.1
 
-  pub numbers_steps : same_numeric (sort_of sig f.left) (sort_of sig f.right) ≡ true → denied_steps sig f ≡ ((summed f.relation f []).steps)
+  numbers_steps : same_numeric (sort_of sig f.left) (sort_of sig f.right) ≡ true → denied_steps sig f ≡ ((summed f.relation f []).steps)
   numbers_steps e = ap (λ b. cond b ((summed f.relation f []).steps) []) (known_parts sig f.left f.right e).0
 
-  pub no_numbers_steps : same_numeric (sort_of sig f.left) (sort_of sig f.right) ≡ false → denied_steps sig f ≡ []
+  no_numbers_steps : same_numeric (sort_of sig f.left) (sort_of sig f.right) ≡ false → denied_steps sig f ≡ []
   no_numbers_steps e = ap (λ b. cond (b && same_numeric (sort_of sig f.left) (sort_of sig f.left) && b) ((summed f.relation f []).steps) []) e
 
 -- ---- endings
@@ -157,21 +157,17 @@ module _ (sig : Signature) (lines : List EqLine) (k : ℕ) (l : EqLine) (at : sl
   pub same_fact : (f : Fact) → Stated lines k f → states l ≡ f
   same_fact f s = same_Some (states l) f (sym stated_at ∙ s)
 
-  pub const_steps : ending_steps sig lines (ending.Const k) ≡ cond (is_equation (states l) && of_one_sort sig (states l) (states l)) ((forward (states l) []).steps) []
-  const_steps = ap (λ o. steps_where (o >>= λ l. Some (states l)) (λ f. is_equation f && of_one_sort sig f f) (λ f. (forward f []).steps)) at
+-- the check of a line, from the facts that the code knows of it
+module _ (sig : Signature) (f g : Fact) (e : f ≡ g) where
+  abbrev LineChecks : Result Bool NumFail → Type 0
+  LineChecks = StepChecks (AreNumbers sig f × IsDenied f) (denied_steps sig f)
 
-  pub zero_steps : ending_steps sig lines (ending.Zero k) ≡ cond (is_inequality (states l) && of_one_sort sig (states l) (states l)) ((backward (states l) []).steps) []
-  zero_steps = ap (λ o. steps_where (o >>= λ l. Some (states l)) (λ f. is_inequality f && of_one_sort sig f f) (λ f. (backward f []).steps)) at
+  pub line_not : same_numeric (sort_of sig g.left) (sort_of sig g.right) ≡ false → LineChecks (Ok false)
+  line_not same =
+      states_no (AreNumbers sig f × IsDenied f) (denied_steps sig f) (λ n. true≢false (sym (numbers_test sig g (subst (AreNumbers sig) e n.0)) ∙ same))
+      (ap (denied_steps sig) e ∙ no_numbers_steps sig g same)
 
-pub line_exact : (sig : Signature) (f g : Fact) (b : Bool) → f ≡ g → same_numeric (sort_of sig g.left) (sort_of sig g.right) ≡ true → IsTrue b ↔ IsDenied g → IsTrue b ↔ (AreNumbers sig f × IsDenied f)
-line_exact sig f g b e same h =
-    subst (λ f. IsTrue b ↔ (AreNumbers sig f × IsDenied f)) (sym e) (λ t. (numbers_known sig g same, h.0 t), λ n. h.1 n.1)
-
-pub line_not : (sig : Signature) (f g : Fact) → f ≡ g → same_numeric (sort_of sig g.left) (sort_of sig g.right) ≡ false → ¬ (AreNumbers sig f × IsDenied f)
-line_not sig f g e same n = true≢false (sym (numbers_test sig g (subst (AreNumbers sig) e n.0)) ∙ same)
-
-pub line_steps_are : (sig : Signature) (f g : Fact) → f ≡ g → same_numeric (sort_of sig g.left) (sort_of sig g.right) ≡ true → denied_steps sig f ≡ ((summed g.relation g []).steps)
-line_steps_are sig f g e same = ap (denied_steps sig) e ∙ numbers_steps sig g same
-
-pub line_no_steps : (sig : Signature) (f g : Fact) → f ≡ g → same_numeric (sort_of sig g.left) (sort_of sig g.right) ≡ false → denied_steps sig f ≡ []
-line_no_steps sig f g e same = ap (denied_steps sig) e ∙ no_numbers_steps sig g same
+  pub line_is : (r : Result Bool NumFail) → same_numeric (sort_of sig g.left) (sort_of sig g.right) ≡ true → StepChecks (IsDenied g) ((summed g.relation g []).steps) r → LineChecks r
+  line_is r same =
+      states_like (IsDenied g) ((summed g.relation g []).steps) (AreNumbers sig f × IsDenied f) (denied_steps sig f) r
+      (λ d. (subst (AreNumbers sig) (sym e) (numbers_known sig g same), subst IsDenied (sym e) d)) (λ n. subst IsDenied e n.1) (ap (denied_steps sig) e ∙ numbers_steps sig g same)

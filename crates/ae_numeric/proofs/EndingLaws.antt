@@ -1,20 +1,24 @@
 -- The endings that look at one difference.
-use Rattle.std.specs.Prelude.{ℕ, ◌≡◌, ◌↔◌, ◌&&◌, slice_get, Option, Some, None, Bool, IsTrue, true, false, cond, List, []}
+use Rattle.std.specs.Prelude.{ℕ, ◌≡◌, ◌&&◌, slice_get, Option, Some, None, Ok, Bool, true, false, cond, List, []}
 use Rattle.std.proofs.Common.{refl, sym, ap, ◌∙◌, subst, true≢false}
 use Rattle.ae_math.specs.Fractions.{ℚ}
-use Rattle.ae_core.specs.Sorts.{◌>>=◌}
-use Rattle.ae_core.specs.Lines.{Fact, equal, states, gap, Stated, AreNumbers}
-use Rattle.ae_core.specs.Derivations.{CannotHold, EndsConst, EndsZero}
+use Rattle.ae_base.specs.Options.{◌>>=◌, when}
+use Rattle.ae_num.specs.Forms.{Step}
+use Rattle.ae_num.specs.declared.numbers.NumFail.{NumFail}
+use Rattle.std.specs.declared.result.Result.{Result}
+use Rattle.ae_rules.specs.Lines.{Fact, equal, states, gap, Stated, AreNumbers}
+use Rattle.ae_rules.specs.Derivations.{CannotHold, EndsConst, EndsZero}
 use Rattle.ae_core.specs.declared.terms.Term.{Term}
 use Rattle.ae_core.specs.declared.problems.Signature.{Signature}
 use Rattle.ae_core.specs.declared.proofs.EqLine.{EqLine}
 use Rattle.ae_core.specs.declared.proofs.Relation.{Relation}
 use Rattle.ae_core.specs.declared.proofs.Relation.TheVariants.{Equal, AtMost, Below}
 use Rattle.ae_core.specs.declared.proofs.Ending.TheVariants as ending
-use Rattle.ae_numeric.specs.Stated.{Computation, computed, subtracted, steps_where, of_one_sort, ending_steps, is_equation, is_inequality, forward, backward}
-use Rattle.ae_numeric.specs.Sums.{difference_of, summed}
-use Rattle.ae_numeric.specs.Denials.{Denies, IsDenied, denied_steps}
-use Rattle.ae_numeric.proofs.DenialLaws.{stated_at, same_fact, const_steps, zero_steps}
+use Rattle.ae_numeric.specs.Stated.{Computation, computed, subtracted, steps_of, numeric_fact, of_one_sort, ending_steps, is_equation, is_inequality, forward, backward}
+use Rattle.ae_numeric.specs.Inner.Sums.{difference_of, summed}
+use Rattle.ae_numeric.specs.Inner.Denials.{Denies, IsDenied, denied_steps}
+use Rattle.ae_numeric.proofs.DenialLaws.{stated_at, same_fact}
+use Rattle.ae_num.proofs.Checks.{StepChecks, states_no, states_like}
 
 abbrev Of : Relation → Term → Term → Fact
 Of r s t = record { relation = r; left = s; right = t }
@@ -49,63 +53,84 @@ from_cannot Equal x c = absurd c
 from_cannot AtMost x c = c
 from_cannot Below x c = c
 
+-- ---- the checks of the endings by one difference
+abbrev ConstEnds : Signature → List EqLine → ℕ → Result Bool NumFail → Type 0
+ConstEnds sig lines k = StepChecks (EndsConst sig lines k) (ending_steps sig lines (ending.Const k))
+
+abbrev ZeroEnds : Signature → List EqLine → ℕ → Result Bool NumFail → Type 0
+ZeroEnds sig lines k = StepChecks (EndsZero sig lines k) (ending_steps sig lines (ending.Zero k))
+
 module _ (sig : Signature) (lines : List EqLine) (k : ℕ) (l : EqLine) (at : slice_get lines k ≡ Some l) where
   abbrev S : Fact
   S = states l
 
-  pub const_exact : (b : Bool) → is_equation S ≡ true → IsTrue b ↔ (AreNumbers sig S × IsDenied S) → IsTrue b ↔ EndsConst sig lines k
-  const_exact b e h = (there, back)
+  -- the check of the line's difference
+  abbrev Denied : Result Bool NumFail → Type 0
+  Denied = StepChecks (AreNumbers sig S × IsDenied S) (denied_steps sig S)
+
+  as_stated : (f : Fact) → Stated lines k f → f ≡ S
+  as_stated f st = sym (same_fact sig lines k l at f st)
+
+  -- what the ending states of the line
+  states_at : (kind : Fact → Bool) (steps : Fact → List Step) → steps_of (numeric_fact sig lines kind k) steps ≡ steps_of (when (kind S && of_one_sort sig S S) S) steps
+  states_at kind steps = ap (λ o. steps_of ((o >>= λ l. Some (states l)) >>= λ f. when (kind f && of_one_sort sig f f) f) steps) at
+
+  when_steps : (b : Bool) (steps : Fact → List Step) → steps_of (when b S) steps ≡ cond b (steps S) []
+  when_steps true steps = refl
+  when_steps false steps = refl
+
+  pub const_not : is_equation S ≡ false → ConstEnds sig lines k (Ok false)
+  const_not e =
+      states_no (EndsConst sig lines k) (ending_steps sig lines (ending.Const k))
+      (λ n. true≢false (ap is_equation (as_stated (equal n.0 n.1) n.2) ∙ e))
+      (states_at is_equation (λ f. (forward f []).steps) ∙ ap (λ b. steps_of (when (b && of_one_sort sig S S) S) (λ f. (forward f []).steps)) e)
+
+  pub const_denied : (r : Result Bool NumFail) → is_equation S ≡ true → Denied r → ConstEnds sig lines k r
+  const_denied r e = states_like (AreNumbers sig S × IsDenied S) (denied_steps sig S) (EndsConst sig lines k) (ending_steps sig lines (ending.Const k)) r there back steps
     where
       p : S ≡ equal S.left S.right
       p = λ i. record { relation = relation_is S.relation S.left S.right e i; left = S.left; right = S.right }
 
-      there : IsTrue b → EndsConst sig lines k
-      there t =
-          let n = subst (AreNumbers sig) p (h.0 t).0 in
-          let d = subst IsDenied p (h.0 t).1 in
+      there : AreNumbers sig S × IsDenied S → EndsConst sig lines k
+      there h =
+          let n = subst (AreNumbers sig) p h.0 in
+          let d = subst IsDenied p h.1 in
           (S.left, S.right, stated_at sig lines k l at ∙ ap Some p, n, d.0, d.1)
 
-      back : EndsConst sig lines k → IsTrue b
+      back : EndsConst sig lines k → AreNumbers sig S × IsDenied S
       back (s, t, st, n, c, z) =
-          let q = sym (same_fact sig lines k l at (equal s t) st) in
-          h.1 (subst (AreNumbers sig) q n, subst IsDenied q (c, z))
+          let q = as_stated (equal s t) st in
+          (subst (AreNumbers sig) q n, subst IsDenied q (c, z))
 
-  pub const_not : is_equation S ≡ false → ¬ (EndsConst sig lines k)
-  const_not e (s, t, st, n, c, z) = true≢false (sym (ap is_equation (same_fact sig lines k l at (equal s t) st)) ∙ e)
+      steps : ending_steps sig lines (ending.Const k) ≡ denied_steps sig S
+      steps =
+          states_at is_equation (λ f. (forward f []).steps) ∙ ap (λ b. steps_of (when (b && of_one_sort sig S S) S) (λ f. (forward f []).steps)) e
+          ∙ when_steps (of_one_sort sig S S) (λ f. (forward f []).steps)
+          ∙ ap (λ r. cond (of_one_sort sig S S) ((summed r S []).steps) []) (sym (relation_is S.relation S.left S.right e))
 
-  pub const_steps_are : is_equation S ≡ true → ending_steps sig lines (ending.Const k) ≡ denied_steps sig S
-  const_steps_are e =
-      const_steps sig lines k l at ∙ ap (λ b. cond (b && of_one_sort sig S S) ((forward S []).steps) []) e
-      ∙ ap (λ r. cond (of_one_sort sig S S) ((summed r S []).steps) []) (sym (relation_is S.relation S.left S.right e))
+  pub zero_not : is_equation S ≡ true → ZeroEnds sig lines k (Ok false)
+  zero_not e =
+      states_no (EndsZero sig lines k) (ending_steps sig lines (ending.Zero k))
+      (λ n. let q : (n.0).relation ≡ Equal = ap (λ (f : Fact). f.relation) (as_stated n.0 n.1) ∙ relation_is S.relation S.left S.right e in subst (λ r. CannotHold r (gap n.0).constant) q n.4)
+      (states_at is_inequality (λ f. (backward f []).steps) ∙ ap (λ b. steps_of (when (b && of_one_sort sig S S) S) (λ f. (backward f []).steps)) (no_inequality S.relation S.left S.right e))
 
-  pub const_no_steps : is_equation S ≡ false → ending_steps sig lines (ending.Const k) ≡ []
-  const_no_steps e = const_steps sig lines k l at ∙ ap (λ b. cond (b && of_one_sort sig S S) ((forward S []).steps) []) e
-
-  pub zero_exact : (b : Bool) → is_equation S ≡ false → IsTrue b ↔ (AreNumbers sig S × IsDenied S) → IsTrue b ↔ EndsZero sig lines k
-  zero_exact b e h = (there, back)
+  pub zero_denied : (r : Result Bool NumFail) → is_equation S ≡ false → Denied r → ZeroEnds sig lines k r
+  zero_denied r e = states_like (AreNumbers sig S × IsDenied S) (denied_steps sig S) (EndsZero sig lines k) (ending_steps sig lines (ending.Zero k)) r there back steps
     where
-      there : IsTrue b → EndsZero sig lines k
-      there t =
-          let d = (h.0 t).1 in
-          (S, stated_at sig lines k l at, (h.0 t).0, d.0, to_cannot S.relation S.left S.right (gap S).constant e d.1)
+      there : AreNumbers sig S × IsDenied S → EndsZero sig lines k
+      there h = (S, stated_at sig lines k l at, h.0, (h.1).0, to_cannot S.relation S.left S.right (gap S).constant e (h.1).1)
 
-      back : EndsZero sig lines k → IsTrue b
+      back : EndsZero sig lines k → AreNumbers sig S × IsDenied S
       back (f, st, n, c, x) =
-          let q = sym (same_fact sig lines k l at f st) in
-          h.1 (subst (AreNumbers sig) q n, subst IsDenied q (c, from_cannot f.relation (gap f).constant x))
+          let q = as_stated f st in
+          (subst (AreNumbers sig) q n, subst IsDenied q (c, from_cannot f.relation (gap f).constant x))
 
-  pub zero_not : is_equation S ≡ true → ¬ (EndsZero sig lines k)
-  zero_not e (f, st, n, c, x) =
-      let q : f.relation ≡ Equal = ap (λ (f : Fact). f.relation) (sym (same_fact sig lines k l at f st)) ∙ relation_is S.relation S.left S.right e in
-      subst (λ r. CannotHold r (gap f).constant) q x
-
-  pub zero_steps_are : is_equation S ≡ false → ending_steps sig lines (ending.Zero k) ≡ denied_steps sig S
-  zero_steps_are e =
-      zero_steps sig lines k l at ∙ ap (λ b. cond (b && of_one_sort sig S S) ((backward S []).steps) []) (inequality_of S.relation S.left S.right e)
-      ∙ ap (λ (c : Computation). cond (of_one_sort sig S S) ((c []).steps) []) (backward_of S.relation S.left S.right e)
-
-  pub zero_no_steps : is_equation S ≡ true → ending_steps sig lines (ending.Zero k) ≡ []
-  zero_no_steps e = zero_steps sig lines k l at ∙ ap (λ b. cond (b && of_one_sort sig S S) ((backward S []).steps) []) (no_inequality S.relation S.left S.right e)
+      steps : ending_steps sig lines (ending.Zero k) ≡ denied_steps sig S
+      steps =
+          states_at is_inequality (λ f. (backward f []).steps)
+          ∙ ap (λ b. steps_of (when (b && of_one_sort sig S S) S) (λ f. (backward f []).steps)) (inequality_of S.relation S.left S.right e)
+          ∙ when_steps (of_one_sort sig S S) (λ f. (backward f []).steps)
+          ∙ ap (λ (c : Computation). cond (of_one_sort sig S S) ((c []).steps) []) (backward_of S.relation S.left S.right e)
 
 -- ---- where there is no such line
 none_fact : (f : Fact) → ◌≡◌ {A = Option Fact} None (Some f) → ⊥
@@ -114,14 +139,15 @@ none_fact f e = cc
 not_stated : (lines : List EqLine) (k : ℕ) (f : Fact) → slice_get lines k ≡ None → Stated lines k f → ⊥
 not_stated lines k f at st = none_fact f (sym (ap (λ o. o >>= λ l. Some (states l)) at) ∙ st)
 
-pub const_missing : (sig : Signature) (lines : List EqLine) (k : ℕ) → slice_get lines k ≡ None → ¬ (EndsConst sig lines k)
-const_missing sig lines k at (s, t, st, n, c, z) = not_stated lines k (equal s t) at st
+nothing_at : (sig : Signature) (lines : List EqLine) (kind : Fact → Bool) (k : ℕ) (steps : Fact → List Step) → slice_get lines k ≡ None → steps_of (numeric_fact sig lines kind k) steps ≡ []
+nothing_at sig lines kind k steps at = ap (λ o. steps_of ((o >>= λ l. Some (states l)) >>= λ f. when (kind f && of_one_sort sig f f) f) steps) at
 
-pub zero_missing : (sig : Signature) (lines : List EqLine) (k : ℕ) → slice_get lines k ≡ None → ¬ (EndsZero sig lines k)
-zero_missing sig lines k at (f, st, n, c, x) = not_stated lines k f at st
+pub const_missing : (sig : Signature) (lines : List EqLine) (k : ℕ) → slice_get lines k ≡ None → ConstEnds sig lines k (Ok false)
+const_missing sig lines k at =
+    states_no (EndsConst sig lines k) (ending_steps sig lines (ending.Const k)) (λ n. not_stated lines k (equal n.0 n.1) at n.2)
+    (nothing_at sig lines is_equation k (λ f. (forward f []).steps) at)
 
-pub const_missing_steps : (sig : Signature) (lines : List EqLine) (k : ℕ) → slice_get lines k ≡ None → ending_steps sig lines (ending.Const k) ≡ []
-const_missing_steps sig lines k at = ap (λ o. steps_where (o >>= λ l. Some (states l)) (λ f. is_equation f && of_one_sort sig f f) (λ f. (forward f []).steps)) at
-
-pub zero_missing_steps : (sig : Signature) (lines : List EqLine) (k : ℕ) → slice_get lines k ≡ None → ending_steps sig lines (ending.Zero k) ≡ []
-zero_missing_steps sig lines k at = ap (λ o. steps_where (o >>= λ l. Some (states l)) (λ f. is_inequality f && of_one_sort sig f f) (λ f. (backward f []).steps)) at
+pub zero_missing : (sig : Signature) (lines : List EqLine) (k : ℕ) → slice_get lines k ≡ None → ZeroEnds sig lines k (Ok false)
+zero_missing sig lines k at =
+    states_no (EndsZero sig lines k) (ending_steps sig lines (ending.Zero k)) (λ n. not_stated lines k n.0 at n.1)
+    (nothing_at sig lines is_inequality k (λ f. (backward f []).steps) at)

@@ -1,17 +1,19 @@
 -- Which lines a sum may name, and what it states and means where they fit.
-use Rattle.std.specs.Prelude.{ℤ, Bool, true, false, cond, ◌&&◌, ◌||◌, ◌≡◌, ◌↔◌, List, [], ◌∷◌, map, slice_get, Option, Some, None}
+use Rattle.std.specs.Prelude.{ℤ, Bool, true, false, cond, ◌&&◌, ◌||◌, ◌≡◌, ◌↔◌, List, [], ◌∷◌, map, slice_get, Option, Some, None, Ok}
 use Rattle.std.specs.List.{list_all, AllByRecursion}
 use Rattle.std.proofs.Common.{refl, sym, ap, ◌∙◌, subst, true≢false, inl, inr}
 use Rattle.std.proofs.lemmas.Bool.{and_parts}
 use Rattle.std.proofs.lemmas.Option.{same_Some}
-use Rattle.ae_math.specs.Fractions.{ℚ, one_ℚ, neg_ℚ, ◌+ℚ◌, ◌*ℚ◌}
+use Rattle.ae_math.specs.Fractions.{ℚ, one_ℚ, neg_ℚ, ◌+ℚ◌, ◌*ℚ◌, whole}
 use Rattle.ae_math.specs.Forms.{plus, minus, scale}
 use Rattle.ae_math.proofs.FractionLaws.{field, mul_comm_q, mul_zero_q}
 use Rattle.ae_math.proofs.FormLaws.{factor_in-append, factor_in-scale, plus-same, scale-same, scale_plus, scale_scale, scale_one, same_sym, same_trans}
-use Rattle.ae_core.specs.Decided.{decided, Sort_discrete, Term_discrete}
-use Rattle.ae_core.specs.Linear.{Linear, IsSame, form, factor_of}
-use Rattle.ae_core.specs.Sorts.{sort_of, same_numeric, is_numeric, known, ◌>>=◌}
-use Rattle.ae_core.specs.Lines.{Fact, states, whole, gap, total, Combined, IsNumeric, HaveSort}
+use Rattle.ae_base.specs.Decided.{decided}
+use Rattle.ae_core.specs.Decided.{Sort_discrete, Term_discrete}
+use Rattle.ae_rules.specs.Linear.{Linear, IsSame, form, factor_of}
+use Rattle.ae_core.specs.Sorts.{sort_of, same_numeric, is_numeric}
+use Rattle.ae_base.specs.Options.{known, ◌>>=◌, when}
+use Rattle.ae_rules.specs.Lines.{Fact, states, gap, total, Combined, IsNumeric, HaveSort}
 use Rattle.ae_core.specs.declared.terms.Sort.{Sort, Int, Real}
 use Rattle.ae_core.specs.declared.terms.Term.{Term}
 use Rattle.ae_core.specs.declared.problems.Signature.{Signature}
@@ -19,10 +21,13 @@ use Rattle.ae_core.specs.declared.proofs.EqLine.{EqLine}
 use Rattle.ae_core.specs.declared.proofs.Scaled.{Scaled}
 use Rattle.ae_core.specs.declared.proofs.Relation.{Relation}
 use Rattle.ae_core.specs.declared.proofs.Relation.TheVariants.{Equal, AtMost, Below}
+use Rattle.std.specs.declared.result.Result.{Result}
 use Rattle.ae_num.specs.Forms.{Step}
-use Rattle.ae_numeric.specs.Stated.{facts_at, of_one_sort, steps_where, sum_steps, sum_line_steps}
+use Rattle.ae_num.specs.declared.numbers.NumFail.{NumFail}
+use Rattle.ae_num.proofs.Checks.{StepChecks, states_no, states_like}
+use Rattle.ae_numeric.specs.Stated.{facts_at, of_one_sort, steps_of, sum_steps, sum_line_steps}
 use Rattle.ae_numeric.specs.Computing.{IsSorted}
-use Rattle.ae_numeric.specs.Sums.{may_join, summed, meant, meant_sum, facts_of, part_fits, sum_fits, IsSummand, IsSum}
+use Rattle.ae_numeric.specs.Inner.Sums.{may_join, summed, meant, meant_sum, facts_of, part_fits, sum_fits, IsSummand, IsSum}
 
 -- ---- numeric sorts
 decided_yes : {P : Type 0} (d : Dec P) → decided d ≡ true → P
@@ -294,44 +299,37 @@ module _ (sig : Signature) (fact : Fact) (earlier : List EqLine) where
     fit_parts : sum_fits sig earlier fact ps ≡ true → (same_numeric Own (sort_of sig fact.right) ≡ true) × (list_all PartFits ps ≡ true)
     fit_parts e = and_parts (same_numeric Own (sort_of sig fact.right)) (list_all PartFits ps) e
 
-    pub fit_left : sum_fits sig earlier fact ps ≡ true → IsSorted fact.left
-    fit_left e =
+    -- what the comparison of the sums asks for
+    pub fit_sorted : sum_fits sig earlier fact ps ≡ true → record { left : IsSorted fact.left; right : IsSorted fact.right; parts : AllByRecursion (IsSummand earlier) ps }
+    fit_sorted e =
         let o = one_sort Own (sort_of sig fact.right) (fit_parts e).0 in
-        sorted_of sig fact.left o.0 o.2
-
-    pub fit_right : sum_fits sig earlier fact ps ≡ true → IsSorted fact.right
-    fit_right e =
-        let o = one_sort Own (sort_of sig fact.right) (fit_parts e).0 in
-        sorted_of sig fact.right o.0 o.3
-
-    pub fit_summands : sum_fits sig earlier fact ps ≡ true → AllByRecursion (IsSummand earlier) ps
-    fit_summands e = each_of PartFits (IsSummand earlier) ps summand_of (fit_parts e).1
+        record { left = sorted_of sig fact.left o.0 o.2; right = sorted_of sig fact.right o.0 o.3; parts = each_of PartFits (IsSummand earlier) ps summand_of (fit_parts e).1 }
 
     module _ (d : ℤ) where
       -- what is stated
       abbrev Steps : List (ℤ × Fact) → List Step
       Steps = sum_steps (summed fact.relation) d fact
 
-      pub fit_steps : sum_fits sig earlier fact ps ≡ true → sum_line_steps sig earlier (may_join fact.relation) (summed fact.relation) d fact ps ≡ Steps (facts_of earlier ps)
+      fit_steps : sum_fits sig earlier fact ps ≡ true → sum_line_steps sig earlier (may_join fact.relation) (summed fact.relation) d fact ps ≡ Steps (facts_of earlier ps)
       fit_steps e =
-          ap (λ o. steps_where o Test Steps) (parts_known ps (fit_parts e).1)
-          ∙ ap (λ b. cond b (Steps (facts_of earlier ps)) []) (test_of (facts_of earlier ps) (fit_parts e).0 (parts_lines ps (fit_parts e).1))
+          ap (λ o. steps_of (o >>= λ fs. when (Test fs) fs) Steps) (parts_known ps (fit_parts e).1)
+          ∙ ap (λ b. steps_of (when b (facts_of earlier ps)) Steps) (test_of (facts_of earlier ps) (fit_parts e).0 (parts_lines ps (fit_parts e).1))
 
-      pub unfit_steps : sum_fits sig earlier fact ps ≡ false → sum_line_steps sig earlier (may_join fact.relation) (summed fact.relation) d fact ps ≡ []
+      unfit_steps : sum_fits sig earlier fact ps ≡ false → sum_line_steps sig earlier (may_join fact.relation) (summed fact.relation) d fact ps ≡ []
       unfit_steps n = by_known (facts_at earlier ps) refl
         where
-          by_test : (fs : List (ℤ × Fact)) → facts_at earlier ps ≡ Some fs → (b : Bool) → Test fs ≡ b → cond b (Steps fs) [] ≡ []
+          by_test : (fs : List (ℤ × Fact)) → facts_at earlier ps ≡ Some fs → (b : Bool) → Test fs ≡ b → steps_of (when b fs) Steps ≡ []
           by_test fs k true t =
               let h = test_parts fs t in
               absurd (true≢false (sym (and_true h.0 (combined_fits ps fs (at_combined earlier ps fs k) h.1)) ∙ n))
           by_test fs k false t = refl
 
-          by_known : (o : Option (List (ℤ × Fact))) → facts_at earlier ps ≡ o → steps_where o Test Steps ≡ []
+          by_known : (o : Option (List (ℤ × Fact))) → facts_at earlier ps ≡ o → steps_of (o >>= λ fs. when (Test fs) fs) Steps ≡ []
           by_known (Some fs) k = by_test fs k (Test fs) refl
           by_known None k = refl
 
       -- what it means
-      pub sum_fit : IsSum sig earlier fact d ps → sum_fits sig earlier fact ps ≡ true
+      sum_fit : IsSum sig earlier fact d ps → sum_fits sig earlier fact ps ≡ true
       sum_fit (fs, combined, joins, sums) =
           let own : Own ≡ Some sums.sort = sums.sorted.0 in
           and_true (of_sort Own (sort_of sig fact.right) sums.sort sums.numeric own sums.sorted.1)
@@ -339,7 +337,7 @@ module _ (sig : Signature) (fact : Fact) (earlier : List EqLine) where
           (all_of_each (λ (f : ℤ × Fact). LineFits f.1) (λ (f : ℤ × Fact). may_join fact.relation f.1 ≡ true) (λ (f : ℤ × Fact). HaveSort sig sums.sort f.1) fs
           (λ f j h. and_true (and_true j (of_sort Own (sort_of sig (f.1).left) sums.sort sums.numeric own h.0)) (of_sort Own (sort_of sig (f.1).right) sums.sort sums.numeric own h.1)) joins sums.all_sorted))
 
-      pub fit_sum : sum_fits sig earlier fact ps ≡ true → IsSum sig earlier fact d ps ↔ IsSame (scale (whole d) (meant fact.relation fact.left fact.right)) (meant_sum fact.relation (facts_of earlier ps))
+      fit_sum : sum_fits sig earlier fact ps ≡ true → IsSum sig earlier fact d ps ↔ IsSame (scale (whole d) (meant fact.relation fact.left fact.right)) (meant_sum fact.relation (facts_of earlier ps))
       fit_sum e =
           let r = fact.relation in
           let o = one_sort Own (sort_of sig fact.right) (fit_parts e).0 in
@@ -368,3 +366,20 @@ module _ (sig : Signature) (fact : Fact) (earlier : List EqLine) where
           sorts_of_line s own f h =
               let t = line_parts f h in
               (same_sort_as s own (sort_of sig f.left) t.1, same_sort_as s own (sort_of sig f.right) t.2)
+
+      -- the check of the sum
+      abbrev SumChecks : Result Bool NumFail → Type 0
+      SumChecks = StepChecks (IsSum sig earlier fact d ps) (sum_line_steps sig earlier (may_join fact.relation) (summed fact.relation) d fact ps)
+
+      pub sum_not : sum_fits sig earlier fact ps ≡ false → SumChecks (Ok false)
+      sum_not n =
+          states_no (IsSum sig earlier fact d ps) (sum_line_steps sig earlier (may_join fact.relation) (summed fact.relation) d fact ps) (λ s. true≢false (sym (sum_fit s) ∙ n))
+          (unfit_steps n)
+
+      abbrev Balances : Type 0
+      Balances = IsSame (scale (whole d) (meant fact.relation fact.left fact.right)) (meant_sum fact.relation (facts_of earlier ps))
+
+      pub sum_is : (r : Result Bool NumFail) → sum_fits sig earlier fact ps ≡ true → StepChecks Balances (Steps (facts_of earlier ps)) r → SumChecks r
+      sum_is r e =
+          states_like Balances (Steps (facts_of earlier ps)) (IsSum sig earlier fact d ps) (sum_line_steps sig earlier (may_join fact.relation) (summed fact.relation) d fact ps) r
+          (fit_sum e).1 (fit_sum e).0 (fit_steps e)

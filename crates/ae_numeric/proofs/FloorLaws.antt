@@ -8,8 +8,8 @@ use Rattle.std.proofs.lemmas.Nat.Gcd.{dvd_of_mod-eq-zero, mod-eq-zero_of_dvd}
 use borrow.Author.Differences.{ints}
 use mir.Syntax.{w128}
 use mir.Val.{SFits, of_z, to_z}
-use Rattle.ae_math.specs.Integers.{add_mul_z, neg_mul_z}
-use Rattle.ae_core.specs.Lines.{IsFloor}
+use Rattle.ae_math.specs.Inner.Integers.{add_mul_z, neg_mul_z}
+use Rattle.ae_rules.specs.Lines.{IsFloor}
 
 beyond : (p k q : ℤ) (n : ℕ) → q ≡ p +ℤ pos n → k <ℤ p → q ≤ℤ k → ⊥
 beyond p k q n e a b = omega (arith, ints)

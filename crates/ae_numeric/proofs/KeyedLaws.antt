@@ -7,14 +7,15 @@ use Rattle.std.specs.Ordering.{is_eq}
 use Rattle.std.proofs.Common.{arith, refl, sym, ap, ◌∙◌, subst}
 use Rattle.std.proofs.lemmas.Option.{same_Some, get_or_from_slice_get, slice_get-get_or}
 use Rattle.std.proofs.lemmas.List.Quantifiers.{all_pairs_push}
-use Rattle.ae_math.specs.Choices.{pick}
+use Rattle.ae_base.specs.Decided.{pick}
 use Rattle.ae_core.specs.Decided.{Term_discrete}
 use Rattle.ae_core.specs.Orders.{term_order}
 use Rattle.ae_core.proofs.OrderLaws.{term_exact}
 use Rattle.ae_core.specs.declared.terms.Term.{Term}
 use Rattle.ae_numeric.specs.Stated.{place_of, with_key}
 use Rattle.ae_numeric.specs.Computing.{AreDistinct}
-use Rattle.ae_numeric.specs.Keyed.{place_in, IsIndex, Keeps}
+use Rattle.ae_numeric.specs.Inner.Keyed.{place_in, IsIndex}
+use Rattle.ae_numeric.specs.Computing.{Keeps}
 
 none_some : {A B : Type 0} {x : A} → ◌≡◌ {A = Option A} None (Some x) → B
 none_some e = cc

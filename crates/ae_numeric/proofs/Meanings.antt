@@ -7,7 +7,8 @@ use Rattle.std.proofs.lemmas.List.{map-append}
 use Rattle.std.proofs.lemmas.Option.{slice_get-get_or, get_or_from_slice_get, slice_get_past}
 use native.Mathlib.Decide.{ℕ_discrete}
 use borrow.Author.Differences.{ints}
-use Rattle.ae_math.specs.Choices.{pick, pick_no}
+use Rattle.ae_base.specs.Decided.{pick}
+use Rattle.ae_base.proofs.Decided.{pick_no}
 use Rattle.ae_math.specs.Fractions.{ℚ, zero_ℚ, one_ℚ, ◌+ℚ◌, ◌*ℚ◌, ratio}
 use Rattle.ae_math.specs.Forms.{Form, factor_in, factor, plus, scale, sum_of, value}
 use Rattle.ae_math.proofs.FractionLaws.{same_frac, zero_add_q, add_zero_q, one_mul_q', zero_mul_q, mul_zero_q}
@@ -19,7 +20,7 @@ use Rattle.ae_num.proofs.PairLaws.{factor_head, factor_tail}
 use Rattle.ae_num.proofs.MeaningLaws.{factor_meaning}
 use Rattle.ae_num.proofs.UniqueLaws.{unique}
 use Rattle.ae_core.specs.Decided.{Term_discrete}
-use Rattle.ae_core.specs.Linear.{Linear, factor_of, IsSame}
+use Rattle.ae_rules.specs.Linear.{Linear, factor_of, IsSame}
 use Rattle.ae_core.specs.declared.terms.Term.{Term, Bound}
 use Rattle.ae_numeric.specs.Computing.{named, AreDistinct, HasKeys, IsFormOf}
 

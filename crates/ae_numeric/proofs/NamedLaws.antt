@@ -6,8 +6,10 @@ use Rattle.std.proofs.lemmas.List.{map-append}
 use native.Mathlib.Decide.{ℕ_discrete}
 use lib.IntN.{ℤ_discrete}
 use borrow.Author.Differences.{ints}
-use Rattle.ae_math.specs.Choices.{pick, pick_yes, pick_no}
-use Rattle.ae_math.specs.Fractions.{ℚ, zero_ℚ, one_ℚ, neg_ℚ, ◌+ℚ◌, ◌*ℚ◌, frac, ratio, ℚ_discrete, cancel}
+use Rattle.ae_base.specs.Decided.{pick}
+use Rattle.ae_base.proofs.Decided.{pick_yes, pick_no}
+use Rattle.ae_math.specs.Fractions.{ℚ, zero_ℚ, one_ℚ, neg_ℚ, ◌+ℚ◌, ◌*ℚ◌, frac, ratio, ℚ_discrete}
+use Rattle.ae_math.specs.Inner.Respected.{cancel}
 use Rattle.ae_math.specs.Forms.{Form, number, single, plus, scale, minus, is_zero, factor_in, factor, sum_of, value, SameForm}
 use Rattle.ae_math.proofs.FractionLaws.{one_mul_q', mul_zero_q, zero_mul_q, add_zero_q, zero_add_q, same_frac, neg_unique_q}
 use Rattle.ae_math.proofs.FormLaws.{value-same, same_refl, same_trans, plus-same, scale-same}
@@ -16,11 +18,11 @@ use Rattle.ae_num.specs.declared.forms.Lin.{Lin}
 use Rattle.ae_num.specs.Forms.{meaning, SameMeaning, IsNormal, AllAbove, IsRising, divided_part, lowest, parts_of, with_key as with_number, with_keys, keys_of, sum_of as lin_sum, multiple_of}
 use Rattle.ae_num.proofs.MeaningLaws.{ratio_sum, ratio_zero}
 use Rattle.ae_core.specs.Decided.{Term_discrete}
-use Rattle.ae_core.specs.Linear.{Linear, IsSame, is_number as is_constant_form, times}
+use Rattle.ae_rules.specs.Linear.{Linear, IsSame, is_number as is_constant_form, times}
 use Rattle.ae_core.specs.declared.terms.Term.{Term, Bound}
 use Rattle.ae_numeric.specs.Stated.{place_of, with_key, key_form, is_number}
 use Rattle.ae_numeric.specs.Computing.{named, AreDistinct, HasKeys, IsFormOf}
-use Rattle.ae_numeric.specs.Keyed.{Keeps}
+use Rattle.ae_numeric.specs.Computing.{Keeps}
 use Rattle.ae_numeric.proofs.KeyedLaws.{keeps_within, keeps_get, place_within, place_get}
 
 -- ---- terms put for the keys of a form

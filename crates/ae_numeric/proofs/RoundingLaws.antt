@@ -9,29 +9,34 @@ use native.Mathlib.Nat.{dvd-zero, zero-dvd, dvd-one, dvd-mul_left}
 use borrow.Author.Differences.{ints}
 use lib.IntN.{one, *ℤ-one, *ℤ-zero, zero-*ℤ, *ℤ_comm}
 use std.Quotient.{/_rec}
-use Rattle.ae_math.specs.Choices.{pick, pick_yes, pick_no}
-use Rattle.ae_math.specs.Integers.{ring}
-use Rattle.ae_math.specs.Fractions.{ℚ, zero_ℚ, one_ℚ, neg_ℚ, ◌+ℚ◌, ◌*ℚ◌, frac, ratio, cancel}
+use Rattle.ae_base.specs.Decided.{pick}
+use Rattle.ae_base.proofs.Decided.{pick_yes, pick_no}
+use Rattle.ae_math.specs.Inner.Integers.{ring}
+use Rattle.ae_math.specs.Fractions.{ℚ, zero_ℚ, one_ℚ, neg_ℚ, ◌+ℚ◌, ◌*ℚ◌, frac, ratio, whole}
+use Rattle.ae_math.specs.Inner.Respected.{cancel}
 use Rattle.ae_math.specs.Forms.{factor_in, minus}
 use Rattle.ae_math.proofs.FractionLaws.{field, same_frac, frac_plus, frac_times, zero_frac, add_assoc_q, add_zero_q, neg_zero_q}
 use Rattle.ae_math.proofs.FormLaws.{factor_in-append, factor_in-scale}
-use Rattle.ae_math.proofs.Divisors.{abs_times, divided, gcd_exists}
+use Rattle.std.proofs.lemmas.Int.{unsigned_abs-mul}
+use Rattle.ae_math.proofs.Divisors.{divided, gcd_exists}
 use Rattle.ae_num.specs.declared.forms.Part.{Part}
 use Rattle.ae_num.specs.declared.forms.Lin.{Lin}
 use Rattle.ae_num.specs.Forms.{factor_of, IsRising, IsNormal, DividesAll, IsCommonDivisor, AllAbove, sizes}
-use Rattle.ae_num.proofs.PairLaws.{absent, factor_head, ne_test}
-use Rattle.ae_num.proofs.KeyLaws.{eq_yes, eq_no}
+use Rattle.ae_num.proofs.PairLaws.{absent, factor_head}
+use Rattle.ae_base.proofs.Tests.{nat_eq_below}
+use Rattle.std.proofs.lemmas.Bool.{eq-eqb, ne_eqb}
 use Rattle.ae_num.proofs.UniqueLaws.{all_divide, same_parts}
 use Rattle.ae_num.proofs.MeaningLaws.{ratio_zero, ratio_times, product_positive}
 use Rattle.ae_core.specs.Decided.{Term_discrete}
-use Rattle.ae_core.specs.Linear.{Linear, factor_of as term_factor}
-use Rattle.ae_core.specs.Lines.{whole, slack, AreMultiples, IsFloor}
+use Rattle.ae_rules.specs.Linear.{Linear, factor_of as term_factor}
+use Rattle.ae_rules.specs.Lines.{slack, AreMultiples, IsFloor}
 use Rattle.ae_core.specs.declared.terms.Term.{Term, Bound}
 use Rattle.ae_core.specs.declared.proofs.Relation.{Relation}
 use Rattle.ae_core.specs.declared.proofs.Relation.TheVariants.{Equal, AtMost, Below}
 use Rattle.ae_numeric.specs.Stated.{place_of}
 use Rattle.ae_numeric.specs.Computing.{AreDistinct, IsFormOf}
-use Rattle.ae_numeric.specs.Rounding.{IsRounded, lowered, IsUnsolvable, IsQuotient, IsApart, factor_sizes, times_part}
+use Rattle.ae_rules.specs.Derivations.{HasNoSolution}
+use Rattle.ae_numeric.specs.Inner.Rounding.{IsRounded, lowered, IsQuotient, IsApart, factor_sizes, times_part}
 
 -- ---- numbers
 side : (m n : ℕ) → (m < n) ⊎ (n ≤ m)
@@ -53,10 +58,10 @@ multiple_of_size a zero h = (pos 0, abs_zero a (zero-dvd.0 h))
 multiple_of_size a (suc d) h = (int_div a (pos (suc d)), sym (divided a (suc d) (omega arith) h))
 
 divides_multiple : (a z : ℤ) (d : ℕ) → a ≡ z *ℤ pos d → d ∣ unsigned_abs a
-divides_multiple a z d e = subst (λ n. d ∣ n) (sym (ap unsigned_abs e ∙ abs_times z (pos d))) (dvd-mul_left d (unsigned_abs z))
+divides_multiple a z d e = subst (λ n. d ∣ n) (sym (ap unsigned_abs e ∙ unsigned_abs-mul z (pos d))) (dvd-mul_left d (unsigned_abs z))
 
 size_divides : (a w den : ℤ) → a ≡ w *ℤ den → unsigned_abs den ∣ unsigned_abs a
-size_divides a w den e = subst (λ n. unsigned_abs den ∣ n) (sym (ap unsigned_abs e ∙ abs_times w den)) (dvd-mul_left (unsigned_abs den) (unsigned_abs w))
+size_divides a w den e = subst (λ n. unsigned_abs den ∣ n) (sym (ap unsigned_abs e ∙ unsigned_abs-mul w den)) (dvd-mul_left (unsigned_abs den) (unsigned_abs w))
 
 -- any numbers have a greatest common divisor
 common_exists : (ns : List ℕ) → (g : ℕ) × IsCommonDivisor ns g
@@ -125,14 +130,14 @@ placed_factor ks (p ∷ ps) d u a h r = by_test (Term_discrete (get_or ks p.key 
     by_test (yes e) ih =
         let at : place_of ks u ≡ p.key = ap (place_of ks) (sym e) ∙ place_get ks p.key (Bound 0) h.0 a in
         ap (λ x. ratio p.factor d +ℚ x) (ih ∙ ap (λ z. ratio z d) (ap (factor_of ps) at ∙ absent p.key ps r.0) ∙ ratio_zero d) ∙ add_zero_q (ratio p.factor d)
-        ∙ ap (λ b. ratio (cond b p.factor (factor_of ps (place_of ks u))) d) (sym (eq_yes p.key (place_of ks u) (sym at)))
+        ∙ ap (λ b. ratio (cond b p.factor (factor_of ps (place_of ks u))) d) (sym (eq-eqb p.key (place_of ks u) (sym at)))
     by_test (no n) ih =
         let apart : ¬ (p.key ≡ place_of ks u) = λ e. n (ap (λ k. get_or ks k (Bound 0)) e ∙ get_place ks u (Bound 0) (subst (λ k. k < length ks) e h.0)) in
-        ih ∙ ap (λ b. ratio (cond b p.factor (factor_of ps (place_of ks u))) d) (sym (eq_no p.key (place_of ks u) apart))
+        ih ∙ ap (λ b. ratio (cond b p.factor (factor_of ps (place_of ks u))) d) (sym (ne_eqb p.key (place_of ks u) apart))
 
 pub no_key : (n : ℕ) (ps : List Part) (k : ℕ) → AllByRecursion (λ p. p.key < n) ps → n ≤ k → factor_of ps k ≡ pos 0
 no_key n [] k h l = refl
-no_key n (p ∷ ps) k h l = let below : p.key < k = let here = h.0 in omega arith in ap (λ b. cond b p.factor (factor_of ps k)) (ne_test p.key k below) ∙ no_key n ps k h.1 l
+no_key n (p ∷ ps) k h l = let below : p.key < k = let here = h.0 in omega arith in ap (λ b. cond b p.factor (factor_of ps k)) (nat_eq_below p.key k below) ∙ no_key n ps k h.1 l
 
 -- the numbers of a normal form, read as those of the linear form that it means: each term has a key, and each key up to a bound a term
 pub record Reading (f : Lin) (m : Linear) : Type 0 where
@@ -256,7 +261,7 @@ module _ (f : Lin) (m : Linear) (n : IsNormal f) (r : Reading f m) where
       ne (r.factors u ∙ ap (λ z. ratio z f.den) (abs_zero (r.at k) (r.size k ∙ ap (λ (ps : List Part). unsigned_abs (factor_of ps k)) e)) ∙ ratio_zero f.den)
 
   -- ---- an equation without a solution
-  pub unsolvable_apart : IsUnsolvable m → IsApart f
+  pub unsolvable_apart : HasNoSolution m → IsApart f
   unsolvable_apart s =
       let one = whole_den s.divisor s.divides s.constant s.is in
       let common = common_exists (factor_sizes f.parts) in
@@ -268,17 +273,17 @@ module _ (f : Lin) (m : Linear) (n : IsNormal f) (r : Reading f m) where
         apart = λ d.
             let below : s.divisor ∣ unsigned_abs r.level = subst (λ k. s.divisor ∣ k) (sym r.level_size) (dvd_trans s.divisor (common.1.1 s.divisor (all_multiples one s.divisor s.divides)) d) in
             let w = multiple_of_size r.level s.divisor below in
-            s.apart w.0 (same_whole s.constant r.level (sym s.is ∙ whole_level one) ∙ w.1);
+            s.not_divided w.0 (same_whole s.constant r.level (sym s.is ∙ whole_level one) ∙ w.1);
       }
 
-  pub apart_unsolvable : IsApart f → IsUnsolvable m
+  pub apart_unsolvable : IsApart f → HasNoSolution m
   apart_unsolvable a = record {
     occurs = occurs_there a.den a.occurs;
     divisor = a.divisor;
     divides = divide_multiples a.den a.divisor a.common.0;
     constant = r.level;
     is = whole_level a.den;
-    apart = λ z e. a.apart (subst (λ k. a.divisor ∣ k) r.level_size (divides_multiple r.level z a.divisor e));
+    not_divided = λ z e. a.apart (subst (λ k. a.divisor ∣ k) r.level_size (divides_multiple r.level z a.divisor e));
   }
 
 -- ---- the gap of a strict inequality, less 1

@@ -3,11 +3,13 @@ use Rattle.std.specs.Prelude.{ℕ, ◌≡◌, ◌≢◌, ◌⊎◌, Bool, true, 
 use Rattle.std.proofs.Common.{refl, sym, ap, ◌∙◌, subst, inl, inr}
 use Rattle.std.proofs.lemmas.Option.{slice_get_read}
 use Rattle.ae_num.specs.Forms.{Step}
-use Rattle.ae_core.specs.Decided.{decided, Sort_discrete}
-use Rattle.ae_core.specs.Sorts.{sort_of, same_sort, same_numeric, known, only, ◌>>=◌}
-use Rattle.ae_core.proofs.Congruence.{same_numeric_is}
-use Rattle.ae_core.specs.Lines.{Fact, equal, at_most, states, HaveSort, Rounds, AllowedRound, gap}
-use Rattle.ae_core.specs.Derivations.{EndsGcd}
+use Rattle.ae_base.specs.Decided.{decided}
+use Rattle.ae_core.specs.Decided.{Sort_discrete}
+use Rattle.ae_core.specs.Sorts.{sort_of, same_sort, same_numeric}
+use Rattle.ae_base.specs.Options.{known, only, when, ◌>>=◌}
+use Rattle.ae_core.proofs.SortFacts.{same_numeric_is}
+use Rattle.ae_rules.specs.Lines.{Fact, equal, at_most, states, HaveSort, Rounds, AllowedRound, gap}
+use Rattle.ae_rules.specs.Derivations.{EndsGcd, HasNoSolution}
 use Rattle.ae_core.specs.declared.terms.Sort.{Sort, Int}
 use Rattle.ae_core.specs.declared.terms.Term.{Term}
 use Rattle.ae_core.specs.declared.problems.Signature.{Signature}
@@ -16,9 +18,9 @@ use Rattle.ae_core.specs.declared.proofs.EqLine.TheVariants.{LeRound}
 use Rattle.ae_core.specs.declared.proofs.Ending.TheVariants.{Gcd}
 use Rattle.ae_core.specs.declared.proofs.Relation.{Relation}
 use Rattle.ae_core.specs.declared.proofs.Relation.TheVariants.{Equal, AtMost, Below}
-use Rattle.ae_numeric.specs.Stated.{fact_at, is_inequality, is_equation, of_one_sort, steps_where, line_steps, ending_steps, round_steps, forward}
+use Rattle.ae_numeric.specs.Stated.{fact_at, is_inequality, is_equation, of_one_sort, steps_of, line_steps, ending_steps, round_steps, forward}
 use Rattle.ae_numeric.specs.Computing.{IsSorted}
-use Rattle.ae_numeric.specs.Rounding.{IsRounded, IsUnsolvable}
+use Rattle.ae_numeric.specs.Inner.Rounding.{IsRounded}
 
 -- ---- sorts
 pub never : {A : Type 0} → false ≡ true → A
@@ -102,11 +104,11 @@ fact_there lines k l f b e s = ap (λ o. o >>= λ l. Some (states l)) (slice_get
 same_fact : (f g : Fact) → ◌≡◌ {A = Option Fact} (Some f) (Some g) → f ≡ g
 same_fact f g e = cc
 
-steps_there : (o : Option Fact) (f : Fact) (test : Fact → Bool) (steps : Fact → List Step) → o ≡ Some f → test f ≡ true → steps_where o test steps ≡ steps f
-steps_there o f test steps e t = ap (λ x. steps_where x test steps) e ∙ ap (λ b. cond b (steps f) []) t
+steps_there : (o : Option Fact) (f : Fact) (test : Fact → Bool) (steps : Fact → List Step) → o ≡ Some f → test f ≡ true → steps_of (o >>= λ f. when (test f) f) steps ≡ steps f
+steps_there o f test steps e t = ap (λ x. steps_of (x >>= λ f. when (test f) f) steps) e ∙ ap (λ b. steps_of (when b f) steps) t
 
-steps_none : (o : Option Fact) (f : Fact) (test : Fact → Bool) (steps : Fact → List Step) → o ≡ Some f → test f ≡ false → steps_where o test steps ≡ []
-steps_none o f test steps e t = ap (λ x. steps_where x test steps) e ∙ ap (λ b. cond b (steps f) []) t
+steps_none : (o : Option Fact) (f : Fact) (test : Fact → Bool) (steps : Fact → List Step) → o ≡ Some f → test f ≡ false → steps_of (o >>= λ f. when (test f) f) steps ≡ []
+steps_none o f test steps e t = ap (λ x. steps_of (x >>= λ f. when (test f) f) steps) e ∙ ap (λ b. steps_of (when b f) steps) t
 
 inequality_test : (f : Fact) → f.relation ≢ Equal → is_inequality f ≡ true
 inequality_test f n = by_relation f.relation n
@@ -226,10 +228,10 @@ module _ (sig : Signature) (lines : List EqLine) (s t : Term) (k : ℕ) (there :
   pub gcd_states : of_one_sort sig (equal s t) (equal s t) ≡ true → ending_steps sig lines (Gcd k) ≡ (forward (equal s t) []).steps
   gcd_states e = steps_there (fact_at lines k) (equal s t) (λ g. is_equation g && of_one_sort sig g g) (λ g. (forward g []).steps) there e
 
-  pub ends_unsolvable : EndsGcd sig lines k → IsUnsolvable (gap (equal s t))
+  pub ends_unsolvable : EndsGcd sig lines k → HasNoSolution (gap (equal s t))
   ends_unsolvable a =
-      subst (λ f. IsUnsolvable (gap f)) (same_fact (equal a.0 a.1) (equal s t) (sym a.2 ∙ there))
-      (record { occurs = a.4; divisor = a.5; divides = a.6; constant = a.7; is = a.8; apart = a.9 })
+      subst (λ f. HasNoSolution (gap f)) (same_fact (equal a.0 a.1) (equal s t) (sym a.2 ∙ there))
+      a.4
 
   pub ends_int : (x : Sort) → EndsGcd sig lines k → sort_of sig s ≡ Some x → x ≡ Int
   ends_int x a e = same_some x Int (sym e ∙ (subst (HaveSort sig Int) (same_fact (equal a.0 a.1) (equal s t) (sym a.2 ∙ there)) a.3).0)
@@ -237,5 +239,5 @@ module _ (sig : Signature) (lines : List EqLine) (s t : Term) (k : ℕ) (there :
       same_some : (x y : Sort) → ◌≡◌ {A = Option Sort} (Some x) (Some y) → x ≡ y
       same_some x y e = cc
 
-  pub unsolvable_ends : HaveSort sig Int (equal s t) → IsUnsolvable (gap (equal s t)) → EndsGcd sig lines k
-  unsolvable_ends h u = (s, t, there, h, u.occurs, u.divisor, u.divides, u.constant, u.is, u.apart)
+  pub unsolvable_ends : HaveSort sig Int (equal s t) → HasNoSolution (gap (equal s t)) → EndsGcd sig lines k
+  unsolvable_ends h u = (s, t, there, h, u)

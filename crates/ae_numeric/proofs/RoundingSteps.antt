@@ -9,14 +9,14 @@ use Rattle.ae_num.specs.declared.numbers.Wide.{Wide}
 use Rattle.ae_num.specs.declared.numbers.NumFail.{NumFail}
 use Rattle.ae_num.specs.Forms.{meaning, SameMeaning, IsNormal, first_wide, IfWide, plus_steps, sum_of}
 use Rattle.ae_num.proofs.StepLaws.{first_wide-some}
-use Rattle.ae_core.specs.Linear.{Linear}
-use Rattle.ae_core.specs.Lines.{whole}
+use Rattle.ae_rules.specs.Linear.{Linear}
+use Rattle.ae_math.specs.Fractions.{whole}
 use Rattle.ae_core.specs.declared.terms.Term.{Term}
 use Rattle.ae_core.specs.declared.proofs.Relation.{Relation}
 use Rattle.ae_core.specs.declared.proofs.Relation.TheVariants.{Equal, AtMost, Below}
 use Rattle.ae_numeric.specs.Stated.{Computation, known, minus_one, taken_down}
 use Rattle.ae_numeric.specs.Computing.{AreDistinct, IsFormOf, IsResult, IsWideIn}
-use Rattle.ae_numeric.specs.Rounding.{lowered}
+use Rattle.ae_numeric.specs.Inner.Rounding.{lowered}
 use Rattle.ae_numeric.proofs.Meanings.{sum_form}
 use Rattle.ae_numeric.proofs.Computations.{both_none, then_wide, added_result, added_wide, added_to_result, added_to_wide}
 

@@ -4,10 +4,10 @@ use Rattle.std.specs.List.{AllByRecursion, list_all}
 use Rattle.std.specs.Ordering.{int_eq}
 use Rattle.std.proofs.Common.{arith, refl, sym, ap, ◌∙◌, subst}
 use Rattle.std.proofs.lemmas.Bool.Decides.{nat_tests, Decides-int_eq, Decides-ltb}
-use Rattle.ae_math.specs.Integers.{ring}
+use Rattle.ae_math.specs.Inner.Integers.{ring}
 use borrow.Author.Differences.{ints}
 use lib.IntN.{*ℤ_comm}
-use Rattle.ae_math.specs.Choices.{pick_no}
+use Rattle.ae_base.proofs.Decided.{pick_no}
 use Rattle.ae_math.specs.Fractions.{ℚ, zero_ℚ, one_ℚ, neg_ℚ, ratio, inverse_ℚ, ℚ_discrete}
 use Rattle.ae_math.proofs.FractionLaws.{cancel_q, times_inverse, frac_same}
 use Rattle.ae_num.proofs.MeaningLaws.{ratio_times, ratio_zero, product_positive}
@@ -17,11 +17,13 @@ use mir.Val.{of_z, to_z}
 use Rattle.ae_num.proofs.LowestLaws.{number_normal, number_value}
 use Rattle.ae_numeric.proofs.NamedLaws.{minus_ratio, one_ratio, ratio_none, is_zero_yes}
 use Rattle.ae_math.specs.Forms.{single, scale, is_zero}
-use Rattle.ae_core.specs.Linear as linear
-use Rattle.ae_core.specs.Linear.{Linear, form, times, over}
-use Rattle.ae_core.specs.Sorts.{sort_of, is_closed_sort, known, only, when, all_known, ◌>>=◌, head_sort, numeral_ok, within}
+use Rattle.ae_rules.specs.Linear as linear
+use Rattle.ae_rules.specs.Linear.{Linear, form, times, over}
+use Rattle.ae_core.specs.Sorts.{sort_of, is_closed_sort, head_sort, numeral_ok, within}
+use Rattle.ae_base.specs.Options.{known}
+use Rattle.ae_base.specs.Options.{only, when, all_known, ◌>>=◌}
 use Rattle.ae_core.proofs.SortLaws.{sort_in_num, sort_in_apply}
-use Rattle.ae_core.proofs.LinearLaws.{form-Apply}
+use Rattle.ae_rules.proofs.LinearLaws.{form-Apply}
 use Rattle.ae_core.specs.declared.terms.Sort.{Sort, Int, Real}
 use Rattle.ae_core.specs.declared.terms.Head.{Head}
 use Rattle.ae_core.specs.declared.terms.Head.TheVariants as head
@@ -31,9 +33,10 @@ use Rattle.ae_core.specs.declared.problems.Signature.{Signature}
 use Rattle.ae_core.specs.declared.terms.Term.{Term, Bound, Num, Fresh, Apply, para-roll-Term}
 use Rattle.ae_core.specs.declared.terms.Term.TheOpen as layer
 use Rattle.ae_core.specs.declared.terms.Term.TheVariants.{rolls-Apply, rolls-Bound, rolls-Num, rolls-Fresh}
+use Rattle.ae_numeric.specs.Stated as table
 use Rattle.ae_numeric.specs.Stated.{Computation, computed, computed_step, applied, opaque, known as known_form, numeral, scaled, divided_by, inverse_top, inverse_bottom}
 use Rattle.ae_numeric.specs.Computing.{IsSorted}
-use Rattle.ae_numeric.specs.Rules.{at, joined, joined_forms, ruled, ruled_form, Fits, pair_rule, operation_rule, divisor_rule, quotient_rule, rule_of}
+use Rattle.ae_numeric.specs.Inner.Rules.{at, joined, joined_forms, ruled, ruled_form, Fits, pair_rule, operation_rule, divisor_rule, quotient_rule, rule_of}
 use Rattle.ae_numeric.specs.declared.forms.Rule.{Rule}
 use Rattle.ae_numeric.specs.declared.forms.Rule.TheVariants.{Opaque, Scale, Pair}
 use Rattle.ae_numeric.specs.declared.forms.Operation.{Operation}
@@ -69,26 +72,61 @@ long n = grind (arith, nat_tests)
 long_one : (n : ℕ) → nat_eq (suc (suc n)) 1 ≡ false
 long_one n = grind (arith, nat_tests)
 
-module _ (X : Type 0) (f : Term → X) (A : List (Term × X) → X) (O : X) where
-  two_law : (J : Term × X → Term × X → X) → A [] ≡ O → ((a : Term × X) → A (a ∷ []) ≡ O) → ((a b : Term × X) → A (a ∷ b ∷ []) ≡ J a b) → ((a b c : Term × X) (r : List (Term × X)) → A (a ∷ b ∷ c ∷ r) ≡ O)
-      → (ts : List Term) → A (map (λ t. (t, f t)) ts) ≡ cond (nat_eq (length ts) 2) (J (at ts 0, f (at ts 0)) (at ts 1, f (at ts 1))) O
-  two_law J p q r s [] = p
-  two_law J p q r s (a ∷ []) = q (a, f a)
-  two_law J p q r s (a ∷ b ∷ []) = r (a, f a) (b, f b)
-  two_law J p q r s (a ∷ b ∷ c ∷ ts) =
-      s (a, f a) (b, f b) (c, f c) (map (λ t. (t, f t)) ts) ∙ ap (λ z. cond z (J (a, f a) (b, f b)) O) (sym (long (length ts)))
+-- ---- an application by its rule, in two meanings of the rules: of those of the table, and of ours
+pub record Agree (X : Type 0) (f : Term → X) (P : Term → Type 0) (meant : linear.Rule (Term × X) → X) (mine : Rule → List Term → X) : Type 0 where
+  pub opaque : (ts : List Term) → meant linear.opaque_term ≡ mine Opaque ts
+  pub sum : (a b : Term) → meant (linear.sum_of (a, f a) (b, f b)) ≡ mine (Pair Sum) (a ∷ b ∷ [])
+  pub difference : (a b : Term) → meant (linear.difference_of (a, f a) (b, f b)) ≡ mine (Pair Difference) (a ∷ b ∷ [])
+  pub product : (a b : Term) → meant (linear.product_of (a, f a) (b, f b)) ≡ mine (Pair Product) (a ∷ b ∷ [])
+  pub negation : (a : Term) → meant (linear.negation_of (a, f a)) ≡ mine (Scale (neg_ℤ (pos 1)) (pos 1)) (a ∷ [])
+  pub quotient : (a b : Term) → P b → meant (linear.quotient_of (a, f a) (b, f b)) ≡ mine (divisor_rule b) (a ∷ b ∷ [])
 
-  one_law : (J : X → X) → A [] ≡ O → ((a : Term × X) → A (a ∷ []) ≡ J a.1) → ((a b : Term × X) (r : List (Term × X)) → A (a ∷ b ∷ r) ≡ O)
-      → (ts : List Term) → A (map (λ t. (t, f t)) ts) ≡ cond (nat_eq (length ts) 1) (J (f (at ts 0))) O
-  one_law J p q s [] = p
-  one_law J p q s (a ∷ []) = q (a, f a)
-  one_law J p q s (a ∷ b ∷ ts) = s (a, f a) (b, f b) (map (λ t. (t, f t)) ts) ∙ ap (λ z. cond z (J (f a)) O) (sym (long_one (length ts)))
+module _ (X : Type 0) (f : Term → X) (P : Term → Type 0) (meant : linear.Rule (Term × X) → X) (mine : Rule → List Term → X) (agree : Agree X f P meant mine) where
+  abbrev O : X
+  O = meant linear.opaque_term
+
+  pair_law : (A : List (Term × X) → X) (o : Operation) → A [] ≡ O → ((a : Term × X) → A (a ∷ []) ≡ O) → ((a b : Term) → A ((a, f a) ∷ (b, f b) ∷ []) ≡ mine (Pair o) (a ∷ b ∷ []))
+      → ((a b c : Term × X) (r : List (Term × X)) → A (a ∷ b ∷ c ∷ r) ≡ O) → (ts : List Term) → A (map (λ t. (t, f t)) ts) ≡ mine (pair_rule o (length ts)) ts
+  pair_law A o p q r s [] = p ∙ agree.opaque []
+  pair_law A o p q r s (a ∷ []) = q (a, f a) ∙ agree.opaque (a ∷ [])
+  pair_law A o p q r s (a ∷ b ∷ []) = r a b
+  pair_law A o p q r s (a ∷ b ∷ c ∷ ts) =
+      s (a, f a) (b, f b) (c, f c) (map (λ t. (t, f t)) ts) ∙ agree.opaque (a ∷ b ∷ c ∷ ts) ∙ ap (λ z. mine (cond z (Pair o) Opaque) (a ∷ b ∷ c ∷ ts)) (sym (long (length ts)))
+
+  negation_law : (A : List (Term × X) → X) → A [] ≡ O → ((a : Term) → A ((a, f a) ∷ []) ≡ mine (Scale (neg_ℤ (pos 1)) (pos 1)) (a ∷ [])) → ((a b : Term × X) (r : List (Term × X)) → A (a ∷ b ∷ r) ≡ O)
+      → (ts : List Term) → A (map (λ t. (t, f t)) ts) ≡ mine (operation_rule op.Neg (length ts)) ts
+  negation_law A p q s [] = p ∙ agree.opaque []
+  negation_law A p q s (a ∷ []) = q a
+  negation_law A p q s (a ∷ b ∷ ts) =
+      s (a, f a) (b, f b) (map (λ t. (t, f t)) ts) ∙ agree.opaque (a ∷ b ∷ ts) ∙ ap (λ z. mine (cond z (Scale (neg_ℤ (pos 1)) (pos 1)) Opaque) (a ∷ b ∷ ts)) (sym (long_one (length ts)))
+
+  quotient_law : (ts : List Term) → AllByRecursion P ts → meant (linear.rule_of (head.Real op.Div) (map (λ t. (t, f t)) ts)) ≡ mine (quotient_rule ts) ts
+  quotient_law [] h = agree.opaque []
+  quotient_law (a ∷ []) h = agree.opaque (a ∷ [])
+  quotient_law (a ∷ b ∷ []) h = agree.quotient a b (h.1).0
+  quotient_law (a ∷ b ∷ c ∷ ts) h = agree.opaque (a ∷ b ∷ c ∷ ts) ∙ ap (λ z. mine (cond z (divisor_rule b) Opaque) (a ∷ b ∷ c ∷ ts)) (sym (long (length ts)))
+
+  table_law : (h : Head) (ts : List Term) → AllByRecursion P ts → meant (linear.rule_of h (map (λ t. (t, f t)) ts)) ≡ mine (rule_of h ts) ts
+  table_law (head.Int op.Add) ts h = pair_law (λ us. meant (linear.rule_of (head.Int op.Add) us)) Sum refl (λ a. refl) agree.sum (λ a b c r. refl) ts
+  table_law (head.Int op.Sub) ts h = pair_law (λ us. meant (linear.rule_of (head.Int op.Sub) us)) Difference refl (λ a. refl) agree.difference (λ a b c r. refl) ts
+  table_law (head.Int op.Neg) ts h = negation_law (λ us. meant (linear.rule_of (head.Int op.Neg) us)) refl agree.negation (λ a b r. refl) ts
+  table_law (head.Int op.Mul) ts h = pair_law (λ us. meant (linear.rule_of (head.Int op.Mul) us)) Product refl (λ a. refl) agree.product (λ a b c r. refl) ts
+  table_law (head.Int op.Div) ts h = agree.opaque ts
+  table_law (head.Int op.Mod) ts h = agree.opaque ts
+  table_law (head.Real op.Add) ts h = pair_law (λ us. meant (linear.rule_of (head.Real op.Add) us)) Sum refl (λ a. refl) agree.sum (λ a b c r. refl) ts
+  table_law (head.Real op.Sub) ts h = pair_law (λ us. meant (linear.rule_of (head.Real op.Sub) us)) Difference refl (λ a. refl) agree.difference (λ a b c r. refl) ts
+  table_law (head.Real op.Neg) ts h = negation_law (λ us. meant (linear.rule_of (head.Real op.Neg) us)) refl agree.negation (λ a b r. refl) ts
+  table_law (head.Real op.Mul) ts h = pair_law (λ us. meant (linear.rule_of (head.Real op.Mul) us)) Product refl (λ a. refl) agree.product (λ a b c r. refl) ts
+  table_law (head.Real op.Div) ts h = quotient_law ts h
+  table_law (head.Real op.Mod) ts h = agree.opaque ts
+  table_law (head.Symbol n) ts h = agree.opaque ts
+  table_law (head.Build n) ts h = agree.opaque ts
+  table_law (head.Field n m) ts h = agree.opaque ts
+  table_law head.True ts h = agree.opaque ts
+  table_law head.False ts h = agree.opaque ts
+  table_law head.Void ts h = agree.opaque ts
 
 -- ---- the rules of computations
-pick_rule : (f : Term → Computation) (b : Bool) (r : Rule) (whole : Term) (ts : List Term) → cond b (ruled f r whole ts) (opaque whole) ≡ ruled f (cond b r Opaque) whole ts
-pick_rule f true r whole ts = refl
-pick_rule f false r whole ts = refl
-
 by_divisor : (whole : Term) (a : Computation) (f : Term → Computation) (ts : List Term) (t : Term) → f (at ts 0) ≡ a → divided_by whole a t ≡ ruled f (divisor_rule t) whole ts
 by_divisor whole a f ts (Num n d real) e =
     elim (int_eq n (pos 0)) as (λ b. cond b (opaque whole) (scaled (inverse_top (numeral n d)) (inverse_bottom (numeral n d)) a) ≡ ruled f (cond b Opaque (Scale (inverse_top (numeral n d)) (inverse_bottom (numeral n d)))) whole ts) [
@@ -97,43 +135,24 @@ by_divisor whole a f ts (Num n d real) e =
     ]
 by_divisor whole a f ts _ e = refl
 
-module _ (whole : Term) (f : Term → Computation) where
-  pair_computed : (h : Head) (o : Operation) → applied whole h [] ≡ opaque whole → ((a : Term × Computation) → applied whole h (a ∷ []) ≡ opaque whole) → ((a b : Term × Computation) → applied whole h (a ∷ b ∷ []) ≡ joined o whole a.1 b.1)
-      → ((a b c : Term × Computation) (r : List (Term × Computation)) → applied whole h (a ∷ b ∷ c ∷ r) ≡ opaque whole) → (ts : List Term) → applied whole h (map (λ t. (t, f t)) ts) ≡ ruled f (pair_rule o (length ts)) whole ts
-  pair_computed h o p q r s ts =
-      two_law Computation f (applied whole h) (opaque whole) (λ a b. joined o whole a.1 b.1) p q r s ts ∙ pick_rule f (nat_eq (length ts) 2) (Pair o) whole ts
+anything : (ts : List Term) → AllByRecursion (λ t. Unit {0}) ts
+anything [] = tt
+anything (t ∷ ts) = (tt, anything ts)
 
-  negation_computed : (h : Head) → applied whole h [] ≡ opaque whole → ((a : Term × Computation) → applied whole h (a ∷ []) ≡ scaled (neg_ℤ (pos 1)) (pos 1) a.1)
-      → ((a b : Term × Computation) (r : List (Term × Computation)) → applied whole h (a ∷ b ∷ r) ≡ opaque whole) → (ts : List Term) → applied whole h (map (λ t. (t, f t)) ts) ≡ ruled f (operation_rule op.Neg (length ts)) whole ts
-  negation_computed h p q s ts = one_law Computation f (applied whole h) (opaque whole) (scaled (neg_ℤ (pos 1)) (pos 1)) p q s ts ∙ pick_rule f (nat_eq (length ts) 1) (Scale (neg_ℤ (pos 1)) (pos 1)) whole ts
-
-  quotient_computed : (ts : List Term) → applied whole (head.Real op.Div) (map (λ t. (t, f t)) ts) ≡ ruled f (quotient_rule ts) whole ts
-  quotient_computed ts =
-      two_law Computation f (applied whole (head.Real op.Div)) (opaque whole) (λ a b. divided_by whole a.1 b.0) refl (λ a. refl) (λ a b. refl) (λ a b c r. refl) ts
-      ∙ ap (λ z. cond (nat_eq (length ts) 2) z (opaque whole)) (by_divisor whole (f (at ts 0)) f ts (at ts 1) refl) ∙ pick_rule f (nat_eq (length ts) 2) (divisor_rule (at ts 1)) whole ts
-
-  applied_ruled : (h : Head) (ts : List Term) → applied whole h (map (λ t. (t, f t)) ts) ≡ ruled f (rule_of h ts) whole ts
-  applied_ruled (head.Int op.Add) ts = pair_computed (head.Int op.Add) Sum refl (λ a. refl) (λ a b. refl) (λ a b c r. refl) ts
-  applied_ruled (head.Int op.Sub) ts = pair_computed (head.Int op.Sub) Difference refl (λ a. refl) (λ a b. refl) (λ a b c r. refl) ts
-  applied_ruled (head.Int op.Neg) ts = negation_computed (head.Int op.Neg) refl (λ a. refl) (λ a b r. refl) ts
-  applied_ruled (head.Int op.Mul) ts = pair_computed (head.Int op.Mul) Product refl (λ a. refl) (λ a b. refl) (λ a b c r. refl) ts
-  applied_ruled (head.Int op.Div) ts = refl
-  applied_ruled (head.Int op.Mod) ts = refl
-  applied_ruled (head.Real op.Add) ts = pair_computed (head.Real op.Add) Sum refl (λ a. refl) (λ a b. refl) (λ a b c r. refl) ts
-  applied_ruled (head.Real op.Sub) ts = pair_computed (head.Real op.Sub) Difference refl (λ a. refl) (λ a b. refl) (λ a b c r. refl) ts
-  applied_ruled (head.Real op.Neg) ts = negation_computed (head.Real op.Neg) refl (λ a. refl) (λ a b r. refl) ts
-  applied_ruled (head.Real op.Mul) ts = pair_computed (head.Real op.Mul) Product refl (λ a. refl) (λ a b. refl) (λ a b c r. refl) ts
-  applied_ruled (head.Real op.Div) ts = quotient_computed ts
-  applied_ruled (head.Real op.Mod) ts = refl
-  applied_ruled (head.Symbol n) ts = refl
-  applied_ruled (head.Build n) ts = refl
-  applied_ruled (head.Field n m) ts = refl
-  applied_ruled head.True ts = refl
-  applied_ruled head.False ts = refl
-  applied_ruled head.Void ts = refl
+computations_agree : (whole : Term) → Agree Computation computed (λ t. Unit {0}) (table.ruled whole) (λ r ts. ruled computed r whole ts)
+computations_agree whole = record {
+  opaque = λ ts. refl;
+  sum = λ a b. refl;
+  difference = λ a b. refl;
+  product = λ a b. refl;
+  negation = λ a. refl;
+  quotient = λ a b u. by_divisor whole (computed a) computed (a ∷ b ∷ []) b refl;
+}
 
 pub ruled_computed : (h : Head) (ss : List Sort) (ts : List Term) → computed (Apply h ss ts) ≡ ruled computed (rule_of h ts) (Apply h ss ts) ts
-ruled_computed h ss ts = computed-Apply h ss ts ∙ applied_ruled (Apply h ss ts) computed h ts
+ruled_computed h ss ts =
+    computed-Apply h ss ts
+    ∙ table_law Computation computed (λ t. Unit {0}) (table.ruled (Apply h ss ts)) (λ r us. ruled computed r (Apply h ss ts) us) (computations_agree (Apply h ss ts)) h ts (anything ts)
 
 -- ---- sorted terms
 all_sorted : (sig : Signature) (ts : List Term) → known (all_known (map (sort_of sig) ts)) ≡ true → AllByRecursion IsSorted ts
@@ -232,10 +251,6 @@ inverse_parts (pos (suc m)) d n p = inverse_by (pos (suc m)) d d (pos (suc m)) n
 inverse_parts (negsuc m) d n p = inverse_by (negsuc m) d (neg_ℤ d) (pos (suc m)) n p (omega (arith, ints)) (flip m d) ∙ ap (λ b. ratio (cond b (neg_ℤ d) d) (pos (suc m))) (sym (below_zero m))
 
 -- ---- the rules of linear forms
-pick_form : (f : Term → Linear) (b : Bool) (r : Rule) (whole : Term) (ts : List Term) → cond b (ruled_form f r whole ts) (single whole) ≡ ruled_form f (cond b r Opaque) whole ts
-pick_form f true r whole ts = refl
-pick_form f false r whole ts = refl
-
 numeral_none : (n d : ℤ) → AreNumbers n d → (numeral n d).constant ≡ pos 0 → n ≡ pos 0
 numeral_none n d h e = ratio_none n d h.positive (sym (number_value n d h.positive h.top_within h.bottom_within) ∙ ap (λ z. ratio z (numeral n d).den) e ∙ ratio_zero (numeral n d).den)
 
@@ -256,57 +271,24 @@ divisor_form : (whole : Term) (f : Term → Linear) (ts : List Term) (t : Term) 
 divisor_form whole f ts (Num n d r) h = by_numeral whole f ts n d r (numbers_sorted n d r h) (int_eq n (pos 0)) refl
 divisor_form whole f ts _ h = refl
 
-module _ (whole : Term) (f : Term → Linear) where
-  pair_form : (h : Head) (o : Operation) → linear.applied whole h [] ≡ single whole → ((a : Term × Linear) → linear.applied whole h (a ∷ []) ≡ single whole) → ((a b : Term × Linear) → linear.applied whole h (a ∷ b ∷ []) ≡ joined_forms o whole a.1 b.1)
-      → ((a b c : Term × Linear) (r : List (Term × Linear)) → linear.applied whole h (a ∷ b ∷ c ∷ r) ≡ single whole) → (ts : List Term) → linear.applied whole h (map (λ t. (t, f t)) ts) ≡ ruled_form f (pair_rule o (length ts)) whole ts
-  pair_form h o p q r s ts =
-      two_law Linear f (linear.applied whole h) (single whole) (λ a b. joined_forms o whole a.1 b.1) p q r s ts ∙ pick_form f (nat_eq (length ts) 2) (Pair o) whole ts
+two_sorted : (ts : List Term) → AllByRecursion IsSorted ts → length ts ≡ 2 → IsSorted (at ts 1)
+two_sorted [] h e = absurd (omega (arith, e))
+two_sorted (a ∷ []) h e = absurd (omega (arith, e))
+two_sorted (a ∷ b ∷ ts) h e = (h.1).0
 
-  negation_form : (h : Head) → linear.applied whole h [] ≡ single whole → ((a : Term × Linear) → linear.applied whole h (a ∷ []) ≡ scale (neg_ℚ one_ℚ) a.1)
-      → ((a b : Term × Linear) (r : List (Term × Linear)) → linear.applied whole h (a ∷ b ∷ r) ≡ single whole) → (ts : List Term) → linear.applied whole h (map (λ t. (t, f t)) ts) ≡ ruled_form f (operation_rule op.Neg (length ts)) whole ts
-  negation_form h p q s ts =
-      one_law Linear f (linear.applied whole h) (single whole) (scale (neg_ℚ one_ℚ)) p q s ts ∙ ap (λ x. cond (nat_eq (length ts) 1) (scale x (f (at ts 0))) (single whole)) (sym minus_ratio)
-      ∙ pick_form f (nat_eq (length ts) 1) (Scale (neg_ℤ (pos 1)) (pos 1)) whole ts
-
-  two_sorted : (ts : List Term) → AllByRecursion IsSorted ts → length ts ≡ 2 → IsSorted (at ts 1)
-  two_sorted [] h e = absurd (omega (arith, e))
-  two_sorted (a ∷ []) h e = absurd (omega (arith, e))
-  two_sorted (a ∷ b ∷ ts) h e = (h.1).0
-
-  quotient_form : (ts : List Term) → AllByRecursion IsSorted ts → linear.applied whole (head.Real op.Div) (map (λ t. (t, f t)) ts) ≡ ruled_form f (quotient_rule ts) whole ts
-  quotient_form ts h =
-      two_law Linear f (linear.applied whole (head.Real op.Div)) (single whole) (λ a b. over whole a.1 b.0) refl (λ a. refl) (λ a b. refl) (λ a b c r. refl) ts
-      ∙ by_length (nat_eq (length ts) 2) refl ∙ pick_form f (nat_eq (length ts) 2) (divisor_rule (at ts 1)) whole ts
-    where
-      means : (m n : ℕ) → nat_eq m n ≡ true → m ≡ n
-      means m n h = grind (arith, nat_tests)
-
-      by_length : (b : Bool) → nat_eq (length ts) 2 ≡ b → cond (nat_eq (length ts) 2) (over whole (f (at ts 0)) (at ts 1)) (single whole) ≡ cond (nat_eq (length ts) 2) (ruled_form f (divisor_rule (at ts 1)) whole ts) (single whole)
-      by_length true e = ap (λ z. cond (nat_eq (length ts) 2) z (single whole)) (divisor_form whole f ts (at ts 1) (two_sorted ts h (means (length ts) 2 e)))
-      by_length false e = ap (λ b. cond b (over whole (f (at ts 0)) (at ts 1)) (single whole)) e ∙ sym (ap (λ b. cond b (ruled_form f (divisor_rule (at ts 1)) whole ts) (single whole)) e)
-
-  form_ruled : (h : Head) (ts : List Term) → AllByRecursion IsSorted ts → linear.applied whole h (map (λ t. (t, f t)) ts) ≡ ruled_form f (rule_of h ts) whole ts
-  form_ruled (head.Int op.Add) ts s = pair_form (head.Int op.Add) Sum refl (λ a. refl) (λ a b. refl) (λ a b c r. refl) ts
-  form_ruled (head.Int op.Sub) ts s = pair_form (head.Int op.Sub) Difference refl (λ a. refl) (λ a b. refl) (λ a b c r. refl) ts
-  form_ruled (head.Int op.Neg) ts s = negation_form (head.Int op.Neg) refl (λ a. refl) (λ a b r. refl) ts
-  form_ruled (head.Int op.Mul) ts s = pair_form (head.Int op.Mul) Product refl (λ a. refl) (λ a b. refl) (λ a b c r. refl) ts
-  form_ruled (head.Int op.Div) ts s = refl
-  form_ruled (head.Int op.Mod) ts s = refl
-  form_ruled (head.Real op.Add) ts s = pair_form (head.Real op.Add) Sum refl (λ a. refl) (λ a b. refl) (λ a b c r. refl) ts
-  form_ruled (head.Real op.Sub) ts s = pair_form (head.Real op.Sub) Difference refl (λ a. refl) (λ a b. refl) (λ a b c r. refl) ts
-  form_ruled (head.Real op.Neg) ts s = negation_form (head.Real op.Neg) refl (λ a. refl) (λ a b r. refl) ts
-  form_ruled (head.Real op.Mul) ts s = pair_form (head.Real op.Mul) Product refl (λ a. refl) (λ a b. refl) (λ a b c r. refl) ts
-  form_ruled (head.Real op.Div) ts s = quotient_form ts s
-  form_ruled (head.Real op.Mod) ts s = refl
-  form_ruled (head.Symbol n) ts s = refl
-  form_ruled (head.Build n) ts s = refl
-  form_ruled (head.Field n m) ts s = refl
-  form_ruled head.True ts s = refl
-  form_ruled head.False ts s = refl
-  form_ruled head.Void ts s = refl
+forms_agree : (whole : Term) → Agree Linear form IsSorted (linear.ruled whole) (λ r ts. ruled_form form r whole ts)
+forms_agree whole = record {
+  opaque = λ ts. refl;
+  sum = λ a b. refl;
+  difference = λ a b. refl;
+  product = λ a b. refl;
+  negation = λ a. ap (λ x. scale x (form a)) (sym minus_ratio);
+  quotient = λ a b s. divisor_form whole form (a ∷ b ∷ []) b s;
+}
 
 pub ruled_forms : (h : Head) (ss : List Sort) (ts : List Term) → AllByRecursion IsSorted ts → form (Apply h ss ts) ≡ ruled_form form (rule_of h ts) (Apply h ss ts) ts
-ruled_forms h ss ts s = form-Apply h ss ts ∙ form_ruled (Apply h ss ts) form h ts s
+ruled_forms h ss ts s =
+    form-Apply h ss ts ∙ table_law Linear form IsSorted (linear.ruled (Apply h ss ts)) (λ r us. ruled_form form r (Apply h ss ts) us) (forms_agree (Apply h ss ts)) h ts s
 
 -- ---- each rule has the arguments that it needs
 size_positive : (z : ℤ) → z ≢ pos 0 → pos 0 <ℤ pos (unsigned_abs z)
@@ -348,7 +330,7 @@ quotient_fits : (ts : List Term) → AllByRecursion IsSorted ts → Fits (quotie
 quotient_fits ts h = by_test (nat_eq (length ts) 2) refl
   where
     by_test : (b : Bool) → nat_eq (length ts) 2 ≡ b → Fits (cond b (divisor_rule (at ts 1)) Opaque) (length ts)
-    by_test true e = let q = test_means (length ts) 2 e in divisor_fits (at ts 1) (length ts) (omega (arith, q)) (two_sorted (Bound 0) form ts h q)
+    by_test true e = let q = test_means (length ts) 2 e in divisor_fits (at ts 1) (length ts) (omega (arith, q)) (two_sorted ts h q)
     by_test false e = tt
 
 pub rule_fits : (h : Head) (ts : List Term) → AllByRecursion IsSorted ts → Fits (rule_of h ts) (length ts)

@@ -4,8 +4,7 @@ use Rattle.std.proofs.Common.{arith, sym, subst}
 use denote.Param.Weighed.{most, at_most}
 use Rattle.ae_core.specs.declared.terms.Sort.{Sort}
 use Rattle.ae_core.specs.declared.terms.Head.{Head}
-use Rattle.ae_core.specs.declared.terms.Term.{Term, Apply, size-Term}
-use Rattle.ae_core.specs.declared.terms.Term.{size_is-Term}
+use Rattle.ae_core.specs.declared.terms.Term.{Term, Apply, size-Term, size_is-Term}
 use Rattle.ae_core.specs.declared.terms.Term.TheVariants.{outs-Apply}
 
 arguments_smaller : (h : Head) (ss : List Sort) (ts : List Term) → most size-Term ts < size-Term (Apply h ss ts)

@@ -5,7 +5,7 @@ use Rattle.std.proofs.Common.{arith, refl, sym, ap, ◌∙◌, subst, inl, inr}
 use Rattle.std.proofs.lemmas.List.{take_more, take-append-drop}
 use Rattle.std.proofs.lemmas.Option.{slice_get-get_or, slice_get_past, same_Some}
 use Rattle.std.proofs.lemmas.Bool.{cases_lt}
-use Rattle.ae_math.specs.Fractions.{zero_ℚ}
+use Rattle.ae_math.specs.Fractions.{zero_ℚ, whole}
 use Rattle.ae_math.specs.Forms.{plus, scale, number}
 use Rattle.ae_math.proofs.FormLaws.{plus_comm, plus_assoc, plus-same, same_refl, same_trans}
 use Rattle.ae_num.specs.declared.forms.Lin.{Lin}
@@ -13,15 +13,15 @@ use Rattle.ae_num.specs.declared.numbers.NumFail.{NumFail}
 use Rattle.ae_num.specs.Forms.{IsNormal, IfWide, first_wide}
 use Rattle.ae_num.proofs.StepLaws.{first_wide-none, first_wide-some}
 use Rattle.ae_core.specs.Decided.{Term_discrete}
-use Rattle.ae_core.specs.Linear.{Linear, IsSame}
-use Rattle.ae_core.specs.Lines.{Fact, states, whole}
+use Rattle.ae_rules.specs.Linear.{Linear, IsSame}
+use Rattle.ae_rules.specs.Lines.{Fact, states}
 use Rattle.ae_core.specs.declared.terms.Term.{Term}
 use Rattle.ae_core.specs.declared.proofs.EqLine.{EqLine}
 use Rattle.ae_core.specs.declared.proofs.Scaled.{Scaled}
 use Rattle.ae_core.specs.declared.proofs.Relation.{Relation}
 use Rattle.ae_numeric.specs.Stated.{Computation, known, nought, scaled, added, added_up, sum_steps}
 use Rattle.ae_numeric.specs.Computing.{IsSorted, AreDistinct, IsResult, IsFormOf, IsWideIn}
-use Rattle.ae_numeric.specs.Sums.{summed, meant, facts_of, meant_sum, IsSummand, IsRunning}
+use Rattle.ae_numeric.specs.Inner.Sums.{summed, meant, facts_of, meant_sum, IsSummand, IsRunning}
 use Rattle.ae_numeric.proofs.Meanings.{means_same, kept_twice, kept_form, equal_forms, same_meanings}
 use Rattle.ae_numeric.proofs.Computations.{added_up_push, added_up_append, added_to_result, added_to_wide, more_wide, wide_too}
 

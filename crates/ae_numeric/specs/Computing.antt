@@ -1,11 +1,11 @@
 -- What a computation of a linear form answers: the form of a term over numbered keys, in the normal form.
-use Rattle.std.specs.Prelude.{◌<◌, ◌≡◌, ◌≢◌, true, List, map, length, get_or, Some, None}
+use Rattle.std.specs.Prelude.{ℕ, ◌<◌, ◌≡◌, ◌≢◌, true, List, map, length, slice_get, get_or, Some, None}
 use Rattle.std.specs.List.{AllByRecursion, AllPairs}
 use Rattle.ae_math.specs.Fractions.{ratio}
 use Rattle.ae_num.specs.Forms.{IsNormal, first_wide, IfWide}
 use Rattle.ae_num.specs.declared.forms.Lin.{Lin}
 use Rattle.ae_num.specs.declared.numbers.NumFail.{NumFail}
-use Rattle.ae_core.specs.Linear.{Linear, IsSame}
+use Rattle.ae_rules.specs.Linear.{Linear, IsSame}
 use Rattle.ae_core.specs.Sorts.{term_ok}
 use Rattle.ae_core.specs.declared.terms.Term.{Term, Bound}
 use Rattle.ae_core.specs.declared.problems.Signature.{Signature}
@@ -42,3 +42,7 @@ IsWideIn c before fail = IfWide fail (λ w. first_wide (c before).steps ≡ Some
 -- the term is closed and well sorted
 abbrev pub IsSorted : Term → Type 0
 IsSorted t = (sig : Signature) × (term_ok sig t ≡ true)
+
+-- the first keys are those from before
+abbrev pub Keeps : List Term → List Term → Type 0
+Keeps before after = (k : ℕ) → k < length before → slice_get after k ≡ slice_get before k

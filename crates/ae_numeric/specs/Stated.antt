@@ -3,17 +3,17 @@
 use Rattle.std.specs.Prelude.{ℕ, zero, suc, ℤ, pos, neg_ℤ, Bool, true, false, cond, ◌&&◌, int_lt, unsigned_abs, List, [], ◌∷◌, ◌++◌, map, slice_get, Option, Some, None}
 use Rattle.std.specs.List.{list_all}
 use Rattle.std.specs.Ordering.{int_eq}
-use Rattle.ae_math.specs.Choices.{pick}
+use Rattle.ae_base.specs.Decided.{pick}
 use Rattle.ae_num.specs.Forms.{Step, plus_steps, scale_steps, sum_of, multiple_of, lowest}
 use Rattle.ae_num.specs.declared.forms.Lin.{Lin}
 use Rattle.ae_core.specs.Decided.{Term_discrete}
-use Rattle.ae_core.specs.Sorts.{sort_of, same_numeric, all_known, ◌>>=◌}
-use Rattle.ae_core.specs.Lines.{Fact, equal, at_most, below, states}
+use Rattle.ae_core.specs.Sorts.{sort_of, same_numeric}
+use Rattle.ae_base.specs.Options.{all_known, ◌>>=◌, or_else, when}
+use Rattle.ae_rules.specs.Linear.{Rule, rule_of, opaque_term, sum_of as sum_rule, difference_of as difference_rule, negation_of as negation_rule, product_of as product_rule, quotient_of as quotient_rule}
+use Rattle.ae_rules.specs.Lines.{Fact, equal, at_most, below, states}
 use Rattle.ae_core.specs.declared.terms.Term.{Term, Term-F, Bound, Num, Fresh, Apply, para-Term}
 use Rattle.ae_core.specs.declared.terms.Term.TheOpen as layer
 use Rattle.ae_core.specs.declared.terms.Head.{Head}
-use Rattle.ae_core.specs.declared.terms.Head.TheVariants as head
-use Rattle.ae_core.specs.declared.terms.Op.TheVariants as op
 use Rattle.ae_core.specs.declared.problems.Signature.{Signature}
 use Rattle.ae_core.specs.declared.proofs.EqLine.{EqLine}
 use Rattle.ae_core.specs.declared.proofs.EqLine.TheVariants.{EqLin, LeSum, LtSum, LeRound}
@@ -116,18 +116,17 @@ divided_by whole a (Num n d real) =
     cond (int_eq n (pos 0)) (opaque whole) (scaled (inverse_top (numeral n d)) (inverse_bottom (numeral n d)) a)
 divided_by whole a _ = opaque whole
 
--- an application to arguments, each with its computation
+-- the computation of an application, of arguments that each stand with theirs, by the one table of the arithmetic that is computed
+abbrev pub ruled : Term → Rule (Term × Computation) → Computation
+ruled whole opaque_term = opaque whole
+ruled whole (sum_rule a b) = added a.1 b.1
+ruled whole (difference_rule a b) = subtracted a.1 b.1
+ruled whole (negation_rule a) = scaled (neg_ℤ (pos 1)) (pos 1) a.1
+ruled whole (product_rule a b) = multiplied whole a.1 b.1
+ruled whole (quotient_rule a b) = divided_by whole a.1 b.0
+
 abbrev pub applied : Term → Head → List (Term × Computation) → Computation
-applied whole (head.Int op.Add) (a ∷ b ∷ []) = added a.1 b.1
-applied whole (head.Int op.Sub) (a ∷ b ∷ []) = subtracted a.1 b.1
-applied whole (head.Int op.Neg) (a ∷ []) = scaled (neg_ℤ (pos 1)) (pos 1) a.1
-applied whole (head.Int op.Mul) (a ∷ b ∷ []) = multiplied whole a.1 b.1
-applied whole (head.Real op.Add) (a ∷ b ∷ []) = added a.1 b.1
-applied whole (head.Real op.Sub) (a ∷ b ∷ []) = subtracted a.1 b.1
-applied whole (head.Real op.Neg) (a ∷ []) = scaled (neg_ℤ (pos 1)) (pos 1) a.1
-applied whole (head.Real op.Mul) (a ∷ b ∷ []) = multiplied whole a.1 b.1
-applied whole (head.Real op.Div) (a ∷ b ∷ []) = divided_by whole a.1 b.0
-applied whole _ _ = opaque whole
+applied whole h args = ruled whole (rule_of h args)
 
 abbrev pub computed_step : Term-F (Term × Computation) → Computation
 computed_step (layer.Bound n) = opaque (Bound n)
@@ -189,27 +188,37 @@ of_one_sort sig f g =
     same_numeric (sort_of sig f.left) (sort_of sig f.right) && same_numeric (sort_of sig f.left) (sort_of sig g.left)
     && same_numeric (sort_of sig f.left) (sort_of sig g.right)
 
--- steps, where there is what they ask for
-abbrev pub steps_where : {A : Type 0} → Option A → (A → Bool) → (A → List Step) → List Step
-steps_where (Some x) test steps = cond (test x) (steps x) []
-steps_where None test steps = []
+-- what is stated of a thing, where it is there
+abbrev pub steps_of : {A : Type 0} → Option A → (A → List Step) → List Step
+steps_of o steps = or_else (o >>= λ x. Some (steps x)) []
+
+-- the facts of the parts, where each is of the kind and all terms, those of the line too, are of one numeric sort
+abbrev pub fitting : Signature → List EqLine → (Fact → Bool) → Fact → List Scaled → Option (List (ℤ × Fact))
+fitting sig earlier kind fact ps =
+    facts_at earlier ps >>= λ fs. when (list_all (λ f. kind f.1) fs && of_one_sort sig fact fact && list_all (λ f. of_one_sort sig fact f.1) fs) fs
+
+-- the fact of an earlier line, where it is of the kind and its terms and those of another fact are of one numeric sort
+abbrev pub fitting_fact : Signature → List EqLine → (Fact → Bool) → Fact → ℕ → Option Fact
+fitting_fact sig earlier kind fact k = fact_at earlier k >>= λ f. when (kind f && of_one_sort sig fact f) f
+
+-- the fact of a line, where it is of the kind and its terms are of one numeric sort
+abbrev pub numeric_fact : Signature → List EqLine → (Fact → Bool) → ℕ → Option Fact
+numeric_fact sig lines kind k = fact_at lines k >>= λ f. when (kind f && of_one_sort sig f f) f
 
 abbrev pub sum_line_steps : Signature → List EqLine → (Fact → Bool) → (Fact → Computation) → ℤ → Fact → List Scaled → List Step
-sum_line_steps sig earlier fits gap d fact ps =
-    steps_where (facts_at earlier ps) (λ fs. list_all (λ f. fits f.1) fs && of_one_sort sig fact fact && list_all (λ f. of_one_sort sig fact f.1) fs) (sum_steps gap d fact)
+sum_line_steps sig earlier kind gap d fact ps = steps_of (fitting sig earlier kind fact ps) (sum_steps gap d fact)
 
 -- what a derived line states after the earlier ones: nothing but where its numbers are those of lines of the kind that it needs, and its terms are of one numeric sort
 abbrev pub line_steps : Signature → List EqLine → EqLine → List Step
 line_steps sig earlier (EqLin s t d ps) = sum_line_steps sig earlier is_equation forward d (equal s t) ps
 line_steps sig earlier (LeSum s t d ps) = sum_line_steps sig earlier (λ f. true) backward d (at_most s t) ps
 line_steps sig earlier (LtSum s t d ps) = sum_line_steps sig earlier (λ f. true) backward d (below s t) ps
-line_steps sig earlier (LeRound s t k) =
-    steps_where (fact_at earlier k) (λ f. is_inequality f && of_one_sort sig (at_most s t) f) (λ f. round_steps f (at_most s t))
+line_steps sig earlier (LeRound s t k) = steps_of (fitting_fact sig earlier is_inequality (at_most s t) k) (λ f. round_steps f (at_most s t))
 line_steps sig earlier _ = []
 
 -- what an ending states: the difference that it speaks of
 abbrev pub ending_steps : Signature → List EqLine → Ending → List Step
-ending_steps sig lines (ending.Const k) = steps_where (fact_at lines k) (λ f. is_equation f && of_one_sort sig f f) (λ f. (forward f []).steps)
-ending_steps sig lines (ending.Zero k) = steps_where (fact_at lines k) (λ f. is_inequality f && of_one_sort sig f f) (λ f. (backward f []).steps)
-ending_steps sig lines (ending.Gcd k) = steps_where (fact_at lines k) (λ f. is_equation f && of_one_sort sig f f) (λ f. (forward f []).steps)
+ending_steps sig lines (ending.Const k) = steps_of (numeric_fact sig lines is_equation k) (λ f. (forward f []).steps)
+ending_steps sig lines (ending.Zero k) = steps_of (numeric_fact sig lines is_inequality k) (λ f. (backward f []).steps)
+ending_steps sig lines (ending.Gcd k) = steps_of (numeric_fact sig lines is_equation k) (λ f. (forward f []).steps)
 ending_steps sig lines _ = []

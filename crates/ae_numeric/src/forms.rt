@@ -3,13 +3,13 @@ ghost use Rattle.std.specs.Prelude.{◌≡◌, ◌<ℤ◌, ◌<◌, ◌++◌, po
 ghost use Rattle.std.specs.List.{AllByRecursion};
 ghost use Rattle.ae_math.specs.Forms.{single as only, minus, scale as multiple};
 ghost use Rattle.ae_num.specs.Forms.{IsNormal, meaning, SameMeaning, sum_of, multiple_of, plus_steps, scale_steps, first_wide, IfWide};
-ghost use Rattle.ae_core.specs.Linear as linear;
+ghost use Rattle.ae_rules.specs.Linear as linear;
 ghost use Rattle.ae_core.specs.declared.terms.Term.{Term};
 ghost use Rattle.ae_numeric.specs.Stated.{computed, opaque, subtracted, known, inverse_top, inverse_bottom};
 ghost use Rattle.ae_numeric.specs.Computing.{AreDistinct, IsFormOf, IsResult, IsWideIn, IsSorted};
-ghost use Rattle.ae_numeric.specs.Keyed.{Keeps};
-ghost use Rattle.ae_numeric.specs.Rules as spec;
-ghost use Rattle.ae_numeric.specs.Rules.{at, joined, joined_forms, Fits, AreResults, IsWideInBoth};
+ghost use Rattle.ae_numeric.specs.Computing.{Keeps};
+ghost use Rattle.ae_numeric.specs.Inner.Rules as spec;
+ghost use Rattle.ae_numeric.specs.Inner.Rules.{at, joined, joined_forms, Fits, AreResults, IsWideInBoth};
 ghost use Rattle.ae_numeric.specs.declared.forms.Rule.TheVariants.{Scale};
 ghost use Rattle.ae_numeric.specs.declared.forms.Operation.TheVariants.{Product};
 

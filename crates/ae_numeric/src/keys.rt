@@ -7,7 +7,7 @@ ghost use Rattle.std.proofs.lemmas.Cmp.{eq_by_cmp_equiv};
 ghost use Rattle.ae_core.specs.Orders.{term_order};
 ghost use Rattle.ae_core.specs.declared.terms.Term.{Term};
 ghost use Rattle.ae_numeric.specs.Stated.{place_of, with_key};
-ghost use Rattle.ae_numeric.specs.Keyed.{term_total, place_in};
+ghost use Rattle.ae_numeric.specs.Inner.Keyed.{term_total, place_in};
 
 use ae_core::lists::List;
 use ae_core::orders::compare_terms;
@@ -88,7 +88,7 @@ impl<'a> Model for Keys<'a> {
     ghost use Rattle.ae_core.specs.Orders.{term_order};
     ghost use Rattle.ae_core.specs.contracts.terms.Term as term_contract;
     ghost use Rattle.ae_core.specs.declared.terms.Term.{Term};
-    ghost use Rattle.ae_numeric.specs.Keyed.{IsIndex};
+    ghost use Rattle.ae_numeric.specs.Inner.Keyed.{IsIndex};
 
     ghost Value = { List Term };
 

@@ -3,7 +3,6 @@
 #![tactic(auto)]
 
 pub mod combinations;
-pub mod facts;
 pub mod forms;
 pub mod keys;
 pub mod rounding;

@@ -4,18 +4,18 @@ ghost use Rattle.std.specs.List.{AllByRecursion};
 ghost use Rattle.std.specs.Int.{◌∣◌};
 ghost use Rattle.ae_math.specs.Forms.{minus, plus as sum_of_forms};
 ghost use Rattle.ae_num.specs.Forms.{meaning, SameMeaning, IsNormal, IsCommonDivisor, first_wide, IfWide, plus_steps, sum_of};
-ghost use Rattle.ae_core.specs.Linear.{form};
+ghost use Rattle.ae_rules.specs.Linear.{form};
 ghost use Rattle.ae_core.specs.Sorts as sorts;
-ghost use Rattle.ae_core.specs.Lines.{AllowedRound, IsFloor, at_most, equal, gap};
-ghost use Rattle.ae_core.specs.Derivations.{EndsGcd};
+ghost use Rattle.ae_base.specs.Options as sorts_options;
+ghost use Rattle.ae_rules.specs.Lines.{AllowedRound, IsFloor, at_most, equal, gap};
+ghost use Rattle.ae_rules.specs.Derivations.{EndsGcd, HasNoSolution};
 ghost use Rattle.ae_core.specs.declared.proofs.EqLine.TheVariants.{LeRound};
 ghost use Rattle.ae_core.specs.declared.proofs.Ending.TheVariants.{Gcd};
 ghost use Rattle.ae_numeric.specs.Stated.{computed, subtracted, taken_down, line_steps, ending_steps, round_steps, of_one_sort, forward};
 ghost use Rattle.ae_numeric.specs.Stated as spec;
 ghost use Rattle.ae_numeric.specs.Computing.{IsSorted, AreDistinct, IsResult, IsFormOf, IsWideIn};
-ghost use Rattle.ae_numeric.specs.Rounding.{IsRounded, lowered, IsUnsolvable, IsQuotient, IsApart, factor_sizes, times_part};
+ghost use Rattle.ae_numeric.specs.Inner.Rounding.{IsRounded, lowered, IsQuotient, IsApart, factor_sizes, times_part};
 
-use crate::facts::stated;
 use crate::forms::difference;
 use crate::keys::Keys;
 use ae_core::problems::Signature;
@@ -23,6 +23,7 @@ use ae_core::proofs::{EqLine, Relation};
 use ae_core::sorts::{is_sort, same_numeric, sort_of};
 use ae_core::terms::{Sort, Term};
 use ae_num::forms::{Lin, Part, fraction, plus};
+use ae_rules::facts::stated;
 use ae_num::numbers::{NumFail, gcd};
 use std::alloc::{AllocError, Global};
 
@@ -182,7 +183,7 @@ fn rounds(
 fn is_unsolvable(alloc: Global, left: &Term, right: &Term) -> Result<bool, NumFail>
     requires left { IsSorted left.now }
     requires right { IsSorted right.now }
-    ensures exact { IfOk result (λ b. IsTrue b ↔ IsUnsolvable (gap (equal left.now right.now))) }
+    ensures exact { IfOk result (λ b. IsTrue b ↔ HasNoSolution (gap (equal left.now right.now))) }
     ensures fits { OnOk result (first_wide (forward (equal left.now right.now) []).steps ≡ None) }
     ensures wide { IfErr result (λ fail. IfWide fail (λ w. first_wide (forward (equal left.now right.now) []).steps ≡ Some w)) }
 {
@@ -198,7 +199,7 @@ fn numeric_sort(
     left: &Term,
     right: &Term,
 ) -> Result<Option<Sort>, AllocError>
-    ensures { IfOk result (λ sort. sort ≡ sorts.only (sorts.same_numeric (sorts.sort_of signature.now left.now) (sorts.sort_of signature.now right.now)) (sorts.sort_of signature.now left.now)) }
+    ensures { IfOk result (λ sort. sort ≡ sorts_options.only (sorts.same_numeric (sorts.sort_of signature.now left.now) (sorts.sort_of signature.now right.now)) (sorts.sort_of signature.now left.now)) }
 {
     let sort = sort_of(alloc, signature, left)?;
     let other = sort_of(alloc, signature, right)?;
@@ -218,7 +219,7 @@ fn shared_sort(
     low: &Term,
     high: &Term,
 ) -> Result<Option<Sort>, AllocError>
-    ensures { IfOk result (λ sort. sort ≡ sorts.only (of_one_sort signature.now (at_most left.now right.now) (at_most low.now high.now)) (sorts.sort_of signature.now left.now)) }
+    ensures { IfOk result (λ sort. sort ≡ sorts_options.only (of_one_sort signature.now (at_most left.now right.now) (at_most low.now high.now)) (sorts.sort_of signature.now left.now)) }
 {
     let sort = numeric_sort(alloc, signature, left, right)?;
     let from = sort_of(alloc, signature, low)?;

@@ -14,18 +14,18 @@ use Rattle.ae_pmap.proofs.Opened.{Opened}
 use Rattle.ae_pmap.proofs.Searches.{parts, entries}
 
 -- the first pair of a list, or else another
-abbrev pub or_else : Option (ℕ × ℕ) → Option (ℕ × ℕ) → Option (ℕ × ℕ)
-or_else None b = b
-or_else (Some p) b = Some p
+abbrev pub first_or : Option (ℕ × ℕ) → Option (ℕ × ℕ) → Option (ℕ × ℕ)
+first_or None b = b
+first_or (Some p) b = Some p
 
 abbrev pub next_pair : Option ℕ → List (ℕ × ℕ) → Option (ℕ × ℕ)
 next_pair last ps = first_of (left_after last ps)
 
-pub next-left : (last : Option ℕ) (k v : ℕ) (ps qs : List (ℕ × ℕ)) → IsPast last k → next_pair last (ps ++ (k, v) ∷ qs) ≡ or_else (next_pair last ps) (Some (k, v))
+pub next-left : (last : Option ℕ) (k v : ℕ) (ps qs : List (ℕ × ℕ)) → IsPast last k → next_pair last (ps ++ (k, v) ∷ qs) ≡ first_or (next_pair last ps) (Some (k, v))
 next-left None k v [] qs h = refl
 next-left None k v (p ∷ ps) qs h = refl
 next-left (Some last) k v [] qs h = grind (arith, nat_tests)
-next-left (Some last) k v (p ∷ ps) qs h = elim (cases_lt last p.0) as (λ _. next_pair (Some last) (p ∷ (ps ++ (k, v) ∷ qs)) ≡ or_else (next_pair (Some last) (p ∷ ps)) (Some (k, v))) [
+next-left (Some last) k v (p ∷ ps) qs h = elim (cases_lt last p.0) as (λ _. next_pair (Some last) (p ∷ (ps ++ (k, v) ∷ qs)) ≡ first_or (next_pair (Some last) (p ∷ ps)) (Some (k, v))) [
   | inl lt ↦ grind (arith, nat_tests)
   | inr ge ↦ grind (arith, nat_tests, next-left (Some last) k v ps qs h)
 ]
@@ -39,9 +39,9 @@ pub none_next : (last : Option ℕ) → next_pair last [] ≡ None
 none_next None = refl
 none_next (Some last) = refl
 
-pub or_else-assoc : (a : Option (ℕ × ℕ)) (p : ℕ × ℕ) (b : Option (ℕ × ℕ)) → or_else (or_else a (Some p)) b ≡ or_else a (Some p)
-or_else-assoc None p b = refl
-or_else-assoc (Some q) p b = refl
+pub first_or-assoc : (a : Option (ℕ × ℕ)) (p : ℕ × ℕ) (b : Option (ℕ × ℕ)) → first_or (first_or a (Some p)) b ≡ first_or a (Some p)
+first_or-assoc None p b = refl
+first_or-assoc (Some q) p b = refl
 
 -- what the walk still has after a pair
 left-all : (last : ℕ) (ps : List (ℕ × ℕ)) → AllAbove last ps → left_after (Some last) ps ≡ ps
@@ -84,16 +84,16 @@ none_left (x ∷ xs) e = cc
 
 -- a search for the next pair at a node
 module _ (nodes : List Node) (place : ℕ) (n : Node) (o : Opened nodes place n) (rises : Rises (pairs (tree_at nodes place))) (last : Option ℕ) (best : Option (ℕ × ℕ)) where
-  pub walk_left : IsPast last n.key → or_else (next_pair last (pairs (tree_at nodes n.left))) (Some (n.key, n.value)) ≡ or_else (next_pair last (pairs (tree_at nodes place))) best
+  pub walk_left : IsPast last n.key → first_or (next_pair last (pairs (tree_at nodes n.left))) (Some (n.key, n.value)) ≡ first_or (next_pair last (pairs (tree_at nodes place))) best
   walk_left h =
-      sym (ap (λ (ps : List (ℕ × ℕ)). or_else (next_pair last ps) best) (entries nodes place n o rises)
-      ∙ (ap (λ (p : Option (ℕ × ℕ)). or_else p best) (next-left last n.key n.value (pairs (tree_at nodes n.left)) (pairs (tree_at nodes n.right)) h)
-      ∙ or_else-assoc (next_pair last (pairs (tree_at nodes n.left))) (n.key, n.value) best))
+      sym (ap (λ (ps : List (ℕ × ℕ)). first_or (next_pair last ps) best) (entries nodes place n o rises)
+      ∙ (ap (λ (p : Option (ℕ × ℕ)). first_or p best) (next-left last n.key n.value (pairs (tree_at nodes n.left)) (pairs (tree_at nodes n.right)) h)
+      ∙ first_or-assoc (next_pair last (pairs (tree_at nodes n.left))) (n.key, n.value) best))
 
-  pub walk_right : ¬ (IsPast last n.key) → or_else (next_pair last (pairs (tree_at nodes n.right))) best ≡ or_else (next_pair last (pairs (tree_at nodes place))) best
+  pub walk_right : ¬ (IsPast last n.key) → first_or (next_pair last (pairs (tree_at nodes n.right))) best ≡ first_or (next_pair last (pairs (tree_at nodes place))) best
   walk_right h =
-      sym (ap (λ (ps : List (ℕ × ℕ)). or_else (next_pair last ps) best) (entries nodes place n o rises)
-      ∙ ap (λ (p : Option (ℕ × ℕ)). or_else p best) (next-right last n.key n.value (pairs (tree_at nodes n.left)) (pairs (tree_at nodes n.right)) h (parts nodes place n o rises).below))
+      sym (ap (λ (ps : List (ℕ × ℕ)). first_or (next_pair last ps) best) (entries nodes place n o rises)
+      ∙ ap (λ (p : Option (ℕ × ℕ)). first_or p best) (next-right last n.key n.value (pairs (tree_at nodes n.left)) (pairs (tree_at nodes n.right)) h (parts nodes place n o rises).below))
 
 -- the next pair names a value
 above_named : (n last : ℕ) (ps : List (ℕ × ℕ)) (p : ℕ × ℕ) → AllNamed n ps → Some p ≡ first_of (left_above last ps) → p.1 < n

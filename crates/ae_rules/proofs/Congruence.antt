@@ -1,17 +1,13 @@
 -- Consequence is an equivalence and a congruence on well-sorted terms, and within the plain fragment.
-use Rattle.std.specs.Prelude.{ℤ, Bool, true, false, ◌&&◌, List, [], ◌∷◌, ◌≡◌, map, Option, Some, None}
+use Rattle.std.specs.Prelude.{ℤ, Bool, true, ◌&&◌, List, [], ◌∷◌, ◌≡◌, map}
 use Rattle.std.specs.List.{list_all}
 use mathlib.Core.Path.{refl, sym, ap, ◌∙◌}
-use Rattle.std.proofs.Common.{true≢false}
-use Rattle.std.proofs.lemmas.Bool.{and_parts}
-use Rattle.ae_core.specs.Decided.{Sort_discrete}
-use Rattle.ae_base.specs.Decided.{decided}
 use Rattle.ae_core.specs.declared.terms.Sort.{Sort}
 use Rattle.ae_core.specs.declared.terms.Head.{Head}
 use Rattle.ae_core.specs.declared.terms.Term.{Term, Apply}
 use Rattle.ae_core.specs.declared.formulas.Lit.{Lit}
 use Rattle.ae_core.specs.declared.problems.Signature.{Signature}
-use Rattle.ae_core.specs.Sorts.{sort_of, is_closed_sort, head_sort, same_known, same_numeric, is_numeric, term_ok}
+use Rattle.ae_core.specs.Sorts.{sort_of, is_closed_sort, head_sort, term_ok}
 use Rattle.ae_base.specs.Options.{known, all_known, only, ◌>>=◌}
 use Rattle.ae_rules.specs.Linear.{is_plain}
 use Rattle.ae_rules.specs.Lines.{Fact, equal, fact_ok, plain_ok, Equations, Conseq, PlainConseq, Follows, by_hyp, by_refl, by_sym, by_trans, by_cong, by_ac, by_lin, by_field, by_le_hyp, by_lt_hyp, by_le_sum, by_lt_sum, by_fields, by_round, FollowAll, none, more, FollowEach, no_fact, a_fact}
@@ -20,7 +16,6 @@ use Rattle.ae_core.proofs.SortLaws.{sort_in_apply}
 use Rattle.ae_core.proofs.SortFacts.{same_known_is, same_known_of}
 use Rattle.ae_rules.proofs.Respects.{follows_ok}
 use Rattle.ae_base.proofs.Tests.{three_parts}
-use Rattle.ae_base.proofs.Decided.{decided_yes, decided_of}
 
 -- ---- what follows with one choice of good facts follows with a wider one
 module _ (sig : Signature) (ok wider : Fact → Bool) (hyps : Lit → Type 0) (widen : (f : Fact) → ok f ≡ true → wider f ≡ true) where

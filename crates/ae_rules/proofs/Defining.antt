@@ -1,7 +1,7 @@
 -- The rows that a literal calls for at each kind of formula, and that each of their lines is allowed.
-use Rattle.std.specs.Prelude.{ℕ, Bool, true, false, List, [], ◌∷◌, ◌≡◌, map, Option, Some}
+use Rattle.std.specs.Prelude.{ℕ, Bool, true, false, List, [], ◌∷◌, ◌≡◌, map, Some}
 use Rattle.std.specs.List.{AllByRecursion}
-use mathlib.Core.Path.{sym, ap, ◌∙◌, subst}
+use mathlib.Core.Path.{sym, ap, subst}
 use Rattle.ae_core.specs.Inner.Induction.{by_formulas}
 use Rattle.ae_core.specs.Sorts.{formula_ok}
 use Rattle.ae_rules.specs.Clauses.{Clause, row}

@@ -1,10 +1,9 @@
 -- Linear forms of terms: one equation for each kind of term, and combinations of equations that hold.
-use Rattle.std.specs.Prelude.{ℕ, ℤ, pos, Bool, true, false, cond, List, [], ◌∷◌, ◌≡◌, ◌≢◌, map}
-use Rattle.std.specs.List.{AllByRecursion}
+use Rattle.std.specs.Prelude.{ℕ, ℤ, pos, Bool, false, cond, List, [], ◌∷◌, ◌≡◌, ◌≢◌, map}
 use mathlib.Core.Path.{refl, sym, ap, ◌∙◌}
 use Rattle.ae_math.specs.Fractions.{ℚ, zero_ℚ, one_ℚ, neg_ℚ, inverse_ℚ, ◌+ℚ◌, ◌*ℚ◌, ratio, whole}
 use Rattle.ae_math.proofs.Wholes.{whole_same, zero_whole}
-use Rattle.ae_math.specs.Forms.{Form, number, single, plus, scale, minus, is_zero, is_constant, SameForm, value}
+use Rattle.ae_math.specs.Forms.{Form, number, single, plus, scale, minus, is_zero, value}
 use Rattle.ae_math.proofs.FractionLaws.{add_neg_q, zero_add_q, mul_zero_q, same_from_zero_q, cancel_q}
 use Rattle.ae_math.proofs.FormLaws.{minus_one, value-same, value-plus, value-scale}
 use Rattle.ae_core.specs.Decided.{Term_discrete}
@@ -15,7 +14,7 @@ use Rattle.ae_core.specs.declared.terms.Sort.{Sort}
 use Rattle.ae_core.specs.declared.terms.Head.{Head}
 use Rattle.ae_core.specs.declared.terms.Head.TheVariants as head
 use Rattle.ae_core.specs.declared.terms.Op.TheVariants as op
-use Rattle.ae_core.specs.declared.terms.Term.{Term, Bound, Num, Fresh, Apply, para-roll-Term, para-Term}
+use Rattle.ae_core.specs.declared.terms.Term.{Term, Bound, Num, Fresh, Apply, para-roll-Term}
 use Rattle.ae_core.specs.declared.terms.Term.TheOpen as layer
 use Rattle.ae_core.specs.declared.terms.Term.TheVariants.{rolls-Apply, rolls-Bound, rolls-Num, rolls-Fresh}
 

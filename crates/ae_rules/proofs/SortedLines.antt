@@ -1,26 +1,18 @@
 -- Each formula of the clause of an allowed line is closed and well sorted: putting closed terms of the right sorts keeps sorts.
-use Rattle.std.specs.Prelude.{ℕ, zero, suc, ◌+◌, ◌-◌, ◌<◌, ◌≤◌, ℤ, Bool, true, false, cond, not, ◌&&◌, ◌||◌, nat_lt, nat_eq, List, [], ◌∷◌, ◌++◌, ◌≡◌, map, length, reverse, slice_get, Option, Some, None}
+use Rattle.std.specs.Prelude.{ℕ, suc, Bool, true, false, cond, not, ◌&&◌, nat_eq, List, [], ◌∷◌, ◌≡◌, map, Option, Some, None}
 use Rattle.std.specs.List.{AllByRecursion, list_all}
-use Rattle.std.proofs.Common.{refl, sym, ap, ◌∙◌, subst, true≢false, arith, append_assoc, append-nil}
-use Rattle.std.proofs.lemmas.Bool.{and_from, and_parts, or_left, or_right, ltb-true, ltb-false}
-use Rattle.std.proofs.lemmas.Option.{same_Some, slice_get-map, none-some}
-use Rattle.std.specs.Option.{option_map}
-use Rattle.std.proofs.lemmas.List.{length-reverse, length-append, reverse-append, map-append}
-use Rattle.ae_core.specs.Inner.Induction.{by_terms, by_formulas}
-use Rattle.ae_core.specs.Sorts.{sort_in, sort_of, sorts_of, is_closed_sort, head_sort, variable_sort, formula_in, formula_ok, quant_in, trigger_ok, applied_ok, predicate_ok, same_known, same_numeric, is_numeric, same_sorts, term_ok}
-use Rattle.ae_base.specs.Options.{known, ◌>>=◌, or_else, only, when, all_known}
-use Rattle.ae_core.specs.Putting.{put_terms, put_formula, put_formula_in, put_quant_in, variable_at}
-use Rattle.ae_core.specs.Decided.{Sort_discrete, Sorts_discrete}
-use Rattle.ae_base.specs.Decided.{decided}
+use Rattle.std.proofs.Common.{refl, sym, ap, ◌∙◌}
+use Rattle.std.proofs.lemmas.Bool.{and_from, and_parts}
+use Rattle.std.proofs.lemmas.Option.{same_Some, none-some}
+use Rattle.ae_core.specs.Inner.Induction.{by_formulas}
+use Rattle.ae_core.specs.Sorts.{sort_of, sorts_of, is_closed_sort, formula_in, formula_ok, quant_in, same_numeric, term_ok}
+use Rattle.ae_base.specs.Options.{◌>>=◌, only, when, all_known}
+use Rattle.ae_core.specs.Putting.{put_formula}
 use Rattle.ae_rules.specs.Clauses.{Clause, literal, yes_of, no_of, is_true, is_false, opposite, row_at, row}
 use Rattle.ae_rules.specs.Instances.{hypothesis, have_sorts, instance_clause, count_from, are_numbered, fresh_clause, exhaustion, trichotomy}
 use Rattle.ae_rules.specs.Derivations.{clause_ok, formula_stands, clause_stands, goal_body, clause_of, conclusion, line_ok}
 use Rattle.ae_core.specs.declared.terms.Sort.{Sort}
-use Rattle.ae_core.specs.declared.terms.Head.{Head}
-use Rattle.ae_core.specs.declared.terms.Head.TheVariants as head
-use Rattle.ae_core.specs.declared.terms.Term.{Term, Term-F, Bound, Num, Fresh, Apply, out-Term, out-roll-Term}
-use Rattle.ae_core.specs.declared.terms.Term.TheOpen as layer
-use Rattle.ae_core.specs.declared.terms.Term.TheVariants.{rolls-Apply, rolls-Bound, rolls-Num, rolls-Fresh}
+use Rattle.ae_core.specs.declared.terms.Term.{Term, Fresh}
 use Rattle.ae_core.specs.declared.formulas.Formula.{Formula, Formula-F, True, False, Eq, Lt, And, Or, Xor, Iff, roll-Formula, out-Formula, roll-out-Formula}
 use Rattle.ae_core.specs.declared.formulas.Formula.TheOpen as layer_of
 use Rattle.ae_core.specs.declared.formulas.Formula.TheVariants.{rolls-All, rolls-Ex}
@@ -30,16 +22,12 @@ use Rattle.ae_core.specs.declared.problems.Signature.{Signature}
 use Rattle.ae_core.specs.declared.problems.Problem.{Problem}
 use Rattle.ae_core.specs.declared.proofs.ClauseLine.{ClauseLine}
 use Rattle.ae_core.specs.declared.proofs.ClauseLine.TheVariants.{Hyp, Goal, Def, Inst, Fresh as FreshLine, Exh, Tri, Block, Rup}
-use Rattle.ae_core.proofs.SortLaws.{sort_in_bound, sort_in_num, sort_in_fresh, sort_in_apply, formula_in_true, formula_in_false, formula_in_eq, formula_in_lt, formula_in_le, formula_in_pred, formula_in_not, formula_in_all, formula_in_ex, formula_in_and, formula_in_or, formula_in_xor, formula_in_iff, quant_in_block}
-use Rattle.ae_core.proofs.PuttingLaws.{put_bound, put_num, put_fresh, put_apply, put_true, put_false, put_eq, put_lt, put_le, put_pred, put_not, put_and, put_or, put_xor, put_iff, put_all, put_ex, put_block}
+use Rattle.ae_core.proofs.SortLaws.{sort_in_fresh, formula_in_eq, formula_in_lt, formula_in_not, formula_in_all, formula_in_ex, formula_in_and, formula_in_or, formula_in_xor, formula_in_iff}
 use Rattle.ae_rules.proofs.ClauseLaws.{literal_true, literal_false, literal_eq, literal_lt, literal_le, literal_pred, literal_not, literal_and, literal_or, literal_xor, literal_iff, literal_all, literal_ex, row_true, row_false, row_eq, row_lt, row_le, row_pred, row_not, row_and, row_or, row_xor, row_iff, row_all, row_ex}
 use Rattle.ae_core.proofs.SortFacts.{numeric_turned, numeric_known, sorts_known, block_parts}
 use Rattle.ae_core.proofs.PutSorts.{body_put}
-use Rattle.ae_base.proofs.Tests.{by_bool, by_either, three_parts}
-use Rattle.ae_base.proofs.Decided.{decided_yes}
-use Rattle.ae_base.proofs.Options.{Refines, bind_refines, only_refines, cons_refines, known_refines, known_some, known_refine, cons_some, known_each, known_at, only_some, when_some, mapped_some}
-use Rattle.ae_base.proofs.AllOf.{all_always}
-use Rattle.ae_base.proofs.ListFacts.{list_all_moved, map_reverse, get_before, get_after}
+use Rattle.ae_base.proofs.Tests.{by_bool}
+use Rattle.ae_base.proofs.Options.{only_some, when_some}
 
 -- ---- literals and rows
 -- a literal's formula is as well sorted as the formula

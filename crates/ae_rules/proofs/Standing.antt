@@ -1,7 +1,6 @@
 -- Literals that stand among others, and what a clause makes true where all of its literals but one are false.
-use Rattle.std.proofs.Common.{◌≡◌, ◌≢◌, zero, suc, ◌||◌, ◌++◌, Bool, true, false, cond, List, [], ◌∷◌, refl, sym, ap, ◌∙◌, arith, true≢false, ◌⊎◌, inl, inr, Some}
+use Rattle.std.proofs.Common.{◌≡◌, ◌≢◌, zero, suc, ◌||◌, ◌++◌, true, false, cond, List, [], ◌∷◌, refl, sym, ap, ◌∙◌, arith, true≢false, ◌⊎◌, inl, inr, Some}
 use Rattle.std.specs.List.{Contains, list_all}
-use Rattle.std.specs.Prelude.{not}
 use Rattle.std.proofs.lemmas.Bool.{and_from, or_left, or_right}
 use Rattle.ae_base.specs.Decided.{decided}
 use Rattle.ae_base.specs.Options.{when}

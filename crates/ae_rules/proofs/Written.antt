@@ -1,9 +1,8 @@
 -- What follows is stated by allowed lines.
-use Rattle.std.specs.Prelude.{Bool, ℕ, zero, suc, ◌+◌, ℤ, true, List, [], ◌∷◌, ◌++◌, ◌≡◌, map, length, slice_get, Option, Some, None}
+use Rattle.std.specs.Prelude.{Bool, ℕ, zero, suc, ◌+◌, ℤ, true, List, [], ◌∷◌, ◌++◌, ◌≡◌, map, length, Option, Some, None}
 use mathlib.Core.Logic.{inl, inr, ⊎_elim}
 use mathlib.Core.Path.{refl, sym, ap, ◌∙◌, subst}
 use mathlib.Core.List.{append_assoc, append-nil}
-use native.Mathlib.Nat.{zero-add, suc-add}
 use Rattle.ae_base.specs.Options.{◌>>=◌}
 use Rattle.ae_core.specs.declared.terms.Term.{Term, Apply}
 use Rattle.ae_core.specs.declared.formulas.Lit.{Lit}

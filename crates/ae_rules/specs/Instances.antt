@@ -1,17 +1,15 @@
 -- The clauses of the lines that put sorts or terms: hypotheses, instances, fresh constants, enumerations and the order of two numbers.
-use Rattle.std.specs.Prelude.{ℕ, suc, ◌+◌, ◌^◌, Bool, false, nat_eq, nat_lt, nat_le, List, [], ◌∷◌, ◌++◌, map, length, slice_get, Option, Some, None}
-use Rattle.std.specs.List.{flat_map}
+use Rattle.std.specs.Prelude.{ℕ, suc, ◌+◌, ◌^◌, Bool, false, nat_eq, nat_lt, nat_le, List, [], ◌∷◌, map, length, slice_get, Option, Some, None}
 use Rattle.ae_core.specs.Sorts.{sort_of, sorts_of, same_sorts, same_numeric}
 use Rattle.ae_base.specs.Options.{◌>>=◌, or_else, only, when}
 use Rattle.ae_core.specs.Putting.{put_formula, instance}
 use Rattle.ae_rules.specs.Clauses.{Clause, yes_of, no_of, is_true, is_false}
 use Rattle.ae_core.specs.declared.terms.Sort.{Sort, Sort-F, out-Sort}
 use Rattle.ae_core.specs.declared.terms.Sort.TheOpen as sort_layer
-use Rattle.ae_core.specs.declared.terms.Term.{Term, Term-F, Fresh, Apply, fold-Term}
-use Rattle.ae_core.specs.declared.terms.Term.TheOpen as layer
+use Rattle.ae_core.specs.declared.terms.Term.{Term, Fresh, Apply}
 use Rattle.ae_core.specs.declared.terms.Head.{Head}
 use Rattle.ae_core.specs.declared.terms.Head.TheVariants as head
-use Rattle.ae_core.specs.declared.formulas.Formula.{Formula, Formula-F, Eq, Lt, out-Formula, fold-Formula}
+use Rattle.ae_core.specs.declared.formulas.Formula.{Formula, Formula-F, Eq, Lt, out-Formula}
 use Rattle.ae_core.specs.declared.formulas.Formula.TheOpen as layer_of
 use Rattle.ae_core.specs.declared.formulas.Quant.{Quant}
 use Rattle.ae_core.specs.declared.problems.Signature.{Signature}

@@ -2,7 +2,7 @@
 use Rattle.std.specs.Prelude.{ℕ, zero, suc, ℤ, pos, ◌<ℤ◌, ◌≤ℤ◌, ◌+ℤ◌, ◌-ℤ◌, ◌*ℤ◌, ◌⊎◌, Bool, true, false, ◌&&◌, List, [], ◌∷◌, ◌++◌, ◌≡◌, ◌≢◌, ◌↔◌, map, length, slice_get, Some}
 use Rattle.std.specs.List.{AllByRecursion}
 use Rattle.std.specs.List.Sorted.{IsPermutation}
-use Rattle.ae_math.specs.Fractions.{ℚ, zero_ℚ, whole, ◌*ℚ◌}
+use Rattle.ae_math.specs.Fractions.{zero_ℚ, whole, ◌*ℚ◌}
 use Rattle.ae_math.specs.Forms.{plus, minus, scale, number}
 use Rattle.ae_base.specs.Decided.{pick}
 use Rattle.ae_core.specs.Decided.{Head_discrete, Sorts_discrete}

@@ -6,7 +6,7 @@ use Rattle.ae_math.specs.Fractions.{ratio}
 use Rattle.ae_math.specs.Forms.{is_zero}
 use Rattle.ae_core.specs.Putting.{put_sort, instance_term, put_terms}
 use Rattle.ae_core.specs.Sorts.{is_closed_sort}
-use Rattle.ae_rules.specs.Linear.{form, is_number, Rule, opaque_term, sum_of, difference_of, negation_of, product_of, quotient_of, rule_of}
+use Rattle.ae_rules.specs.Linear.{form, is_number, Rule, opaque_term, product_of, quotient_of, rule_of}
 use Rattle.ae_rules.specs.Lines.{IsAc}
 use Rattle.ae_rules.specs.Instances.{have_sorts}
 use Rattle.ae_core.specs.declared.terms.Sort.{Sort, Sort-F, Unit as UnitSort, fold-Sort}

@@ -1,10 +1,9 @@
 -- Truth values of formulas, and values of terms: what a clause and a fact say of them, and which values respect the rules.
-use Rattle.std.specs.Prelude.{ℕ, ℤ, pos, ◌<ℤ◌, ◌*ℤ◌, ◌⊎◌, Bool, true, false, cond, not, List, [], ◌∷◌, ◌≡◌, ◌≢◌, map, length, slice_get, Some}
+use Rattle.std.specs.Prelude.{ℕ, ℤ, pos, ◌<ℤ◌, ◌⊎◌, Bool, true, false, cond, not, List, [], ◌∷◌, ◌≡◌, ◌≢◌, map, length, slice_get, Some}
 use Rattle.std.specs.List.{AllByRecursion, list_any}
 use Rattle.std.specs.List.Sorted.{IsPermutation}
-use Rattle.ae_rules.specs.Lines.{Fact, equal, at_most, below, fact_ok, gap, IsAc, flat, SumsTo, IsEqual, MayCount, SomeBelow, HaveSort, AreNumbers, fields_from, AreMultiples, Rounds}
-use Rattle.ae_math.specs.Fractions.{whole, zero_ℚ}
-use Rattle.ae_rules.specs.Linear.{factor_of}
+use Rattle.ae_rules.specs.Lines.{Fact, equal, at_most, below, fact_ok, gap, IsAc, flat, SumsTo, IsEqual, MayCount, SomeBelow, HaveSort, AreNumbers, fields_from, Rounds}
+use Rattle.ae_math.specs.Fractions.{zero_ℚ}
 use Rattle.ae_rules.specs.Clauses.{Clause}
 use Rattle.ae_rules.specs.Derivations.{IsNumber, IsConstructor, CannotHold, HasNoSolution}
 use Rattle.ae_core.specs.declared.terms.Sort.{Sort, Int, Named}

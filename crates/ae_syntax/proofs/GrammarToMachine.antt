@@ -168,12 +168,9 @@ pub pull_is : (t : Token) (ts : List Token) (m n : ℕ) → pull_of t.kind ≡ m
 unfolding pull
 pull_is t ts m n e l = omega (arith, e, l)
 
-some_same : {A : Type 0} (x y : A) → ◌≡◌ {A = Option A} (Some x) (Some y) → x ≡ y
-some_same x y e = cc
-
 numeral_act : (d : ℕ) (v : List Part) (t : Token) (k : TokenKind) (n : Number) → numeral k ≡ Some n → act (an_atom d) v t k ≡ take d [] (tree (number_at t n) ∷ v)
-numeral_act d v t (kind.Whole m) n e = ap (λ z. take d [] (tree (number_at t z) ∷ v)) (some_same (number.Whole m) n e)
-numeral_act d v t (kind.Decimal top bottom) n e = ap (λ z. take d [] (tree (number_at t z) ∷ v)) (some_same (number.Decimal top bottom) n e)
+numeral_act d v t (kind.Whole m) n e = ap (λ z. take d [] (tree (number_at t z) ∷ v)) (same_Some (number.Whole m) n e)
+numeral_act d v t (kind.Decimal top bottom) n e = ap (λ z. take d [] (tree (number_at t z) ∷ v)) (same_Some (number.Decimal top bottom) n e)
 numeral_act d v t k n e = never_some _ e
 
 quantifier_act : (d : ℕ) (v : List Part) (t : Token) (k : TokenKind) (q : Quantifier) → quantifies k ≡ Some q → act (an_not d) v t k ≡ opens (suc d) (block_wants (suc d)) (token t ∷ v)

@@ -1,22 +1,21 @@
 -- Laws of cycles: the sort that would have to be equal to a variable in it.
-use Rattle.std.proofs.Common.{◌≡◌, ◌≢◌, ℕ, zero, suc, ◌+◌, ◌<◌, ◌≤◌, List, [], ◌∷◌, map, length, get_or, refl, ap, sym, ◌∙◌, subst, arith, slice_get, slice_set, Option, Some, None, Bool, true, false, nat_lt, if◌then◌else◌}
+use Rattle.std.proofs.Common.{◌≡◌, ◌≢◌, ℕ, zero, suc, ◌+◌, ◌<◌, ◌≤◌, List, [], ◌∷◌, map, length, get_or, refl, ap, sym, ◌∙◌, subst, arith, slice_get, slice_set, Some, Bool, true, false, nat_lt, if◌then◌else◌}
 use Rattle.std.proofs.lemmas.Bool.Decides.{nat_tests}
 use Rattle.std.proofs.lemmas.List.{length-map, get_or-map}
-use Rattle.ae_core.specs.declared.terms.Sort.{Sort, Var, Named, Unit as UnitSort}
+use Rattle.ae_core.specs.declared.terms.Sort.{Sort, Var, Unit as UnitSort}
 use Rattle.ae_types.specs.declared.pairs.SortPair.{SortPair}
-use Rattle.ae_types.specs.declared.pairs.Clash.{Clash}
-use Rattle.ae_types.specs.declared.pairs.Clash.TheVariants.{Differ, Cycle, Memory}
+use Rattle.ae_types.specs.declared.pairs.Clash.TheVariants.{Cycle}
 use Rattle.ae_types.specs.declared.graph.Node.{Node}
 use Rattle.ae_types.specs.declared.graph.Node.TheVariants as node
 use Rattle.ae_types.specs.declared.graph.Class.{Class}
 use Rattle.ae_types.specs.declared.graph.Class.TheVariants as class
 use Rattle.ae_types.specs.declared.cycles.Frame.{Frame}
-use Rattle.ae_types.specs.Clashes.{Follows, reflexive, transitive, IsPair, IsClash, OccursWithin, count_of, total}
-use Rattle.ae_types.specs.Inner.Graphs.{Slot, Free, Link, Plain, Built, Same, Fits, GraphWell, ClassWell, IsDown, known_slot, node_at, class_at, slot_at, slots_of, slot_of, origin, variable_of, is_variable}
+use Rattle.ae_types.specs.Clashes.{Follows, reflexive, transitive, IsPair, IsClash, count_of, total}
+use Rattle.ae_types.specs.Inner.Graphs.{Slot, Free, Link, Plain, Built, Fits, GraphWell, ClassWell, IsDown, known_slot, node_at, class_at, slot_at, slots_of, slot_of, origin, variable_of, is_variable}
 use Rattle.ae_types.specs.Inner.Joins.{Follow}
 use Rattle.ae_types.specs.Inner.Walks.{refs, frame_at, Leads, wrapped, begin, HaveParts, RunsTo, Wraps, IsBuilt, IsCycle}
 use Rattle.ae_types.proofs.SortLaws.{count_named, count_own, named_not_var}
-use Rattle.ae_types.proofs.FollowLaws.{same_refl, same_named, SameAll}
+use Rattle.ae_types.proofs.FollowLaws.{same_named, SameAll}
 use Rattle.ae_types.proofs.GraphLaws.{origin_variable, slots_length, slot_at_class}
 use Rattle.ae_types.proofs.WalkLaws.{got}
 

@@ -1,5 +1,5 @@
 -- Laws of entering sorts.
-use Rattle.std.proofs.Common.{◌≡◌, ◌≢◌, ℕ, zero, suc, ◌+◌, ◌<◌, ◌≤◌, ◌⊎◌, inl, inr, List, [], ◌∷◌, ◌++◌, map, length, get_or, refl, ap, sym, ◌∙◌, subst, arith, length-append, Some, None, true, false, Bool, cond, Option}
+use Rattle.std.proofs.Common.{◌≡◌, ℕ, zero, suc, ◌+◌, ◌<◌, ◌≤◌, ◌⊎◌, inl, inr, List, [], ◌∷◌, ◌++◌, map, length, get_or, refl, ap, sym, ◌∙◌, subst, arith, length-append, Some, None, true, false, Bool, cond}
 use Rattle.std.specs.Ordering.{nat_cmp}
 use Rattle.std.proofs.lemmas.Bool.Decides.{nat_tests}
 use Rattle.std.specs.BTreeMap.{is_at}
@@ -12,8 +12,8 @@ use Rattle.ae_types.specs.declared.graph.Node.TheVariants as node
 use Rattle.ae_types.specs.declared.graph.Class.{Class}
 use Rattle.ae_types.specs.declared.graph.Class.TheVariants as class
 use Rattle.ae_types.specs.declared.joins.Pair.{Pair}
-use Rattle.ae_types.specs.Inner.Graphs.{node_at, class_at, GraphWell, ClassWell, NodesWell, IsDown, is_variable, origin, node_sort, constant_sort}
-use Rattle.ae_types.specs.Inner.Enters.{Sheet, Adds, Grows, SheetWell, NamesWell, StandsFor, AllStand, PairsStand, place_of, nothing}
+use Rattle.ae_types.specs.Inner.Graphs.{node_at, class_at, GraphWell, ClassWell, IsDown, is_variable, origin, node_sort, constant_sort}
+use Rattle.ae_types.specs.Inner.Enters.{Sheet, Adds, Grows, SheetWell, NamesWell, StandsFor, AllStand, PairsStand, place_of}
 use Rattle.ae_types.proofs.GraphLaws.{maps_same, origin_step, origin_variable, origin_constant, origin_built}
 use Rattle.std.proofs.lemmas.Bool.{cases_lt}
 

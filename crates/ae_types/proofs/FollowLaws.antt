@@ -1,14 +1,12 @@
 -- Laws of equations that follow, and of being the same up to them.
-use Rattle.std.proofs.Common.{◌≡◌, ◌≢◌, ℕ, zero, suc, ◌+◌, ◌<◌, List, [], ◌∷◌, ◌++◌, map, length, get_or, refl, ap, sym, ◌∙◌, subst, arith, Option, Some, None, append_assoc, length-append}
+use Rattle.std.proofs.Common.{◌≡◌, ℕ, List, [], ◌∷◌, ◌++◌, map, length, refl, ap, sym, ◌∙◌, subst, arith, Option, Some, None, append_assoc, length-append}
 use Rattle.std.proofs.lemmas.List.{length-map}
-use Rattle.ae_core.specs.declared.terms.Sort.{Sort, Var, Named}
+use Rattle.ae_core.specs.declared.terms.Sort.{Sort, Named}
 use Rattle.ae_types.specs.declared.pairs.SortPair.{SortPair}
-use Rattle.ae_types.specs.declared.pairs.Clash.{Clash}
-use Rattle.ae_types.specs.declared.pairs.Clash.TheVariants.{Differ, Cycle, Memory}
-use Rattle.ae_types.specs.Substitutions.{put, MakesEqual}
-use Rattle.ae_types.specs.Clashes.{Follows, is_given, reflexive, symmetric, transitive, congruent, injective, IsClash, Refutes, OccursWithin, AreApart, head_of, IsPair}
+use Rattle.ae_types.specs.Substitutions.{put}
+use Rattle.ae_types.specs.Clashes.{Follows, is_given, reflexive, symmetric, transitive, congruent, injective, IsPair}
 use Rattle.ae_types.specs.Inner.Graphs.{Same}
-use Rattle.ae_types.proofs.SortLaws.{put_named, named_parts, put_var, within_larger, size}
+use Rattle.ae_types.proofs.SortLaws.{put_named, named_parts}
 
 pub same_refl : (e : Option (List SortPair)) (s : Sort) → Same e s s
 same_refl None s = refl

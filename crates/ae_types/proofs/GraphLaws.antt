@@ -1,16 +1,15 @@
 -- Laws of graphs: the sorts that places were entered for, and what the code reads.
-use Rattle.std.proofs.Common.{◌≡◌, ◌≢◌, ℕ, zero, suc, ◌+◌, ◌-◌, ◌<◌, ◌≤◌, ◌⊎◌, inl, inr, List, [], ◌∷◌, ◌++◌, map, take, length, get_or, refl, ap, sym, ◌∙◌, subst, arith, length-set, get_or-set_other, get_or-set_same, Bool, true, false, Option, Some, None, slice_set}
+use Rattle.std.proofs.Common.{◌≡◌, ℕ, zero, suc, ◌-◌, ◌<◌, ◌≤◌, List, [], ◌∷◌, ◌++◌, map, take, length, get_or, refl, ap, sym, ◌∙◌, subst, arith, slice_set}
 use Rattle.std.proofs.Math.ListN.{set}
 use Rattle.std.proofs.lemmas.List.{take_all, length-map, get_or-map, map-set, get_or_default}
-use Rattle.ae_core.specs.declared.terms.Sort.{Sort, Var, Named, Unit as UnitSort}
+use Rattle.ae_core.specs.declared.terms.Sort.{Sort, Var, Named}
 use Rattle.ae_types.specs.declared.graph.Constant.{Constant}
-use Rattle.ae_types.specs.declared.graph.Constant.TheVariants as constant
 use Rattle.ae_types.specs.declared.graph.Node.{Node}
 use Rattle.ae_types.specs.declared.graph.Node.TheVariants as node
 use Rattle.ae_types.specs.declared.graph.Class.{Class}
 use Rattle.ae_types.specs.declared.graph.Class.TheVariants as class
 use Rattle.ae_types.specs.declared.graph.Change.{Change}
-use Rattle.ae_types.specs.Inner.Graphs.{Slot, Free, Link, Plain, Built, slot_at, class_at, node_at, slots_of, slot_of, known_slot, value, from_slot, constant_sort, node_sort, origin_in, origin, IsDown, NodesWell, GraphWell, ClassWell, Well, SlotWell, rewound, is_variable, variable_of, unknown, IsFree}
+use Rattle.ae_types.specs.Inner.Graphs.{Slot, Free, slot_at, class_at, node_at, slots_of, slot_of, known_slot, value, from_slot, constant_sort, node_sort, origin_in, origin, IsDown, NodesWell, GraphWell, ClassWell, Well, SlotWell, rewound}
 
 pub maps_same : (f g : ℕ → Sort) (xs : List ℕ) → ((k : ℕ) → k < length xs → f (get_or xs k 0) ≡ g (get_or xs k 0)) → map f xs ≡ map g xs
 maps_same f g [] h = refl

@@ -1,23 +1,22 @@
 -- Laws of joining two places.
-use Rattle.std.proofs.Common.{◌≡◌, ◌≢◌, ℕ, zero, suc, ◌+◌, ◌<◌, ◌≤◌, List, [], ◌∷◌, ◌++◌, map, length, get_or, refl, ap, sym, ◌⊎◌, inl, inr, slice_set, Option, Some, None, Result, Ok, Err, OnOk, IfErr, length-set, length-append, ◌∙◌, subst, arith, get_or-set_other, get_or-set_same, Bool, true, false}
+use Rattle.std.proofs.Common.{◌≡◌, ◌≢◌, ℕ, zero, suc, ◌+◌, ◌<◌, ◌≤◌, List, [], ◌∷◌, ◌++◌, map, length, get_or, refl, ap, sym, ◌⊎◌, inl, inr, slice_set, Option, Some, Result, Ok, Err, OnOk, length-set, length-append, ◌∙◌, subst, arith, get_or-set_other, get_or-set_same, Bool, true, false}
 use Rattle.std.proofs.lemmas.List.{length-map}
 use Rattle.ae_core.specs.declared.terms.Sort.{Sort, Named}
 use Rattle.ae_types.specs.declared.pairs.SortPair.{SortPair}
 use Rattle.ae_types.specs.declared.pairs.Clash.{Clash}
 use Rattle.ae_types.specs.declared.pairs.Clash.TheVariants.{Differ, Cycle, Memory}
-use Rattle.ae_types.specs.declared.graph.Constant.{Constant}
 use Rattle.ae_types.specs.declared.graph.Node.{Node}
 use Rattle.ae_types.specs.declared.graph.Node.TheVariants as node
 use Rattle.ae_types.specs.declared.graph.Class.{Class}
 use Rattle.ae_types.specs.declared.graph.Class.TheVariants as class
 use Rattle.ae_types.specs.declared.graph.Root.{Root}
 use Rattle.ae_types.specs.declared.joins.Pair.{Pair}
-use Rattle.ae_types.specs.Clashes.{IsClash, IsPair, AreApart, head_of}
-use Rattle.ae_types.specs.Inner.Graphs.{Slot, Free, Link, Plain, Built, Same, Solves, Well, SlotWell, IsRoot, slot_at, constant_sort, Fits, GraphWell, ClassWell, NodesWell, class_at, slots_of, slot_of, known_slot, node_at, origin, is_variable, IsDown, node_sort}
+use Rattle.ae_types.specs.Clashes.{IsClash, IsPair, AreApart}
+use Rattle.ae_types.specs.Inner.Graphs.{Slot, Free, Link, Plain, Built, Same, Solves, SlotWell, IsRoot, slot_at, constant_sort, Fits, GraphWell, ClassWell, class_at, slots_of, slot_of, known_slot, node_at, origin, is_variable, node_sort}
 use Rattle.ae_types.specs.Inner.Joins.{pairs_of, Equates, PairsWell, Compatible, demands, kept, joined, weight, arity, United, Stepped, Closing, Blames, DiffersAt, LinksDown, Shortened, Finds, Follow}
 use Rattle.ae_types.proofs.SortLaws.{named_parts, constant_not_named, constant_parts, constant_not_var, named_not_var, head_named, head_constant}
-use Rattle.ae_types.proofs.FollowLaws.{same_refl, same_eq, same_sym, same_trans, same_named, same_parts, SameAll}
-use Rattle.ae_types.proofs.GraphLaws.{slots_length, slot_at_class, slots_set, graph_slots, link_down, known_well, origin_step}
+use Rattle.ae_types.proofs.FollowLaws.{same_eq, same_sym, same_trans, same_named, same_parts, SameAll}
+use Rattle.ae_types.proofs.GraphLaws.{slots_length, slot_at_class, graph_slots, link_down, known_well, origin_step}
 
 pub equates_append : (e : Option (List SortPair)) (v : ℕ → Sort) (ps qs : List Pair) → Equates e v ps → Equates e v qs → Equates e v (ps ++ qs)
 equates_append e v [] qs h k = k

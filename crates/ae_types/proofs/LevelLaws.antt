@@ -1,12 +1,10 @@
 -- Laws of levels: a graph has them exactly where it has a solution.
-use Rattle.std.proofs.Common.{◌≡◌, ◌≢◌, ℕ, zero, suc, ◌+◌, ◌-◌, ◌<◌, ◌≤◌, ◌⊎◌, inl, inr, List, [], ◌∷◌, ◌++◌, map, length, get_or, refl, ap, sym, ◌∙◌, subst, arith, slice_set, get_or-set_other, get_or-set_same, Option, Some, None}
+use Rattle.std.proofs.Common.{◌≡◌, ◌≢◌, ℕ, zero, suc, ◌+◌, ◌<◌, ◌≤◌, inl, inr, List, [], ◌∷◌, map, length, get_or, refl, ap, sym, ◌∙◌, subst, arith, slice_set, get_or-set_other, get_or-set_same, None}
 use Rattle.ae_core.specs.declared.terms.Sort.{Sort, Named}
-use Rattle.ae_types.specs.declared.pairs.SortPair.{SortPair}
 use Rattle.ae_types.specs.Substitutions.{put}
-use Rattle.ae_types.specs.Clashes.{total}
 use Rattle.ae_types.specs.Inner.Graphs.{Slot, Free, Link, Plain, Built, Solves, Well, SlotWell, slot_at, value, from_slot, Fits, IsFree}
 use Rattle.ae_types.specs.Inner.Levels.{Ready, IsReady, Above, Levelled, Settled, empties}
-use Rattle.ae_types.proofs.SortLaws.{size, size_named, put_named, put_constant}
+use Rattle.ae_types.proofs.SortLaws.{put_named, put_constant}
 use Rattle.ae_types.proofs.GraphLaws.{maps_same}
 use Rattle.ae_types.proofs.JoinLaws.{same_or_not}
 

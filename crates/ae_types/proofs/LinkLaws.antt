@@ -1,5 +1,5 @@
 -- Laws of writing links.
-use Rattle.std.proofs.Common.{◌≡◌, ◌≢◌, ℕ, zero, suc, ◌+◌, ◌<◌, ◌≤◌, ◌⊎◌, inl, inr, List, [], ◌∷◌, ◌++◌, length, get_or, refl, ap, sym, ◌∙◌, subst, arith, slice_set, Option, length-set, get_or-set_other, get_or-set_same, Bool, true, false}
+use Rattle.std.proofs.Common.{◌≡◌, ◌≢◌, ℕ, zero, suc, ◌<◌, inl, inr, List, [], ◌∷◌, ◌++◌, length, get_or, refl, ap, sym, ◌∙◌, subst, arith, slice_set, Option, length-set, get_or-set_other, get_or-set_same, true, false}
 use Rattle.ae_core.specs.declared.terms.Sort.{Sort}
 use Rattle.ae_types.specs.declared.pairs.SortPair.{SortPair}
 use Rattle.ae_types.specs.declared.graph.Node.{Node}
@@ -8,7 +8,7 @@ use Rattle.ae_types.specs.declared.graph.Class.{Class}
 use Rattle.ae_types.specs.declared.graph.Class.TheVariants as class
 use Rattle.ae_types.specs.declared.graph.Root.{Root}
 use Rattle.ae_types.specs.declared.graph.Change.{Change}
-use Rattle.ae_types.specs.Inner.Graphs.{Slot, Free, Link, Plain, Built, Same, Solves, Fits, slot_at, class_at, node_at, slots_of, slot_of, known_slot, GraphWell, ClassWell, is_variable, rewound}
+use Rattle.ae_types.specs.Inner.Graphs.{Slot, Free, Link, Same, Solves, Fits, slot_at, class_at, node_at, slots_of, slot_of, known_slot, GraphWell, ClassWell, is_variable, rewound}
 use Rattle.ae_types.specs.Inner.Joins.{LinksDown, Shortened, joined, kept, weight, arity}
 use Rattle.ae_types.proofs.FollowLaws.{same_sym, same_trans}
 use Rattle.ae_types.proofs.GraphLaws.{slots_length, slot_at_class, slots_set, known_well, set_back, rewound_last}

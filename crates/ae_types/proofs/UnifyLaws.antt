@@ -1,8 +1,7 @@
 -- From graphs to substitutions and unifiers.
-use Rattle.std.proofs.Common.{◌≡◌, ◌≢◌, ℕ, zero, suc, ◌+◌, ◌-◌, ◌<◌, ◌≤◌, ◌⊎◌, inl, inr, true, false, List, [], ◌∷◌, ◌++◌, map, length, get_or, refl, ap, sym, ◌∙◌, subst, arith, length-append, Option, Some, None, Result, Ok, Err, OnErr, IfErr}
-use Rattle.std.specs.List.{AllByRecursion}
+use Rattle.std.proofs.Common.{◌≡◌, ◌≢◌, ℕ, zero, suc, ◌+◌, ◌-◌, ◌<◌, ◌≤◌, inl, inr, true, List, [], ◌∷◌, ◌++◌, map, length, get_or, refl, ap, sym, ◌∙◌, subst, arith, length-append, Option, Some, None, Result, Ok, Err, OnErr}
 use Rattle.ae_core.specs.Inner.Induction.{by_sorts}
-use Rattle.ae_core.specs.declared.terms.Sort.{Sort, Var, Rigid, Int, Real, Bool as BoolSort, Unit as UnitSort, Named}
+use Rattle.ae_core.specs.declared.terms.Sort.{Sort, Var, Unit as UnitSort, Named}
 use Rattle.ae_types.specs.declared.pairs.SortPair.{SortPair}
 use Rattle.ae_types.specs.declared.pairs.Clash.{Clash}
 use Rattle.ae_types.specs.declared.pairs.Clash.TheVariants.{Differ, Cycle, Memory}
@@ -11,17 +10,17 @@ use Rattle.ae_types.specs.declared.graph.Node.TheVariants as node
 use Rattle.ae_types.specs.declared.graph.Class.{Class}
 use Rattle.ae_types.specs.declared.graph.Class.TheVariants as class
 use Rattle.ae_types.specs.declared.joins.Pair.{Pair}
-use Rattle.ae_types.specs.Substitutions.{put, MakesEqual, Unifies, Respects, IsIdempotent, IsMoreGeneral}
-use Rattle.ae_types.specs.Clashes.{Follows, is_given, reflexive, symmetric, transitive, IsPair, IsClash, Refutes, AreApart, OccursWithin, head_of}
-use Rattle.ae_types.specs.Inner.Graphs.{Slot, Free, Link, Plain, Built, Same, Solves, Fits, SlotWell, Well, IsFree, GraphWell, ClassWell, NodesWell, IsDown, known_slot, node_at, node_sort, class_at, slot_at, slots_of, slot_of, origin, unknown, value, solution, variable_of, is_variable}
+use Rattle.ae_types.specs.Substitutions.{put, MakesEqual, Unifies, Respects, IsIdempotent}
+use Rattle.ae_types.specs.Clashes.{Follows, is_given, symmetric, transitive, IsPair, IsClash, Refutes, head_of}
+use Rattle.ae_types.specs.Inner.Graphs.{Slot, Free, Link, Plain, Built, Solves, Fits, SlotWell, Well, IsFree, ClassWell, IsDown, known_slot, node_at, node_sort, class_at, slot_at, slots_of, slot_of, origin, unknown, value, variable_of, is_variable}
 use Rattle.ae_types.specs.Inner.Levels.{Settled, Above}
-use Rattle.ae_types.specs.Inner.Enters.{Sheet, SheetWell, NamesWell, Grows, StandsFor, PairsStand, place_of, nothing}
+use Rattle.ae_types.specs.Inner.Enters.{Sheet, Grows, StandsFor, PairsStand, place_of, nothing}
 use Rattle.ae_types.specs.Inner.Joins.{Equates, PairsWell, Closing, Blames, Follow}
 use Rattle.ae_types.specs.Bound.{reads, reading, solved_by, IsSound, bound, IsGiven}
-use Rattle.ae_types.proofs.SortLaws.{put_named, put_var, put_constant, put_put, put_own, put_rigid, put_int, put_real, put_bool, put_unit, head_named, within_larger, size, named_not_var}
+use Rattle.ae_types.proofs.SortLaws.{put_named, put_var, put_constant, put_put, put_own, put_rigid, put_int, put_real, put_bool, put_unit, head_named, within_larger, size}
 use Rattle.ae_types.proofs.GraphLaws.{maps_same, origin_step, origin_variable, slots_length, slot_at_class, graph_slots, value_free}
-use Rattle.ae_types.proofs.FollowLaws.{same_refl, same_eq, same_sym, same_trans, same_named, SameAll, follows_holds, follows_more}
-use Rattle.ae_types.proofs.EnterLaws.{at_before, origin_grows}
+use Rattle.ae_types.proofs.FollowLaws.{same_eq, same_named, SameAll, follows_holds, follows_more}
+use Rattle.ae_types.proofs.EnterLaws.{at_before}
 use Rattle.ae_types.proofs.LevelLaws.{map_put, settled_solves, general}
 use Rattle.std.proofs.lemmas.Bool.{cases_lt}
 

@@ -1,5 +1,5 @@
 -- What bindings put for variables.
-use Rattle.std.specs.Prelude.{ℕ, ◌<◌, length, List, ◌≡◌, ◌⊎◌, Option, Some, None}
+use Rattle.std.specs.Prelude.{ℕ, ◌<◌, length, ◌≡◌, ◌⊎◌, Option, Some, None}
 use Rattle.ae_core.specs.declared.terms.Sort.{Sort, Var}
 use Rattle.ae_types.specs.Inner.Graphs.{Solves, Fits, known_slot, node_at, slots_of, solution}
 use Rattle.ae_types.specs.Inner.Levels.{Settled}

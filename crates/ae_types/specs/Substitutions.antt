@@ -1,8 +1,8 @@
 -- Substitutions of sorts and unifiers, as the textbooks have them.
 -- A substitution gives a sort for each variable. It is put into a sort by putting its sort in the place of each variable.
-use Rattle.std.specs.Prelude.{ℕ, List, [], ◌∷◌, ◌≡◌, map}
+use Rattle.std.specs.Prelude.{ℕ, List, ◌≡◌}
 use Rattle.std.specs.List.{AllByRecursion}
-use Rattle.ae_core.specs.declared.terms.Sort.{Sort, Sort-F, Var, Rigid, Int, Real, Bool as BoolSort, Unit as UnitSort, Named, fold-Sort}
+use Rattle.ae_core.specs.declared.terms.Sort.{Sort, Sort-F, Rigid, Int, Real, Bool as BoolSort, Unit as UnitSort, Named, fold-Sort}
 use Rattle.ae_core.specs.declared.terms.Sort.TheOpen as layer
 use Rattle.ae_types.specs.declared.pairs.SortPair.{SortPair}
 

@@ -1,6 +1,6 @@
 -- From one place to another: what is wanted there, and what is wanted then, whatever else is.
 use Rattle.std.proofs.Common.{ℕ, suc, ◌+◌, ◌-◌, ◌≤◌, ◌<◌, true, false, cond, nat_le, List, [], ◌∷◌, ◌++◌, ◌≡◌, Result, Ok, Err, length, drop, length-drop, refl, sym, ap, ◌∙◌, subst, append_assoc, arith}
-use Rattle.std.proofs.lemmas.Bool.Decides.{nat_tests}
+use Rattle.std.proofs.lemmas.Bool.{le-leb, lt-leb}
 use Rattle.ae_lex.specs.declared.kinds.Token.{Token}
 use Rattle.ae_lex.specs.declared.kinds.TokenKind.{TokenKind}
 use Rattle.ae_syntax.specs.declared.faults.Refusal.{Refusal}
@@ -21,21 +21,15 @@ pub judge_is : (t : Token) (ts : List Token) (s : Want) (ss : List Want) (v : Li
 unfolding run feed went
 judge_is t ts s ss v = refl
 
-le_true : (a b : ℕ) → a ≤ b → nat_le a b ≡ true
-le_true a b h = grind (arith, nat_tests)
-
-le_false : (a b : ℕ) → b < a → nat_le a b ≡ false
-le_false a b h = grind (arith, nat_tests)
-
 one_less : (n : ℕ) (o : Outcome) → limited (suc n - 1) o ≡ limited n o
 one_less n o = let e : suc n - 1 ≡ n = omega arith in ap (λ n. limited n o) e
 
 -- a mark that is within the limit, and one that is not
 marked : (d n : ℕ) (o : Outcome) → d ≤ DEPTH_LIMIT → limited (suc n) (mark d o) ≡ limited n o
-marked d n o l = ap (λ b. cond b (limited (suc n - 1) o) (deep (suc n))) (le_true d DEPTH_LIMIT l) ∙ one_less n o
+marked d n o l = ap (λ b. cond b (limited (suc n - 1) o) (deep (suc n))) (le-leb d DEPTH_LIMIT l) ∙ one_less n o
 
 marked_deep : (d n : ℕ) (o : Outcome) → DEPTH_LIMIT < d → limited (suc n) (mark d o) ≡ deep (suc n)
-marked_deep d n o l = ap (λ b. cond b (limited (suc n - 1) o) (deep (suc n))) (le_false d DEPTH_LIMIT l)
+marked_deep d n o l = ap (λ b. cond b (limited (suc n - 1) o) (deep (suc n))) (lt-leb d DEPTH_LIMIT l)
 
 pub went_take : (d : ℕ) (new : List Want) (u : List Part) (ss : List Want) (t : Token) (ts : List Token) → d ≤ DEPTH_LIMIT → went (take d new u) ss t ts ≡ judge ts (new ++ ss) u
 unfolding went run feed

@@ -1,9 +1,8 @@
 -- Entering sorts into a graph.
-use Rattle.std.specs.Prelude.{ℕ, ◌<◌, ◌≤◌, List, [], ◌∷◌, ◌++◌, ◌≡◌, length, Option, Some, None}
+use Rattle.std.specs.Prelude.{ℕ, ◌<◌, ◌≤◌, List, [], ◌∷◌, ◌++◌, ◌≡◌, length, Option, Some}
 use Rattle.std.specs.Ordering.{nat_cmp}
 use Rattle.std.specs.BTreeMap.{is_at}
 use Rattle.std.specs.Map.{lookup}
-use Rattle.std.proofs.Common.{get_or}
 use Rattle.ae_core.specs.declared.terms.Sort.{Sort}
 use Rattle.ae_types.specs.declared.pairs.SortPair.{SortPair}
 use Rattle.ae_types.specs.declared.graph.Node.{Node}

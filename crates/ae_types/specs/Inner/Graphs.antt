@@ -1,5 +1,5 @@
 -- Graphs of sorts: the sorts that places were entered for, what is known of places, and the solution that has all others as instances.
-use Rattle.std.specs.Prelude.{ℕ, zero, suc, ◌<◌, ◌≤◌, Bool, true, false, List, [], ◌∷◌, ◌≡◌, map, length, Option, Some, None}
+use Rattle.std.specs.Prelude.{ℕ, zero, suc, ◌<◌, Bool, true, false, List, [], ◌∷◌, ◌≡◌, map, length, Option, Some, None}
 use Rattle.std.proofs.Common.{get_or}
 use Rattle.ae_core.specs.declared.terms.Sort.{Sort, Var, Rigid, Int, Real, Bool as BoolSort, Unit as UnitSort, Named}
 use Rattle.ae_types.specs.declared.pairs.SortPair.{SortPair}

@@ -1,5 +1,5 @@
 -- Joining two places of a graph: what has to be equal, and the graph afterwards.
-use Rattle.std.specs.Prelude.{ℕ, ◌+◌, ◌<◌, ◌≤◌, List, [], ◌∷◌, ◌++◌, ◌≡◌, length, slice_set, Option, Some, None}
+use Rattle.std.specs.Prelude.{ℕ, ◌+◌, ◌<◌, ◌≤◌, List, [], ◌∷◌, ◌++◌, ◌≡◌, length, slice_set, Option, Some}
 use Rattle.ae_core.specs.declared.terms.Sort.{Sort}
 use Rattle.ae_types.specs.declared.pairs.SortPair.{SortPair}
 use Rattle.ae_types.specs.declared.pairs.Clash.{Clash}

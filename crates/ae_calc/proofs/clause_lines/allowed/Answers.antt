@@ -1,10 +1,10 @@
 use Rattle.std.proofs.Common.{◌≡◌, IsTrue}
-use Rattle.ae_core.specs.Derivations as spec
-use Rattle.ae_calc.specs.Widths.{IsWithin}
-use Rattle.ae_calc.proofs.Widening.{within_without_clause}
+use Rattle.ae_rules.specs.Derivations.{HasConclusion, Meets}
+use Rattle.ae_calc.proofs.LineReach.{without_clause}
+use Rattle.ae_calc.proofs.BlockReach.{and_known}
 use Rattle.ae_calc.proofs.clause_lines.allowed.Goals as goal
 
-pub returns-then-not-branch-2-clause-fits : goal.returns-then-not-branch-2-clause-fits
-returns-then-not-branch-2-clause-fits c =
-    within_without_clause c.args.problem.now c.args.goal c.args.line.now
+pub returns-then-not-branch-clause-fits : goal.returns-then-not-branch-clause-fits
+returns-then-not-branch-clause-fits c =
+    without_clause c.args.problem.now c.args.goal c.args.line.now
     (λ h. let t : IsTrue c.in_ok-has_conclusion.field-0 = c.in_ok-has_conclusion.ensures.1 h in cc)

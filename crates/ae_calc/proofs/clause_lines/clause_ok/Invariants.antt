@@ -1,5 +1,5 @@
 use Rattle.std.proofs.Common.{◌≡◌, true, take}
-use Rattle.ae_core.specs.Derivations as spec
+use Rattle.ae_rules.specs.Derivations as spec
 use Rattle.ae_calc.proofs.clause_lines.clause_ok.Given as goal
 
 abbrev pub invariant-loop-lit : goal.invariant-loop-lit

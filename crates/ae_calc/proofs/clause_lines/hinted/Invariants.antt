@@ -1,6 +1,6 @@
 use Rattle.std.proofs.Common.{◌≡◌, map, take, Some}
-use Rattle.ae_core.specs.Sorts.{all_known}
-use Rattle.ae_core.specs.Derivations as spec
+use Rattle.ae_base.specs.Options.{all_known}
+use Rattle.ae_rules.specs.Derivations as spec
 use Rattle.ae_calc.proofs.clause_lines.hinted.Given as goal
 
 abbrev pub invariant-loop-hint : goal.invariant-loop-hint

@@ -1,10 +1,10 @@
 use Rattle.std.proofs.Common.{[], take}
-use Rattle.ae_core.specs.Derivations.{AreAllowed}
-use Rattle.ae_calc.specs.Widths.{IsProofWithin}
+use Rattle.ae_rules.specs.Derivations.{AreAllowed}
+use Rattle.ae_calc.specs.Reached.{Fit, ProofReaches}
 use Rattle.ae_calc.proofs.derivation.are_allowed.Given as goal
 
 abbrev pub invariant-loop-i : goal.invariant-loop-i
 invariant-loop-i l = record {
   allowed : AreAllowed l.problem l.goal [] (take l.i l.lines);
-  within : IsProofWithin l.problem l.goal [] (take l.i l.lines);
+  within : Fit (ProofReaches l.problem l.goal [] (take l.i l.lines));
 }

@@ -1,5 +1,5 @@
 use Rattle.std.proofs.Common.{IsTrue, IfOk, ◌↔◌, sym, subst}
-use Rattle.ae_core.specs.Derivations.{Ends}
+use Rattle.ae_rules.specs.Derivations.{Ends}
 use Rattle.ae_calc.proofs.endings.ends.Goals as goal
 
 pub returns-in-Const-clause-exact : goal.returns-in-Const-clause-exact

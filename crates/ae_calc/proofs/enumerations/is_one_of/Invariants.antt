@@ -1,5 +1,5 @@
 use Rattle.std.proofs.Common.{◌≡◌, take, map, [], ◌∷◌}
-use Rattle.ae_core.specs.Clauses.{is_true}
+use Rattle.ae_rules.specs.Clauses.{is_true}
 use Rattle.ae_core.specs.declared.formulas.Formula.{Eq}
 use Rattle.ae_core.specs.declared.terms.Term.{Apply}
 use Rattle.ae_calc.proofs.enumerations.is_one_of.Given as goal

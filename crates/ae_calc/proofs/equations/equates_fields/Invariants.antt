@@ -1,5 +1,5 @@
 use Rattle.std.proofs.Common.{◌≡◌, length, take}
-use Rattle.ae_core.specs.Lines.{Equated, fields_from}
+use Rattle.ae_rules.specs.Lines.{Equated, fields_from}
 use Rattle.ae_calc.proofs.equations.equates_fields.Given as goal
 
 abbrev pub invariant-loop-i : goal.invariant-loop-i

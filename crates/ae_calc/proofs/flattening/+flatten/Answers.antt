@@ -1,7 +1,7 @@
 use Rattle.std.proofs.Common.{arith, ◌≡◌, ◌≢◌, ◌∙◌, ◌++◌, true, false, sym, ap, length, List}
-use Rattle.ae_core.specs.Lines.{flat}
+use Rattle.ae_rules.specs.Lines.{flat}
 use Rattle.ae_core.specs.declared.terms.Term.{Apply}
-use Rattle.ae_calc.specs.Lent.{values}
+use Rattle.ae_calc.specs.Inner.LentTerms.{values}
 use Rattle.ae_calc.proofs.Flat.{flat_alone, flat_other_length, flat_inside, flat_other_head, flat_other_sorts, kept, joined, on_ok}
 use Rattle.ae_calc.proofs.flattening.+flatten.Goals as goal
 use Rattle.ae_calc.proofs.flattening.+flatten.Goals.{else-parts-eq2-via-then-parts-eq2+then-same_head+else-same_sorts, else-parts-eq2-via-then-parts-eq2+else-same_head, else-parts-eq2-via-else-parts-eq2}

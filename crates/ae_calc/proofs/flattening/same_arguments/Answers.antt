@@ -1,6 +1,6 @@
 use Rattle.std.proofs.Common.{◌∙◌, sym, ap}
-use Rattle.ae_core.specs.Lines.{flat}
-use Rattle.ae_calc.specs.Lent.{values}
+use Rattle.ae_rules.specs.Lines.{flat}
+use Rattle.ae_calc.specs.Inner.LentTerms.{values}
 use Rattle.ae_calc.proofs.Multisets.{rising_permutations, permutations_of_one}
 use Rattle.ae_calc.proofs.flattening.same_arguments.Goals as goal
 

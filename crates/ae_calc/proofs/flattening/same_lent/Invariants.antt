@@ -1,5 +1,5 @@
 use Rattle.std.proofs.Common.{◌≡◌, length, take}
-use Rattle.ae_calc.specs.Lent.{values}
+use Rattle.ae_calc.specs.Inner.LentTerms.{values}
 use Rattle.ae_calc.proofs.flattening.same_lent.Given as goal
 
 abbrev pub invariant-loop-i : goal.invariant-loop-i

@@ -2,9 +2,9 @@ use Rattle.std.proofs.Common.{◌≡◌, ◌∙◌, sym, ap, subst, ◌++◌, ru
 use Rattle.std.specs.List.Sorted.{IsPermutation}
 use Rattle.std.proofs.lemmas.List.Sorted.{IsPermutation-map}
 use denote.Ref.{Bor}
-use Rattle.ae_core.specs.Lines.{flat}
+use Rattle.ae_rules.specs.Lines.{flat}
 use Rattle.ae_core.specs.declared.terms.Term.{Term}
-use Rattle.ae_calc.specs.Lent.{values}
+use Rattle.ae_calc.specs.Inner.LentTerms.{values}
 use Rattle.ae_calc.proofs.Multisets.{rising_from_sort}
 use Rattle.ae_calc.proofs.flattening.sorted_arguments.Goals as goal
 

@@ -1,5 +1,5 @@
 use Rattle.std.proofs.Common.{◌≡◌, take}
-use Rattle.ae_core.specs.Instances as spec
+use Rattle.ae_rules.specs.Instances as spec
 use Rattle.ae_calc.proofs.instances.count_from.Given as goal
 
 abbrev pub invariant-loop-i : goal.invariant-loop-i

@@ -1,6 +1,6 @@
 use Rattle.std.proofs.Common.{◌≡◌, true, false, sym, ap, ◌∙◌}
-use Rattle.ae_core.specs.Lines.{Allowed, fact_ok, states}
-use Rattle.ae_calc.proofs.Widths.{unsorted_fits, and_known}
+use Rattle.ae_rules.specs.Lines.{Allowed, fact_ok, states}
+use Rattle.ae_calc.proofs.BlockReach.{unsorted_fits, and_known}
 use Rattle.ae_calc.proofs.lines.line_allowed.Goals as goal
 
 pub returns-then-not-branch-clause-fits : goal.returns-then-not-branch-clause-fits

@@ -1,7 +1,7 @@
 use Rattle.std.proofs.Common.{IsTrue, IfOk, ◌↔◌, sym, subst, rules}
 use Rattle.std.proofs.lemmas.Int.{to_z-of_z}
 use mir.Syntax.{w128}
-use Rattle.ae_core.specs.Lines.{Allowed, AllowedLin, AllowedLeSum, AllowedLtSum}
+use Rattle.ae_rules.specs.Lines.{Allowed, AllowedLin, AllowedLeSum, AllowedLtSum}
 use Rattle.ae_calc.proofs.lines.rule_allows.Goals as goal
 
 pub returns-in-EqLin-clause-exact : goal.returns-in-EqLin-clause-exact

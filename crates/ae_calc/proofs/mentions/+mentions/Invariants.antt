@@ -1,6 +1,6 @@
 use Rattle.std.proofs.Common.{◌≡◌, false, take}
 use Rattle.std.specs.List.{list_any}
-use Rattle.ae_calc.specs.Mentions as spec
+use Rattle.ae_calc.specs.Inner.Mentions as spec
 use Rattle.ae_calc.proofs.mentions.+mentions.Given as goal
 
 abbrev pub invariant-any_mentions-loop-term : goal.invariant-any_mentions-loop-term

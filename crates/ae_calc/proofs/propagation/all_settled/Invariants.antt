@@ -1,6 +1,6 @@
 use Rattle.std.proofs.Common.{◌≡◌, true, take}
 use Rattle.std.specs.List.{list_all}
-use Rattle.ae_core.specs.Clauses as spec
+use Rattle.ae_rules.specs.Clauses as spec
 use Rattle.ae_calc.proofs.propagation.all_settled.Given as goal
 
 abbrev pub invariant-loop-lit : goal.invariant-loop-lit

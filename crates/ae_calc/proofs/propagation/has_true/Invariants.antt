@@ -1,6 +1,6 @@
 use Rattle.std.proofs.Common.{◌≡◌, false, take}
 use Rattle.std.specs.List.{list_any}
-use Rattle.ae_core.specs.Clauses as spec
+use Rattle.ae_rules.specs.Clauses as spec
 use Rattle.ae_calc.proofs.propagation.has_true.Given as goal
 
 abbrev pub invariant-loop-lit : goal.invariant-loop-lit

@@ -1,5 +1,5 @@
 use Rattle.std.proofs.Common.{◌≡◌, drop}
-use Rattle.ae_core.specs.Clauses as spec
+use Rattle.ae_rules.specs.Clauses as spec
 use Rattle.ae_calc.proofs.propagation.next_false.Given as goal
 
 abbrev pub invariant-loop-i : goal.invariant-loop-i

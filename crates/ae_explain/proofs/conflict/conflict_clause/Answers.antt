@@ -1,9 +1,7 @@
 use Rattle.std.proofs.Common.{◌≡◌, ◌<◌, ◌≤◌, subst}
 use Rattle.std.proofs.lemmas.Result.{IfOk-weaker}
 use Rattle.std.specs.Prelude.{count_by, ◌==◌}
-use Rattle.std.specs.List.{Contains}
 use Rattle.ae_rules.specs.Clauses.{Clause}
-use Rattle.ae_core.specs.declared.formulas.Lit.{Lit}
 use Rattle.ae_explain.specs.Levels.{greatest_of, level_of}
 use Rattle.ae_explain.proofs.conflict.conflict_clause.Goals as goal
 

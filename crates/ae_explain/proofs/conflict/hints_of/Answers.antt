@@ -1,4 +1,4 @@
-use Rattle.std.proofs.Common.{rules, ◌≡◌, ◌∙◌, ◌++◌, ◌∷◌, [], length, if◌then◌else◌, arith}
+use Rattle.std.proofs.Common.{rules, ◌≡◌, ◌∙◌, ◌++◌, [], length, if◌then◌else◌, arith}
 use Rattle.ae_explain.specs.Trail.{at}
 use Rattle.ae_explain.specs.Inner.Marks.{resolved, reasons}
 use Rattle.ae_explain.proofs.Reading.{hints_more, hints_done}

@@ -1,9 +1,9 @@
 use Rattle.std.proofs.Common.{◌≡◌, ◌+◌, ◌≤◌, ℕ, List, ◌++◌, ◌⊎◌, inl, inr, length, drop, sym, ◌∙◌, ap, subst, arith}
 use Rattle.std.specs.List.Sorted.{IsNonDecreasing}
+use Rattle.std.proofs.lemmas.List.{take_rest}
 use Rattle.ae_multiset.specs.Multisets.{count}
 use Rattle.ae_multiset.proofs.Counts.{count-append}
 use Rattle.ae_multiset.proofs.Merging.{Merging, begun, ends_by_both, ends_rising, take_left, take_right}
-use Rattle.ae_base.proofs.ListFacts.{take_rest}
 use Rattle.ae_multiset.proofs.addition.sum.Goals.{then-loop-i-test+else-j-right, else-loop-i-test}
 use Rattle.ae_multiset.proofs.addition.sum.Goals as goal
 

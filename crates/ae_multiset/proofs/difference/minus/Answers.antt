@@ -1,10 +1,10 @@
 use Rattle.std.proofs.Common.{◌≡◌, ◌-◌, ◌≤◌, ℕ, List, ◌++◌, ◌⊎◌, inl, inr, length, drop, sym, ◌∙◌, ap, subst, arith}
 use Rattle.std.specs.List.Sorted.{IsNonDecreasing}
+use Rattle.std.proofs.lemmas.List.{take_rest}
 use Rattle.ae_multiset.specs.Multisets.{count}
 use Rattle.ae_multiset.proofs.Counts.{count-minus}
 use Rattle.ae_multiset.proofs.Rising.{non_decreasing}
 use Rattle.ae_multiset.proofs.Merging.{Merging, begun, ends_by_left, equal_dropped, greater_dropped, less_taken}
-use Rattle.ae_base.proofs.ListFacts.{take_rest}
 use Rattle.ae_multiset.proofs.difference.minus.Goals.{then-loop-i-test+else-j-right, else-loop-i-test}
 use Rattle.ae_multiset.proofs.difference.minus.Goals as goal
 

@@ -1,9 +1,9 @@
 use Rattle.std.proofs.Common.{◌≡◌, ◌≤◌, ◌++◌, ◌∙◌, sym, ap, subst, length, rules, append-nil}
 use Rattle.std.proofs.lemmas.Int.{to_z-of_z}
 use mir.Syntax.{w128}
+use Rattle.std.proofs.lemmas.List.{drop_all}
 use Rattle.ae_num.specs.Forms.{others}
 use Rattle.ae_num.proofs.KeyLaws.{others_step}
-use Rattle.ae_num.proofs.ReductionLaws.{past_end}
 use Rattle.ae_num.proofs.forms.without.Goals as goal
 
 pub loop-part-preserved : goal.loop-part-preserved
@@ -15,7 +15,7 @@ returns c =
     let form = c.args.form.now in
     let ended : length form.parts ≤ c.loop-part.part-index = subst (λ ps. length ps ≤ c.loop-part.part-index) c.as_slice-part-items.ensures c.loop-part-test.false in
     let parts : c.loop-part.parts ≡ others form.parts c.args.key =
-    sym (append-nil c.loop-part.parts) ∙ ap (λ ps. c.loop-part.parts ++ others ps c.args.key) (sym (past_end form.parts c.loop-part.part-index ended)) ∙ c.loop-part.invariant in
+    sym (append-nil c.loop-part.parts) ∙ ap (λ ps. c.loop-part.parts ++ others ps c.args.key) (sym (drop_all c.loop-part.part-index form.parts ended)) ∙ c.loop-part.invariant in
     λ k. record {
       den = to_z-of_z w128 form.den (search rules) k;
       parts = parts k;

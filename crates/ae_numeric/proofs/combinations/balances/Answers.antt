@@ -4,11 +4,12 @@ use Rattle.std.proofs.lemmas.Int.{to_z-of_z}
 use mir.Syntax.{w128}
 use Rattle.ae_math.specs.Forms.{scale}
 use Rattle.ae_num.specs.Forms.{first_wide, IfWide}
-use Rattle.ae_core.specs.Linear.{Linear}
-use Rattle.ae_core.specs.Lines.{Fact, whole}
+use Rattle.ae_rules.specs.Linear.{Linear}
+use Rattle.ae_rules.specs.Lines.{Fact}
+use Rattle.ae_math.specs.Fractions.{whole}
 use Rattle.ae_numeric.specs.Stated.{scaled, sum_steps}
 use Rattle.ae_numeric.specs.Computing.{IsResult, IsFormOf, IsWideIn}
-use Rattle.ae_numeric.specs.Sums as spec
+use Rattle.ae_numeric.specs.Inner.Sums as spec
 use Rattle.ae_numeric.proofs.SumLaws.{own_wide, rest_wide, all_fit, balance_exact}
 use Rattle.ae_numeric.proofs.Computations.{err_is}
 use Rattle.ae_numeric.proofs.combinations.balances.Goals as goal

@@ -2,8 +2,8 @@ use Rattle.std.specs.Prelude.{◌≡◌, pos, ◌<ℤ◌}
 use Rattle.std.proofs.Common.{sym, ◌∙◌, subst, true≢false, to_z, of_z}
 use Rattle.std.proofs.lemmas.Int.{to_z-of_z}
 use mir.Syntax.{w128}
-use Rattle.ae_core.specs.Lines.{below}
-use Rattle.ae_numeric.specs.Sums.{IsSum}
+use Rattle.ae_rules.specs.Lines.{below}
+use Rattle.ae_numeric.specs.Inner.Sums.{IsSum}
 use Rattle.ae_numeric.proofs.AllowedLaws.{lt_of, lt_counts, lt_some}
 use Rattle.ae_numeric.proofs.combinations.lt_sum_allowed.Goals as goal
 

@@ -2,7 +2,7 @@ use Rattle.std.specs.Prelude.{[]}
 use Rattle.std.proofs.Common.{subst, ap, ◌∙◌, sym}
 use Rattle.ae_num.specs.Forms.{first_wide}
 use Rattle.ae_numeric.specs.Computing.{IsWideIn}
-use Rattle.ae_numeric.specs.Sums as spec
+use Rattle.ae_numeric.specs.Inner.Sums as spec
 use Rattle.ae_numeric.proofs.DenialLaws.{number_denied}
 use Rattle.ae_numeric.proofs.Computations.{err_is}
 use Rattle.ae_numeric.proofs.combinations.number_denied.Goals as goal

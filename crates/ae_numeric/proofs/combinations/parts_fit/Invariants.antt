@@ -1,6 +1,6 @@
 use Rattle.std.proofs.Common.{◌≡◌, true, take}
 use Rattle.std.specs.List.{list_all}
-use Rattle.ae_numeric.specs.Sums as spec
+use Rattle.ae_numeric.specs.Inner.Sums as spec
 use Rattle.ae_numeric.proofs.combinations.parts_fit.Given as goal
 
 abbrev pub invariant-loop-part : goal.invariant-loop-part

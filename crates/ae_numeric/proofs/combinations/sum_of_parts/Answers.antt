@@ -2,7 +2,7 @@ use Rattle.std.specs.Prelude.{pos, get_or}
 use Rattle.ae_core.specs.declared.proofs.Scaled.{Scaled}
 use Rattle.ae_numeric.specs.Stated.{added_up, known, nought}
 use Rattle.ae_numeric.specs.Computing.{IsWideIn}
-use Rattle.ae_numeric.specs.Sums as spec
+use Rattle.ae_numeric.specs.Inner.Sums as spec
 use Rattle.ae_numeric.proofs.SumLaws.{running_none, summand_at, summand_within, summand_sorted, parts_more, parts_wide}
 use Rattle.ae_numeric.proofs.Computations.{err_is}
 use Rattle.ae_numeric.proofs.combinations.sum_of_parts.Goals as goal

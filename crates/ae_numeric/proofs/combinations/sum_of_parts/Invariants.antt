@@ -1,5 +1,5 @@
 use Rattle.std.proofs.Common.{take}
-use Rattle.ae_numeric.specs.Sums.{IsRunning, facts_of}
+use Rattle.ae_numeric.specs.Inner.Sums.{IsRunning, facts_of}
 use Rattle.ae_numeric.proofs.combinations.sum_of_parts.Given as goal
 
 abbrev pub invariant-loop-part : goal.invariant-loop-part

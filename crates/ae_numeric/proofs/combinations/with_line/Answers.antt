@@ -5,12 +5,13 @@ use Rattle.ae_math.specs.Forms.{plus, scale}
 use Rattle.ae_num.specs.declared.forms.Lin.{Lin}
 use Rattle.ae_num.specs.declared.numbers.NumFail.{NumFail}
 use Rattle.ae_num.specs.Forms.{meaning, SameMeaning, IsNormal, first_wide, IfWide, sum_of, plus_steps}
-use Rattle.ae_num.proofs.StepLaws.{if_both}
-use Rattle.ae_core.specs.Linear.{Linear}
-use Rattle.ae_core.specs.Lines.{Fact, states, whole}
+use Rattle.ae_base.proofs.Results.{if_ok_both}
+use Rattle.ae_rules.specs.Linear.{Linear}
+use Rattle.ae_rules.specs.Lines.{Fact, states}
+use Rattle.ae_math.specs.Fractions.{whole}
 use Rattle.ae_numeric.specs.Stated.{Computation, scaled, added, known}
 use Rattle.ae_numeric.specs.Computing.{IsResult, IsFormOf, IsWideIn}
-use Rattle.ae_numeric.specs.Sums as spec
+use Rattle.ae_numeric.specs.Inner.Sums as spec
 use Rattle.ae_numeric.proofs.Meanings.{sum_form, kept_form}
 use Rattle.ae_numeric.proofs.Computations.{added_result, added_wide_before, added_wide, err_is, if_err}
 use Rattle.ae_numeric.proofs.combinations.with_line.Goals as goal
@@ -40,7 +41,7 @@ returns-clause-result c =
     let is : IsResult more before after f =
     subst (λ t. IsResult (scaled t (pos 1) (spec.summed r s)) before after f) z
     (subst (λ (s : Fact). IsResult (scaled (to_z w128 (of_z w128 c.args.part.factor)) (pos 1) (spec.summed r s)) before after f) (sym c.stated.ensures) c.in_ok-form.ensures.result) in
-    if_both c.plus.result (λ (h : Lin). h ≡ sum_of c.args.sum.now f) (λ (h : Lin). first_wide (plus_steps c.args.sum.now f) ≡ None) (IsResult (added (known c.args.sum.now) more) before after)
+    if_ok_both c.plus.result (λ (h : Lin). h ≡ sum_of c.args.sum.now f) (λ (h : Lin). first_wide (plus_steps c.args.sum.now f) ≡ None) (IsResult (added (known c.args.sum.now) more) before after)
     (λ (h : Lin) e w. added_result c.args.sum.now more before after f h is e w)
     c.plus.ensures.form c.plus.ensures.fits
 
@@ -56,7 +57,7 @@ returns-clause-meaning c =
     let is : IsFormOf after f b =
     subst (λ t. IsFormOf after f (scale (whole t) (spec.meant r s.left s.right))) z
     (subst (λ (s : Fact). IsFormOf after f (scale (whole (to_z w128 (of_z w128 c.args.part.factor))) (spec.meant r s.left s.right))) (sym c.stated.ensures) c.in_ok-form.ensures.meaning) in
-    if_both c.plus.result IsNormal (λ (h : Lin). SameMeaning (meaning h) (plus (meaning c.args.sum.now) (meaning f))) (λ (h : Lin). (a : Linear) → IsFormOf before c.args.sum.now a → IsFormOf after h (plus a b))
+    if_ok_both c.plus.result IsNormal (λ (h : Lin). SameMeaning (meaning h) (plus (meaning c.args.sum.now) (meaning f))) (λ (h : Lin). (a : Linear) → IsFormOf before c.args.sum.now a → IsFormOf after h (plus a b))
     (λ (h : Lin) n same. λ (a : Linear) p. sum_form after c.args.sum.now f h a b (kept_form before after c.args.sum.now a is.distinct c.in_ok-form.ensures.kept p) is n same)
     c.plus.ensures.normal c.plus.ensures.exact
 

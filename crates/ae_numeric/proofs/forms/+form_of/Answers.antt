@@ -1,12 +1,10 @@
-use Rattle.std.specs.Prelude.{◌≡◌, ◌++◌, ◌<ℤ◌, ◌<◌, pos, [], Some, None, IfOk, IfErr, List, length}
+use Rattle.std.specs.Prelude.{◌≡◌, ◌++◌, ◌<ℤ◌, ◌<◌, pos, [], Some, None, IfOk, IfErr, List, length, ◌*◌, ◌+◌, get_or}
 use Rattle.std.specs.List.{AllByRecursion}
 use Rattle.std.proofs.Common.{rules, arith, sym, ap, ◌∙◌, subst, refl}
 use Rattle.std.proofs.lemmas.Int.{to_z-of_z}
 use denote.Param.Weighed.{most}
-use Rattle.ae_core.specs.declared.terms.Term.{size-Term}
+use Rattle.ae_core.specs.declared.terms.Term.{size-Term, Term, Bound}
 use Rattle.ae_numeric.proofs.SizeLaws.{pair_falls, first_falls}
-use Rattle.std.specs.Prelude.{◌*◌, ◌+◌}
-use Rattle.std.specs.Prelude.{get_or}
 use mir.Syntax.{w128}
 use mir.Val.{of_z, to_z}
 use Rattle.ae_math.specs.Fractions.{ratio}
@@ -14,14 +12,14 @@ use Rattle.ae_math.specs.Forms.{single, scale, number}
 use Rattle.ae_num.specs.declared.forms.Lin.{Lin}
 use Rattle.ae_num.specs.declared.numbers.Wide.{Wide}
 use Rattle.ae_num.specs.Forms.{first_wide, IfWide, multiple_of, scale_steps, IsNormal, meaning, SameMeaning, lowest}
-use Rattle.ae_num.proofs.StepLaws.{same_err, if_ok}
-use Rattle.ae_core.specs.Linear.{Linear, form}
-use Rattle.ae_core.proofs.LinearLaws.{form-Bound, form-Num, form-Fresh}
-use Rattle.ae_core.specs.declared.terms.Term.{Term, Bound}
+use Rattle.ae_num.proofs.StepLaws.{same_err}
+use Rattle.std.proofs.lemmas.Result.{IfOk-weaker}
+use Rattle.ae_rules.specs.Linear.{Linear, form}
+use Rattle.ae_rules.proofs.LinearLaws.{form-Bound, form-Num, form-Fresh}
 use Rattle.ae_numeric.specs.Stated.{Computation, computed, opaque, known, scaled}
 use Rattle.ae_numeric.specs.Computing.{IsFormOf, IsResult, IsWideIn, IsSorted}
-use Rattle.ae_numeric.specs.Keyed.{Keeps}
-use Rattle.ae_numeric.specs.Rules.{at, joined, joined_forms, ruled, ruled_form, Fits, AreResults, IsWideInBoth, rule_of}
+use Rattle.ae_numeric.specs.Computing.{Keeps}
+use Rattle.ae_numeric.specs.Inner.Rules.{at, joined, joined_forms, ruled, ruled_form, Fits, AreResults, IsWideInBoth, rule_of}
 use Rattle.ae_numeric.specs.declared.forms.Rule.{Rule}
 use Rattle.ae_numeric.specs.declared.forms.Rule.TheVariants.{Scale, Pair}
 use Rattle.ae_numeric.proofs.KeyedLaws.{keeps_then, same_default}
@@ -308,7 +306,7 @@ form_of-returns-in_ok-left-in-Pair-clause-result t c =
     let parts : AreResults (computed (at us 0)) (computed (at us 1)) before mid x y = subst (λ (ts : List Term). AreResults (computed (at ts 0)) (computed (at ts 1)) before mid x y) two c.in_ok-left-in-Pair.ensures.result in
     let after = c.joined_form.new.keys in
     subst (λ (k : Computation). IfOk c.joined_form.result (λ f. IsResult k before after f)) (sym law)
-    (if_ok c.joined_form.result (λ f. IsResult (joined o whole (known x) (known y)) mid after f) (λ f. IsResult (joined o whole (computed (at us 0)) (computed (at us 1))) before after f)
+    (IfOk-weaker c.joined_form.result (λ f. IsResult (joined o whole (known x) (known y)) mid after f) (λ f. IsResult (joined o whole (computed (at us 0)) (computed (at us 1))) before after f)
     (λ (f : Lin) h. joined_result o whole (computed (at us 0)) (computed (at us 1)) before mid x y parts after f h) c.joined_form.ensures.result)
 
 pub form_of-returns-in_ok-left-in-Pair-clause-meaning : goal.form_of-returns-in_ok-left-in-Pair-clause-meaning

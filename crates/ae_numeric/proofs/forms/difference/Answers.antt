@@ -4,12 +4,12 @@ use Rattle.ae_num.specs.declared.forms.Lin.{Lin}
 use Rattle.ae_num.specs.declared.numbers.Wide.{Wide}
 use Rattle.ae_num.specs.Forms.{first_wide, IfWide, sum_of, multiple_of, plus_steps, scale_steps, IsNormal, meaning, SameMeaning}
 use Rattle.ae_num.proofs.StepLaws.{same_err}
-use Rattle.ae_core.specs.Linear.{form}
+use Rattle.ae_rules.specs.Linear.{form}
 use Rattle.ae_core.specs.declared.terms.Term.{Bound}
 use Rattle.ae_numeric.specs.Stated.{computed, subtracted}
 use Rattle.ae_numeric.specs.Computing.{IsFormOf, IsResult, IsWideIn}
-use Rattle.ae_numeric.specs.Rules.{AreResults}
-use Rattle.ae_numeric.specs.Keyed.{Keeps}
+use Rattle.ae_numeric.specs.Inner.Rules.{AreResults}
+use Rattle.ae_numeric.specs.Computing.{Keeps}
 use Rattle.ae_numeric.specs.declared.forms.Operation.TheVariants.{Difference}
 use Rattle.ae_numeric.proofs.KeyedLaws.{keeps_then}
 use Rattle.ae_numeric.proofs.NamedLaws.{kept_form, difference_is_form}

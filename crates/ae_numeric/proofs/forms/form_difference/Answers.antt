@@ -7,7 +7,8 @@ use Rattle.ae_math.proofs.FormLaws.{same_refl, same_trans, plus-same}
 use Rattle.ae_num.specs.declared.forms.Lin.{Lin}
 use Rattle.ae_num.specs.declared.numbers.Wide.{Wide}
 use Rattle.ae_num.specs.Forms.{meaning, SameMeaning, first_wide, IfWide, plus_steps, scale_steps, multiple_of}
-use Rattle.ae_num.proofs.StepLaws.{first_wide-some, first_wide-none, same_err, if_ok}
+use Rattle.ae_num.proofs.StepLaws.{first_wide-some, first_wide-none, same_err}
+use Rattle.std.proofs.lemmas.Result.{IfOk-weaker}
 use Rattle.ae_numeric.proofs.NamedLaws.{minus_ratio}
 use Rattle.ae_numeric.proofs.forms.form_difference.Goals as goal
 
@@ -24,7 +25,7 @@ returns-clause-exact c =
     let y = c.args.right.now in
     let z = c.in_ok-negated.negated in
     let turned : SameMeaning (meaning z) (scale (ratio (neg_ℤ (pos 1)) (pos 1)) (meaning y)) = c.in_ok-negated.ensures.exact in
-    if_ok c.plus.result _ (λ f. SameMeaning (meaning f) (minus (meaning x) (meaning y)))
+    IfOk-weaker c.plus.result _ (λ f. SameMeaning (meaning f) (minus (meaning x) (meaning y)))
     (λ (f : Lin) s. subst (λ a. SameMeaning (meaning f) (plus (meaning x) (scale a (meaning y)))) minus_ratio
     (same_trans ℕ_discrete (meaning f) (plus (meaning x) (meaning z)) (plus (meaning x) (scale (ratio (neg_ℤ (pos 1)) (pos 1)) (meaning y))) s
     (plus-same ℕ_discrete (meaning x) (meaning x) (meaning z) (scale (ratio (neg_ℤ (pos 1)) (pos 1)) (meaning y)) (same_refl ℕ_discrete (meaning x)) turned))) c.plus.ensures.exact

@@ -2,9 +2,9 @@ use Rattle.std.proofs.Common.{◌∙◌}
 use Rattle.ae_math.specs.Forms.{single}
 use Rattle.ae_num.specs.declared.forms.Lin.{Lin}
 use Rattle.ae_num.specs.Forms.{IsNormal}
-use Rattle.ae_num.proofs.StepLaws.{if_ok}
+use Rattle.std.proofs.lemmas.Result.{IfOk-weaker}
 use Rattle.ae_num.proofs.ReductionLaws.{read_back}
-use Rattle.ae_core.specs.Linear.{times}
+use Rattle.ae_rules.specs.Linear.{times}
 use Rattle.ae_numeric.specs.Computing.{IsFormOf}
 use Rattle.ae_numeric.proofs.NamedLaws.{product_left, product_right, product_opaque, empty_number}
 use Rattle.ae_numeric.proofs.ComputedLaws.{if_three}
@@ -31,6 +31,6 @@ pub returns-clause-meaning : goal.returns-clause-meaning
 returns-clause-meaning c f g p q =
     let x = c.args.left.now in
     let y = c.args.right.now in
-    if_ok c.opaque_form.result (λ z. IsFormOf c.opaque_form.new.keys z (single c.args.whole.now)) (λ z. IsFormOf c.opaque_form.new.keys z (times c.args.whole.now f g))
+    IfOk-weaker c.opaque_form.result (λ z. IsFormOf c.opaque_form.new.keys z (single c.args.whole.now)) (λ z. IsFormOf c.opaque_form.new.keys z (times c.args.whole.now f g))
     (λ (z : Lin) made. product_opaque c.args.keys.now c.opaque_form.new.keys c.args.whole.now z x y f g p q (empty_number x c.is_empty.result c.is_empty.ensures ∙ c.if-is_empty.false)
     (empty_number y c.is_empty-2.result c.is_empty-2.ensures ∙ c.if-is_empty-2.false) made) c.opaque_form.ensures.meaning

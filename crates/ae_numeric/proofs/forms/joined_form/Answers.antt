@@ -4,7 +4,7 @@ use Rattle.ae_math.specs.Forms.{plus, minus}
 use Rattle.ae_num.specs.declared.forms.Lin.{Lin}
 use Rattle.ae_num.specs.Forms.{meaning, SameMeaning, IsNormal, sum_of, multiple_of}
 use Rattle.ae_numeric.specs.Computing.{IsFormOf}
-use Rattle.ae_numeric.specs.Rules.{joined_forms}
+use Rattle.ae_numeric.specs.Inner.Rules.{joined_forms}
 use Rattle.ae_numeric.specs.declared.forms.Operation.{Operation}
 use Rattle.ae_numeric.proofs.NamedLaws.{sum_is_form, difference_is_form}
 use Rattle.ae_numeric.proofs.ComputedLaws.{if_three}

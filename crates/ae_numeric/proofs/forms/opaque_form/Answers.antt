@@ -1,7 +1,7 @@
 use Rattle.std.proofs.Common.{◌≡◌, ◌∙◌, sym, ap, subst}
 use Rattle.ae_numeric.specs.Stated.{with_key, key_form}
 use Rattle.ae_numeric.specs.Computing.{AreDistinct}
-use Rattle.ae_numeric.specs.Keyed.{Keeps}
+use Rattle.ae_numeric.specs.Computing.{Keeps}
 use Rattle.ae_numeric.proofs.KeyedLaws.{keeps_with, distinct_with}
 use Rattle.ae_numeric.proofs.NamedLaws.{key_is_form}
 use Rattle.ae_numeric.proofs.forms.opaque_form.Goals as goal

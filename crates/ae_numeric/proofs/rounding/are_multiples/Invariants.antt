@@ -1,5 +1,5 @@
 use Rattle.std.proofs.Common.{◌≡◌, length, map, take}
-use Rattle.ae_numeric.specs.Rounding.{times_part}
+use Rattle.ae_numeric.specs.Inner.Rounding.{times_part}
 use Rattle.ae_numeric.proofs.rounding.are_multiples.Given as goal
 
 abbrev pub invariant-loop-i : goal.invariant-loop-i

@@ -1,6 +1,6 @@
 use Rattle.std.proofs.Common.{ℕ, pos, ◌≤ℤ◌, ◌<◌, ◌^◌, ◌∷◌, drop, unsigned_abs}
 use Rattle.ae_num.specs.Forms.{IsCommonDivisor}
-use Rattle.ae_numeric.specs.Rounding.{factor_sizes}
+use Rattle.ae_numeric.specs.Inner.Rounding.{factor_sizes}
 use Rattle.ae_numeric.proofs.rounding.common_factor.Given as goal
 
 abbrev pub invariant-loop-part : goal.invariant-loop-part

@@ -4,11 +4,12 @@ use Rattle.ae_num.specs.declared.forms.Lin.{Lin}
 use Rattle.ae_num.specs.declared.numbers.Wide.{Wide}
 use Rattle.ae_num.specs.declared.numbers.NumFail.{NumFail}
 use Rattle.ae_num.specs.Forms.{meaning, SameMeaning, IsNormal, first_wide, IfWide, plus_steps, sum_of}
-use Rattle.ae_num.proofs.StepLaws.{same_err, if_both}
-use Rattle.ae_core.specs.Linear.{form}
+use Rattle.ae_num.proofs.StepLaws.{same_err}
+use Rattle.ae_base.proofs.Results.{if_ok_both}
+use Rattle.ae_rules.specs.Linear.{form}
 use Rattle.ae_numeric.specs.Stated.{computed, subtracted, taken_down, minus_one}
 use Rattle.ae_numeric.specs.Computing.{IsFormOf, IsResult, IsWideIn}
-use Rattle.ae_numeric.specs.Rounding.{lowered}
+use Rattle.ae_numeric.specs.Inner.Rounding.{lowered}
 use Rattle.ae_numeric.proofs.Computations.{if_err}
 use Rattle.ae_numeric.proofs.RoundingSteps.{lowered_form, lowered_result, lowered_wide, taken_down_wide}
 use Rattle.ae_numeric.proofs.rounding.gap_of.Goals as goal
@@ -26,7 +27,7 @@ returns-in-Below-clause-result c =
     let before = c.args.keys.now in
     let after = c.difference.new.keys in
     let f = c.in_ok-gap.gap in
-    if_both c.less_one.result (λ h. h ≡ sum_of f minus_one) (λ h. first_wide (plus_steps f minus_one) ≡ None) (λ h. IsResult (taken_down c.args.relation a) before after h)
+    if_ok_both c.less_one.result (λ h. h ≡ sum_of f minus_one) (λ h. first_wide (plus_steps f minus_one) ≡ None) (λ h. IsResult (taken_down c.args.relation a) before after h)
     (λ (h : Lin) e w. lowered_result c.args.relation a before after f h c.in-Below.is c.in_ok-gap.ensures.result e w) c.less_one.ensures.form c.less_one.ensures.fits
 
 pub returns-in-Below-clause-meaning : goal.returns-in-Below-clause-meaning
@@ -34,7 +35,7 @@ returns-in-Below-clause-meaning c =
     let m = minus (form c.args.right.now) (form c.args.left.now) in
     let after = c.difference.new.keys in
     let f = c.in_ok-gap.gap in
-    if_both c.less_one.result (λ h. SameMeaning (meaning h) (plus (meaning f) (meaning minus_one))) IsNormal (λ h. IsFormOf after h (lowered c.args.relation m))
+    if_ok_both c.less_one.result (λ h. SameMeaning (meaning h) (plus (meaning f) (meaning minus_one))) IsNormal (λ h. IsFormOf after h (lowered c.args.relation m))
     (λ (h : Lin) s n. lowered_form c.args.relation after f h m c.in-Below.is c.in_ok-gap.ensures.meaning n s) c.less_one.ensures.meaning c.less_one.ensures.normal
 
 pub returns-in-Below-clause-wide : goal.returns-in-Below-clause-wide

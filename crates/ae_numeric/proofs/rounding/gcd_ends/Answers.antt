@@ -3,7 +3,7 @@ use Rattle.std.proofs.Common.{rules, ap, sym, ◌∙◌}
 use Rattle.ae_num.specs.declared.numbers.Wide.{Wide}
 use Rattle.ae_num.specs.Forms.{first_wide}
 use Rattle.ae_num.proofs.StepLaws.{same_err}
-use Rattle.ae_core.specs.Lines.{equal, states}
+use Rattle.ae_rules.specs.Lines.{equal, states}
 use Rattle.ae_core.specs.declared.proofs.Ending.TheVariants.{Gcd}
 use Rattle.ae_core.specs.declared.proofs.Relation.TheVariants.{Equal}
 use Rattle.ae_numeric.specs.Stated.{fact_at, ending_steps, forward}

@@ -4,7 +4,7 @@ use mir.Syntax.{w128}
 use mir.Val.{of_z, to_z}
 use Rattle.ae_num.specs.Forms.{IsCommonDivisor}
 use Rattle.ae_num.proofs.ReductionLaws.{read_back}
-use Rattle.ae_numeric.specs.Rounding.{factor_sizes}
+use Rattle.ae_numeric.specs.Inner.Rounding.{factor_sizes}
 use Rattle.ae_numeric.proofs.RoundingLaws.{positive_common, apart_test}
 use Rattle.ae_numeric.proofs.rounding.is_apart.Goals as goal
 

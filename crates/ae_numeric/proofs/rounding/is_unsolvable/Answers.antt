@@ -1,5 +1,5 @@
-use Rattle.ae_core.specs.Linear.{form}
-use Rattle.ae_core.specs.Lines.{gap, equal}
+use Rattle.ae_rules.specs.Linear.{form}
+use Rattle.ae_rules.specs.Lines.{gap, equal}
 use Rattle.ae_numeric.proofs.RoundingLaws.{Reading, turned_reading, unsolvable_apart, apart_unsolvable}
 use Rattle.ae_numeric.proofs.rounding.is_unsolvable.Goals as goal
 

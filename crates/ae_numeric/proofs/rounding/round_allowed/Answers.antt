@@ -4,7 +4,7 @@ use Rattle.ae_num.specs.declared.numbers.Wide.{Wide}
 use Rattle.ae_num.specs.Forms.{first_wide}
 use Rattle.ae_num.proofs.StepLaws.{same_err}
 use Rattle.ae_core.specs.Sorts.{sort_of}
-use Rattle.ae_core.specs.Lines.{Fact, at_most}
+use Rattle.ae_rules.specs.Lines.{Fact, at_most}
 use Rattle.ae_core.specs.declared.proofs.EqLine.TheVariants.{LeRound}
 use Rattle.ae_core.specs.declared.proofs.Relation.TheVariants.{Equal}
 use Rattle.ae_numeric.specs.Stated.{fact_at, line_steps, round_steps, of_one_sort}

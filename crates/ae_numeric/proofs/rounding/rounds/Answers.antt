@@ -4,11 +4,11 @@ use Rattle.ae_math.specs.Forms.{minus}
 use Rattle.ae_num.specs.declared.numbers.Wide.{Wide}
 use Rattle.ae_num.specs.Forms.{first_wide}
 use Rattle.ae_num.proofs.StepLaws.{same_err, first_wide-some}
-use Rattle.ae_core.specs.Linear.{form}
-use Rattle.ae_core.specs.Lines.{Fact, at_most}
+use Rattle.ae_rules.specs.Linear.{form}
+use Rattle.ae_rules.specs.Lines.{Fact, at_most}
 use Rattle.ae_numeric.specs.Stated.{computed, subtracted, taken_down, round_steps}
 use Rattle.ae_numeric.specs.Computing.{IsFormOf, IsResult}
-use Rattle.ae_numeric.specs.Rounding.{lowered}
+use Rattle.ae_numeric.specs.Inner.Rounding.{lowered}
 use Rattle.ae_numeric.proofs.Meanings.{kept_form}
 use Rattle.ae_numeric.proofs.RoundingLaws.{rounded_quotient, quotient_rounded}
 use Rattle.ae_numeric.proofs.RoundingSteps.{two_fit, second_wide}

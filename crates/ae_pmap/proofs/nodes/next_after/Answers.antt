@@ -5,7 +5,7 @@ use Rattle.ae_pmap.specs.Nodes.{tree_at}
 use Rattle.ae_pmap.proofs.Tables.{tree_at-zero}
 use Rattle.ae_pmap.proofs.Opened.{opened}
 use Rattle.ae_pmap.proofs.Searches.{parts}
-use Rattle.ae_pmap.proofs.Walks.{or_else, next_pair, walk_left, walk_right, none_next}
+use Rattle.ae_pmap.proofs.Walks.{first_or, next_pair, walk_left, walk_right, none_next}
 use Rattle.ae_pmap.proofs.nodes.next_after.Goals as goal
 
 abbrev blank : Node
@@ -34,5 +34,5 @@ loop-place-preserved c =
 pub returns : goal.returns
 returns c =
     let z : c.loop-place.place ≡ 0 = omega (arith, c.loop-place-test.false) in
-    sym (ap (λ (t : Tree). or_else (next_pair c.args.last (pairs t)) c.loop-place.best) (ap (tree_at c.args.nodes.now) z ∙ tree_at-zero c.args.nodes.now)
-    ∙ ap (λ (p : Option (ℕ × ℕ)). or_else p c.loop-place.best) (none_next c.args.last)) ∙ c.loop-place.invariant.same
+    sym (ap (λ (t : Tree). first_or (next_pair c.args.last (pairs t)) c.loop-place.best) (ap (tree_at c.args.nodes.now) z ∙ tree_at-zero c.args.nodes.now)
+    ∙ ap (λ (p : Option (ℕ × ℕ)). first_or p c.loop-place.best) (none_next c.args.last)) ∙ c.loop-place.invariant.same

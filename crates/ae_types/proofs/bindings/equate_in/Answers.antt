@@ -1,6 +1,5 @@
-use Rattle.std.proofs.Common.{◌∷◌, [], ◌≡◌, ◌∙◌, ap, sym, subst, OnErr}
-use Rattle.ae_types.specs.declared.joins.Pair.{Pair}
-use Rattle.ae_types.specs.Inner.Enters.{Sheet, sheet, Grows}
+use Rattle.std.proofs.Common.{◌∷◌, [], ◌≡◌, ◌∙◌, ap, sym, subst}
+use Rattle.ae_types.specs.Inner.Enters.{sheet}
 use Rattle.ae_types.specs.Bound.{bound, IsSound}
 use Rattle.ae_types.specs.Substitutions.{Respects, MakesEqual}
 use Rattle.ae_types.proofs.EnterLaws.{grows_trans, stands_more}

@@ -1,11 +1,9 @@
-use Rattle.std.proofs.Common.{ap, sym, ◌∙◌, subst, length, []}
-use Rattle.ae_core.specs.declared.terms.Sort.{Sort, Var}
-use Rattle.ae_types.specs.Inner.Enters.{Sheet, sheet, Grows, PairsStand, nothing}
-use Rattle.ae_types.specs.Bound.{bound, IsSound}
-use Rattle.ae_types.specs.Inner.Graphs.{origin, slots_of}
+use Rattle.std.proofs.Common.{sym, subst, length, []}
+use Rattle.ae_types.specs.Inner.Enters.{sheet, Grows}
+use Rattle.ae_types.specs.Inner.Graphs.{slots_of}
 use Rattle.ae_types.specs.Inner.Joins.{PairsWell, Closing, Blames}
 use Rattle.ae_types.specs.Inner.Levels.{Settled}
-use Rattle.ae_types.specs.Clashes.{IsClash, IsPair}
+use Rattle.ae_types.specs.Clashes.{IsPair}
 use Rattle.ae_types.proofs.UnifyLaws.{pairs_within, unified_sound, unified_unifies, unified_general, unified_blames, idempotent, clash_refutes, unified_pair}
 use Rattle.ae_types.proofs.bindings.unify.Goals as goal
 

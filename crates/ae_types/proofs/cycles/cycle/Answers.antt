@@ -1,10 +1,10 @@
-use Rattle.std.proofs.Common.{◌<◌, length, ap, sym, ◌∙◌, arith}
+use Rattle.std.proofs.Common.{ap, sym, ◌∙◌, arith}
 use Rattle.ae_types.specs.declared.graph.Node.TheVariants as node
 use Rattle.ae_types.specs.declared.graph.Constant.TheVariants as constant
 use Rattle.ae_types.specs.Inner.Graphs.{variable_of}
 use Rattle.ae_types.specs.Inner.Walks.{frame_at}
 use Rattle.ae_types.proofs.GraphLaws.{read_at, slots_length}
-use Rattle.ae_types.proofs.CycleLaws.{cycle_clash, cycle_parts, runs_inner, runs_outer, low_built}
+use Rattle.ae_types.proofs.CycleLaws.{cycle_clash, runs_inner, runs_outer, low_built}
 use Rattle.ae_types.proofs.cycles.cycle.Goals as goal
 
 pub returns : goal.returns

@@ -1,10 +1,10 @@
-use Rattle.std.proofs.Common.{◌≡◌, ◌<◌, ◌≤◌, ◌+◌, ◌++◌, [], ◌∷◌, length, drop, slice_get, Some, None, ap, sym, ◌∙◌, subst, arith}
-use Rattle.ae_types.specs.declared.cycles.Mark.TheVariants.{New, Open, Done}
+use Rattle.std.proofs.Common.{◌<◌, ◌+◌, length, slice_get, ap, sym, ◌∙◌, subst, arith}
+use Rattle.ae_types.specs.declared.cycles.Mark.TheVariants.{Open, Done}
 use Rattle.ae_types.specs.declared.cycles.Walk.{Walk}
 use Rattle.ae_types.specs.Inner.Graphs.{slot_at, slots_of}
-use Rattle.ae_types.specs.Inner.Walks.{refs, mark_at, Leads, Walking, IsCycle, left, level_of}
+use Rattle.ae_types.specs.Inner.Walks.{refs, Walking, IsCycle, left, level_of}
 use Rattle.ae_types.proofs.GraphLaws.{graph_slots, slot_at_class, slots_length}
-use Rattle.ae_types.proofs.WalkLaws.{walk_leaves, walk_advances, walk_opens, walk_cycles, left_leaves, left_advances, left_opens, keeps_set, part_within, last_leads, last_within, not_got, got, done_room}
+use Rattle.ae_types.proofs.WalkLaws.{walk_leaves, walk_advances, walk_opens, walk_cycles, left_leaves, left_advances, left_opens, keeps_set, part_within, last_leads, last_within, not_got, got}
 use Rattle.ae_types.proofs.cycles.descend.Goals as goal
 
 pub loop-frame-smaller-in-None : goal.loop-frame-smaller-in-None

@@ -1,4 +1,3 @@
-use Rattle.std.proofs.Common.{length}
 use Rattle.ae_types.specs.Inner.Graphs.{slots_of}
 use Rattle.ae_types.specs.Inner.Walks.{Walking, KeepsSeen, left}
 use Rattle.ae_types.proofs.cycles.descend.Given as goal

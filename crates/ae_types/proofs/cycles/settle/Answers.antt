@@ -1,5 +1,5 @@
 use Rattle.std.proofs.Common.{◌≡◌, ◌≢◌, ℕ, ◌<◌, ◌+◌, inl, inr, length, [], ap, sym, ◌∙◌, subst, arith}
-use Rattle.ae_types.specs.declared.cycles.Mark.TheVariants.{New, Open}
+use Rattle.ae_types.specs.declared.cycles.Mark.TheVariants.{New}
 use Rattle.ae_types.specs.Inner.Graphs.{slots_of}
 use Rattle.ae_types.specs.Inner.Walks.{mark_at, Walking, IsFresh}
 use Rattle.ae_types.proofs.GraphLaws.{slots_length}

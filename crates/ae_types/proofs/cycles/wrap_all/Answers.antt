@@ -1,4 +1,4 @@
-use Rattle.std.proofs.Common.{◌≡◌, ◌≢◌, ◌-◌, ◌+◌, ◌<◌, ◌≤◌, sym, subst, arith}
+use Rattle.std.proofs.Common.{◌≡◌, ◌≢◌, ◌-◌, ◌+◌, sym, subst, arith}
 use Rattle.ae_core.specs.declared.terms.Sort.{Var}
 use Rattle.ae_types.specs.Inner.Graphs.{slot_at, slots_of}
 use Rattle.ae_types.specs.Inner.Walks.{frame_at, begin, Wraps}

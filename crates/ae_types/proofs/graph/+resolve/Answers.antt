@@ -2,7 +2,7 @@ use Rattle.std.proofs.Common.{rules, ◌≡◌, ◌<◌, ◌-◌, ap, sym, ◌�
 use Rattle.ae_core.specs.declared.terms.Sort.{Var, Named}
 use Rattle.ae_types.specs.declared.graph.Node.TheVariants as node
 use Rattle.ae_types.specs.declared.graph.Constant.TheVariants as constant
-use Rattle.ae_types.specs.Inner.Graphs.{Free, Link, Plain, Built, slot_at, slot_of, slots_of, known_slot, unknown, value, variable_of}
+use Rattle.ae_types.specs.Inner.Graphs.{Link, Plain, Built, slot_of, slots_of, known_slot, unknown, value, variable_of}
 use Rattle.ae_types.proofs.GraphLaws.{read_at, slot_at_class, known_well, value_of, value_free, all_mapped}
 use Rattle.ae_types.proofs.graph.+resolve.Goals as goal
 

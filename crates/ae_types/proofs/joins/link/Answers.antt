@@ -1,9 +1,8 @@
-use Rattle.std.proofs.Common.{rules, ◌≡◌, ◌<◌, length, true, false, ap, sym, ◌∙◌, subst, arith, slice_set, refl}
+use Rattle.std.proofs.Common.{rules, ◌≡◌, ◌<◌, length, true, false, ap, sym, ◌∙◌, subst, arith, slice_set}
 use Rattle.ae_types.specs.declared.graph.Class.TheVariants as class
 use Rattle.ae_types.specs.declared.graph.Node.TheVariants as node
 use Rattle.ae_types.specs.declared.graph.Constant.TheVariants as constant
 use Rattle.ae_types.specs.Inner.Graphs.{GraphWell, is_variable, slots_of}
-use Rattle.ae_types.specs.Inner.Joins.{joined}
 use Rattle.ae_types.proofs.GraphLaws.{read_at, known_well}
 use Rattle.ae_types.proofs.LinkLaws.{linked_kept, linked_moved}
 use Rattle.ae_types.proofs.joins.link.Goals as goal

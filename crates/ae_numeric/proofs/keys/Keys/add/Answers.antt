@@ -4,7 +4,7 @@ use Rattle.std.specs.Map.{lookup}
 use Rattle.std.specs.Ordering.{is_eq}
 use Rattle.ae_core.specs.Orders.{term_order}
 use Rattle.ae_core.specs.declared.terms.Term.{Term}
-use Rattle.ae_numeric.specs.Keyed.{IsIndex, place_in}
+use Rattle.ae_numeric.specs.Inner.Keyed.{IsIndex, place_in}
 use Rattle.ae_numeric.proofs.KeyedLaws.{grown}
 use Rattle.ae_numeric.proofs.keys.Keys.add.Goals as goal
 

@@ -1,7 +1,7 @@
 use Rattle.std.proofs.Common.{rules, ◌≡◌, ◌∙◌, sym, ap, subst, Some, None, OnOk}
-use Rattle.ae_num.proofs.StepLaws.{if_ok}
+use Rattle.std.proofs.lemmas.Result.{IfOk-weaker}
 use Rattle.ae_numeric.specs.Stated.{place_of}
-use Rattle.ae_numeric.specs.Keyed.{place_in}
+use Rattle.ae_numeric.specs.Inner.Keyed.{place_in}
 use Rattle.ae_numeric.proofs.KeyedLaws.{place_found, place_new}
 use Rattle.ae_numeric.proofs.keys.Keys.number_of.Goals as goal
 
@@ -25,7 +25,7 @@ returns-in-None-clause-number c =
     let view : c.self.inside.terms ≡ c.args.self.now = search rules in
     let e : place_in c.self.inside.terms t ≡ None = sym (c.self.invariant t) ∙ sym c.get.ensures.value ∙ sym c.copied.ensures ∙ c.in-None.is in
     let p = place_new c.args.self.now t (ap (λ ks. place_in ks t) (sym view) ∙ e) in
-    if_ok c.add.result _ (λ n. n ≡ place_of c.args.self.now t) (λ n h. h ∙ p.0) c.add.ensures.number
+    IfOk-weaker c.add.result _ (λ n. n ≡ place_of c.args.self.now t) (λ n h. h ∙ p.0) c.add.ensures.number
 
 pub returns-in-None-clause-keys : goal.returns-in-None-clause-keys
 returns-in-None-clause-keys c =
