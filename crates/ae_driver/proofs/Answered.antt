@@ -24,7 +24,9 @@ use Rattle.ae_driver.specs.Inner.StateChains.{constant_system, state_literals, s
 use Rattle.ae_journal.specs.States.{IsSaturated}
 use Rattle.ae_journal.specs.Evaluate.{is_true_at, unassigned}
 use Rattle.ae_driver.specs.Inner.StateBytes.{state_bytes, unknown_bytes}
-use Rattle.ae_driver.specs.Output.{goal_name, IsValidPart, IsUnknownPart, IsPart, AreParts, IsDone, IsFileOf, Reads, IsRefused, by_lexis, by_syntax, by_form, IsRefusedText, IsOutOfMemory, IsCutOff, IsOffered, IsRead, IsTooLong, writes_parts, writes_refusal}
+use Rattle.ae_driver.specs.Output.{goal_name, IsValidPart, IsUnknownPart, IsPart, AreParts, IsDone, IsFileOf, Reads, IsRefused, by_lexis}
+use Rattle.ae_driver.specs.Output.{by_syntax, by_form, IsRefusedText, IsOutOfMemory, IsCutOff, IsOffered, IsRead, IsTooLong}
+use Rattle.ae_driver.specs.Output.{writes_parts, writes_refusal}
 use Rattle.ae_driver.specs.Inner.Endings.{IsPartOf, by_refutation, by_values, PartEnds, HasParts, GoalsEnd, RefusalEnds, TextEnds}
 use Rattle.ae_report.specs.declared.refusal.Refusal.{Refusal}
 use Rattle.ae_lex.proofs.Unique.{one_list, never_both as never_both_in_lexis}

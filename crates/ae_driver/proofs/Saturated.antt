@@ -25,7 +25,9 @@ use Rattle.ae_core.specs.declared.problems.Item.TheVariants.{Axiom, Goal}
 use Rattle.ae_journal.specs.Values.{Val, leaf}
 use Rattle.ae_journal.specs.Systems.{IsNamed, ValueOf, Has}
 use Rattle.ae_journal.specs.Truth.{truth, truth_step}
-use Rattle.ae_journal.specs.States.{IsSaturated, IsSaturatedBy, Stands, SomeStands, IsFirst, of_hypothesis, of_goal, Comes, first, by_row, by_block, Matches, HasGeneration, Owner, of_literal, of_axiom, Pattern, pattern_of, quant_of, is_universal_by, literal_pattern, axiom_pattern, inequality, inequality_of, outside, outside_step}
+use Rattle.ae_journal.specs.States.{IsSaturated, IsSaturatedBy, Stands, SomeStands, IsFirst, of_hypothesis, of_goal, Comes, first}
+use Rattle.ae_journal.specs.States.{by_row, by_block, Matches, HasGeneration, Owner, of_literal, of_axiom, Pattern, pattern_of, quant_of}
+use Rattle.ae_journal.specs.States.{is_universal_by, literal_pattern, axiom_pattern, inequality, inequality_of, outside, outside_step}
 use Rattle.ae_journal.specs.declared.systems.Saturated.{Saturated}
 use Rattle.ae_driver.specs.declared.first_text.Equation.{Equation}
 use Rattle.ae_driver.specs.declared.first_text.Chain.{Chain}
