@@ -195,11 +195,6 @@ pub is_too_long : (left : Option (List ℕ)) → IfSome left (λ xs. INPUT_LIMIT
 is_too_long None h = tt
 is_too_long (Some xs) h = h
 
--- what is known of an answer, in other words
-pub in_words : {X E : Type 0} (r : Result X E) (P Q : X → Type 0) → ((x : X) → P x → Q x) → IfOk r P → IfOk r Q
-in_words (Ok x) P Q f h = f x h
-in_words (Err e) P Q f h = h
-
 -- a count that rose after a part of a call rose in the whole call
 pub rose_later : (a b c : ℕ) → a ≤ b → Rose b c → Rose a c
 rose_later a b c le r = ⊎_elim (λ lt. inl (omega (arith, le, lt))) (λ e. inr e) r

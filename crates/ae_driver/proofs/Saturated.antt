@@ -40,6 +40,7 @@ use Rattle.ae_driver.proofs.ChainProof.{no_chain, no_not}
 use Rattle.ae_driver.proofs.ConstantSystems.{number, number_is, no_choices, no_constructor, name_of, valued, worth, its_sort, its_head, not_int, completed}
 use Rattle.ae_base.proofs.AllOf.{all_append}
 use Rattle.ae_base.proofs.Options.{never_some}
+use Rattle.std.proofs.lemmas.Bool.{eq-eqb}
 
 -- ---- places and elements
 pub contains_at : {X : Type 0} (xs : List X) (i : ℕ) (x : X) → slice_get xs i ≡ Some x → Contains xs x
@@ -51,9 +52,6 @@ all_contained P (y ∷ ys) x a (zero, lt, e) = subst P e a.0
 all_contained P (y ∷ ys) x a (suc k, lt, e) = all_contained P ys x a.1 (k, omega (arith, lt), e)
 
 -- ---- equality of numbers
-nat_eq_same : (a b : ℕ) → a ≡ b → nat_eq a b ≡ true
-nat_eq_same a b e = ⊎_elim (λ s. s.0) (λ d. absurd (d.1 e)) (eqb_tells a b)
-
 nat_eq_apart : (a b : ℕ) → a ≢ b → nat_eq a b ≡ false
 nat_eq_apart a b n = ⊎_elim (λ s. absurd (n s.1)) (λ d. d.0) (eqb_tells a b)
 
@@ -121,7 +119,7 @@ module _ (n : ℕ) (vs : List ℕ) (same : Term → Term → Bool) (said : ℕ �
   true_or = fold_or Bool (Unit {0}) (truth_step same said) (λ q. tt)
 
   equation_true : (e : Equation) → IsEquationOver n e → Same vs e → truth same said (equation e) ≡ true
-  equation_true e v h = true_eq (constant e.left) (constant e.right) ∙ agrees e.left e.right v.0 v.1 ∙ nat_eq_same _ _ h
+  equation_true e v h = true_eq (constant e.left) (constant e.right) ∙ agrees e.left e.right v.0 v.1 ∙ eq-eqb _ _ h
 
   module _ (g : Equation) (w : IsEquationOver n g) (differ : get_or vs g.left 0 ≢ get_or vs g.right 0) where
     end_false : truth same said (equation g) ≡ false
