@@ -1,17 +1,9 @@
 -- A refuted chain is a valid goal of its text's problem, and a chain that values tell apart is one that has a saturated state.
-use Rattle.std.specs.Prelude.{ℕ, zero, suc, ◌+◌, ◌<◌, ◌≤◌, ◌⊎◌, Bool, true, false, List, [], ◌∷◌, ◌++◌, ◌≡◌, map, length, get_or, take, slice_get, ◌≢◌, Option, Some, None, IfSome, Result, Ok, Err, IfOk}
+use Rattle.std.specs.Prelude.{ℕ, zero, suc, ◌+◌, ◌<◌, ◌≤◌, ◌⊎◌, Bool, false, List, [], ◌∷◌, ◌++◌, ◌≡◌, map, length, get_or, take, slice_get, ◌≢◌, Option, Some, None, IfSome, Result, Ok, Err, IfOk}
 use Rattle.std.specs.List.{AllByRecursion}
 use Rattle.std.proofs.Common.{refl, sym, ap, ◌∙◌, subst, arith, inl, inr, ⊎_elim, append_assoc, append-nil, length-append}
-use Rattle.ae_core.specs.Decided.{Sorts_discrete}
-use Rattle.ae_base.specs.Options.{◌>>=◌, or_else, only, known}
-use Rattle.ae_core.specs.Sorts.{sort_of, term_ok, is_closed_sort, symbol_sort}
-use Rattle.ae_core.specs.Putting.{put_sort}
-use Rattle.ae_rules.specs.Clauses.{no_of}
+use Rattle.ae_base.specs.Options.{◌>>=◌, or_else}
 use Rattle.ae_rules.specs.Derivations.{Derives, goal_body}
-use Rattle.ae_core.proofs.SortLaws.{sort_in_apply}
-use Rattle.ae_core.proofs.PuttingLaws.{put_named}
-use Rattle.ae_core.specs.declared.terms.Term.{Term}
-use Rattle.ae_core.specs.declared.terms.Head.TheVariants.{Symbol}
 use Rattle.ae_core.specs.declared.formulas.Formula.{Formula}
 use Rattle.ae_core.specs.declared.problems.Problem.{Problem}
 use Rattle.ae_core.specs.declared.proofs.Proof.{Proof}
@@ -21,7 +13,7 @@ use Rattle.ae_driver.specs.declared.first_text.FirstText.{FirstText}
 use Rattle.ae_driver.specs.declared.search.Named.{Named}
 use Rattle.ae_driver.specs.declared.search.Refutation.{Refutation}
 use Rattle.ae_driver.specs.Inner.Places.{IsWellPlaced, IsGoalOver}
-use Rattle.ae_driver.specs.Problems.{constant, chain, symbol_entry, goal_item, signature, problem, the_type}
+use Rattle.ae_driver.specs.Problems.{chain, symbol_entry, goal_item, signature, problem, the_type}
 use Rattle.ae_driver.specs.Inner.ChainProofs.{chain_proof}
 use Rattle.ae_driver.specs.Inner.Search.{Refutes, IsOpen, block_of}
 use Rattle.ae_driver.specs.Texts.{proof_text}
@@ -32,7 +24,9 @@ use Rattle.ae_driver.specs.Inner.StateChains.{constant_system, state_literals, s
 use Rattle.ae_journal.specs.States.{IsSaturated}
 use Rattle.ae_journal.specs.Evaluate.{is_true_at, unassigned}
 use Rattle.ae_driver.specs.Inner.StateBytes.{state_bytes, unknown_bytes}
-use Rattle.ae_driver.specs.Output.{goal_name, IsValidPart, IsUnknownPart, IsPart, AreParts, IsDone, IsFileOf, Reads, IsRefused, by_lexis, by_syntax, by_form, IsRefusedText, IsOutOfMemory, IsCutOff, IsOffered, IsRead, IsTooLong, writes_parts, writes_refusal}
+use Rattle.ae_driver.specs.Output.{goal_name, IsValidPart, IsUnknownPart, IsPart, AreParts, IsDone, IsFileOf, Reads, IsRefused, by_lexis}
+use Rattle.ae_driver.specs.Output.{by_syntax, by_form, IsRefusedText, IsOutOfMemory, IsCutOff, IsOffered, IsRead, IsTooLong}
+use Rattle.ae_driver.specs.Output.{writes_parts, writes_refusal}
 use Rattle.ae_driver.specs.Inner.Endings.{IsPartOf, by_refutation, by_values, PartEnds, HasParts, GoalsEnd, RefusalEnds, TextEnds}
 use Rattle.ae_report.specs.declared.refusal.Refusal.{Refusal}
 use Rattle.ae_lex.proofs.Unique.{one_list, never_both as never_both_in_lexis}
@@ -200,11 +194,6 @@ is_read (Some xs) text told le = record { told = sym told; within = le }
 pub is_too_long : (left : Option (List ℕ)) → IfSome left (λ xs. INPUT_LIMIT < length xs) → IsTooLong left
 is_too_long None h = tt
 is_too_long (Some xs) h = h
-
--- what is known of an answer, in other words
-pub in_words : {X E : Type 0} (r : Result X E) (P Q : X → Type 0) → ((x : X) → P x → Q x) → IfOk r P → IfOk r Q
-in_words (Ok x) P Q f h = f x h
-in_words (Err e) P Q f h = h
 
 -- a count that rose after a part of a call rose in the whole call
 pub rose_later : (a b c : ℕ) → a ≤ b → Rose b c → Rose a c

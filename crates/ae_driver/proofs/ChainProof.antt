@@ -3,7 +3,7 @@ use Rattle.std.proofs.Common.{◌≡◌, ℕ, ◌+◌, ◌<◌, true, false, ◌
 use Rattle.std.specs.Prelude.{slice_get}
 use Rattle.std.specs.List.{AllByRecursion}
 use Rattle.ae_core.specs.Sorts.{sort_of, formula_ok, is_closed_sort, same_known}
-use Rattle.ae_base.specs.Options.{◌>>=◌, all_known, or_else}
+use Rattle.ae_base.specs.Options.{◌>>=◌, all_known}
 use Rattle.ae_rules.specs.Lines.{states, Allowed, AllAllowed, fact_ok}
 use Rattle.ae_rules.specs.Clauses.{Clause, no_of, opposite, is_true, is_false, row}
 use Rattle.ae_rules.specs.Derivations.{goal_body, conclusion, stated_by, hinted, is_refuted, IsAllowed, AreAllowed, last_of, Derives, IsContradictory, clause_ok, formula_stands}

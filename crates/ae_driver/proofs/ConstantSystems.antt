@@ -22,7 +22,6 @@ use Rattle.ae_core.specs.declared.terms.Term.TheOpen as term_layer
 use Rattle.ae_core.specs.declared.terms.Term.TheVariants.{outs-Apply, outs-Num}
 use Rattle.ae_core.specs.declared.formulas.Formula.{Pred}
 use Rattle.ae_core.specs.declared.problems.Nature.TheVariants.{Free, Choice}
-use Rattle.ae_core.specs.declared.problems.Signature.{Signature}
 use Rattle.ae_core.specs.declared.problems.SymbolEntry.{SymbolEntry}
 use Rattle.ae_num.specs.Forms.{IsNormal}
 use Rattle.ae_num.specs.declared.forms.Lin.{Lin}
@@ -30,7 +29,7 @@ use Rattle.ae_num.specs.declared.forms.Value.{Value, Leaf, fold-roll-Value}
 use Rattle.ae_num.specs.declared.forms.Value.TheOpen as value_layer
 use Rattle.ae_num.specs.declared.forms.Value.TheVariants.{rolls-Leaf}
 use Rattle.ae_journal.specs.Values.{Val, once, leaf, meaning, meaning_step}
-use Rattle.ae_journal.specs.Systems.{IsCompleted, own, IsName, IsNamed, value_at, ValueOf, Has, IsLeaf, IsOver, IsPredicateName, record_fields, fields_of, linear, beside, forms_in, forms_step, IsNormalValue}
+use Rattle.ae_journal.specs.Systems.{IsCompleted, IsName, IsNamed, value_at, ValueOf, Has, IsLeaf, IsOver, IsPredicateName, record_fields, fields_of, linear, beside, forms_in, forms_step, IsNormalValue}
 use Rattle.ae_journal.specs.declared.systems.System.{System}
 use Rattle.ae_journal.specs.declared.systems.RuleEntry.{RuleEntry}
 use Rattle.ae_driver.specs.declared.first_text.FirstText.{FirstText}

@@ -1,17 +1,15 @@
 -- In the system of the constants a constant evaluates to the value that it has there, and a chain whose values tell the sides of its end apart is false.
-use Rattle.std.specs.Prelude.{◌≡◌, ◌≢◌, ℕ, zero, suc, ◌+◌, ◌<◌, Bool, true, false, ◌&&◌, nat_eq, List, [], ◌∷◌, map, length, get_or, cond, Option, Some, None}
+use Rattle.std.specs.Prelude.{◌≡◌, ◌≢◌, ℕ, zero, suc, ◌+◌, ◌<◌, Bool, true, false, ◌&&◌, nat_eq, List, [], ◌∷◌, map, length, get_or, cond, Option, Some}
 use Rattle.std.specs.List.{AllByRecursion}
-use Rattle.std.proofs.Common.{refl, sym, ap, ◌∙◌, subst, arith, true≢false, ⊎_elim}
+use Rattle.std.proofs.Common.{refl, sym, ap, ◌∙◌, arith, ⊎_elim}
 use Rattle.std.proofs.lemmas.Bool.Decides.{eqb_tells}
 use Rattle.ae_base.specs.Decided.{decided}
 use Rattle.ae_core.specs.Decided.{Head_discrete, Sorts_discrete}
 use Rattle.ae_base.specs.Options.{or_else}
 use Rattle.ae_core.specs.Sorts.{same_sorts}
 use Rattle.ae_core.proofs.Recursion.{para_apply}
-use Rattle.ae_core.specs.declared.terms.Sort.{Sort, Int}
-use Rattle.ae_core.specs.declared.terms.Head.{Head}
 use Rattle.ae_core.specs.declared.terms.Head.TheVariants.{Symbol}
-use Rattle.ae_core.specs.declared.terms.Term.{Term, out-Term}
+use Rattle.ae_core.specs.declared.terms.Term.{out-Term}
 use Rattle.ae_core.specs.declared.terms.Term.TheVariants.{outs-Apply}
 use Rattle.ae_core.specs.declared.formulas.Lit.{Lit}
 use Rattle.ae_core.specs.declared.problems.Signature.{Signature}
@@ -19,7 +17,7 @@ use Rattle.ae_num.specs.declared.forms.Value.{Leaf}
 use Rattle.ae_journal.specs.Values.{Val, Val_discrete, leaf, meaning}
 use Rattle.ae_journal.specs.Truth.{is_said}
 use Rattle.ae_journal.specs.Inner.Numbering.{numbering}
-use Rattle.ae_journal.specs.Evaluation.{is_application, named_among, new, result_sort, ev_step, ev, alike, same_as_stated}
+use Rattle.ae_journal.specs.Evaluation.{is_application, named_among, ev_step, ev, alike, same_as_stated}
 use Rattle.ae_journal.specs.Evaluate.{value, unassigned, reduced_by, is_true_at}
 use Rattle.ae_journal.specs.declared.systems.System.{System}
 use Rattle.ae_driver.specs.declared.first_text.Equation.{Equation}

@@ -1,14 +1,12 @@
 -- No derivation has a goal that is false under some values of the constants: these values are an interpretation.
-use Rattle.std.specs.Prelude.{ℕ, zero, suc, Bool, true, false, List, [], ◌∷◌, ◌≡◌, map, nat_eq, nat_lt, slice_get, length, Option, Some, None}
-use Rattle.std.specs.List.{AllByRecursion, list_all}
-use Rattle.std.proofs.Common.{refl, sym, ap, ◌∙◌, subst, true≢false, ⊎_elim}
+use Rattle.std.specs.Prelude.{ℕ, zero, suc, List, [], ◌∷◌, ◌≡◌, map, slice_get, Some, None}
+use Rattle.std.specs.List.{AllByRecursion}
+use Rattle.std.proofs.Common.{sym, ap, ◌∙◌, subst, ⊎_elim}
 use Rattle.std.proofs.lemmas.Option.{same_Some}
 use Rattle.std.proofs.lemmas.Bool.Decides.{eqb_tells}
 use Rattle.ae_base.specs.Options.{◌>>=◌}
-use Rattle.ae_core.specs.Sorts.{is_closed_sort}
 use Rattle.ae_rules.specs.Derivations.{goal_body}
 use Rattle.ae_core.specs.declared.terms.Sort.{Sort, Named}
-use Rattle.ae_core.specs.declared.terms.Head.TheVariants.{Symbol}
 use Rattle.ae_core.specs.declared.formulas.Formula.{Formula, Not}
 use Rattle.ae_core.specs.declared.problems.Item.{Item}
 use Rattle.ae_core.specs.declared.problems.Item.TheVariants.{Axiom, Goal as GoalItem}
@@ -17,9 +15,9 @@ use Rattle.ae_driver.specs.declared.first_text.Chain.{Chain}
 use Rattle.ae_driver.specs.declared.first_text.FirstText.{FirstText}
 use Rattle.ae_driver.specs.Problems.{constant, equation, chain, goal_item, problem}
 use Rattle.ae_driver.specs.Soundness.{IsSound}
-use Rattle.ae_models.specs.Structures.{Value, Element, Structure}
-use Rattle.ae_models.specs.Truth.{FreshValues, same, value, Settled, Holds, claim, IsTrue}
-use Rattle.ae_models.proofs.ClaimLaws.{value_apply, claim_eq, claim_or, claim_not}
+use Rattle.ae_models.specs.Structures.{Value, Element}
+use Rattle.ae_models.specs.Truth.{FreshValues, value, Holds, IsTrue}
+use Rattle.ae_models.proofs.ClaimLaws.{claim_eq, claim_or, claim_not}
 use Rattle.ae_models.proofs.ModelTerms.{same_is}
 use Rattle.ae_models.proofs.Constants.{with_constants, constants_interpret, constants_lawful, constant_value}
 use Rattle.ae_math.specs.Fractions.{ℚ}
@@ -55,7 +53,7 @@ module _ (c : ℕ → ℕ) (fresh : FreshValues (with_constants c)) where
   equation_says : (e : Equation) → IsTrue (with_constants c) fresh (equation e) → Same e
   equation_says e h =
       let v = (same_is (with_constants c) (value (with_constants c) fresh [] (constant e.left)) (value (with_constants c) fresh [] (constant e.right))).0
-          (subst Holds (claim_eq (with_constants c) fresh (constant e.left) (constant e.right) []) h) in
+      (subst Holds (claim_eq (with_constants c) fresh (constant e.left) (constant e.right) []) h) in
       let w : ◌≡◌ {A = Value (ℕ × Sort) ℚ} (Element (c e.left, Named 0 [])) (Element (c e.right, Named 0 [])) = sym (constant_worth e.left) ∙ v ∙ constant_worth e.right in
       ap number_in w
 

@@ -3,7 +3,6 @@ use Rattle.std.proofs.Common.{◌≡◌, ℕ, zero, suc, ◌<◌, List, [], ◌�
 use Rattle.std.specs.Prelude.{slice_get, Result, Ok, Err, IfOk}
 use Rattle.std.specs.declared.alloc.AllocError.{AllocError}
 use Rattle.ae_core.specs.declared.terms.Term.{Term}
-use Rattle.std.specs.List.{AllByRecursion}
 use Rattle.std.proofs.Math.ListN.{length-map, get_or-append}
 use Rattle.std.proofs.Math.Seq.{get_or-append_seam}
 use Rattle.std.proofs.lemmas.Bool.{cases_lt}
@@ -22,7 +21,7 @@ use Rattle.ae_driver.specs.declared.first_text.Equation.{Equation}
 use Rattle.ae_driver.specs.declared.search.Named.{Named}
 use Rattle.ae_driver.specs.Inner.Search.{Known, At, Holds, HoldsBy, Grows, IsValue, Valued, OfConstants, IsDerivation, no_signature, any}
 use Rattle.ae_base.proofs.AllOf.{all_push}
-use Rattle.ae_base.proofs.ListFacts.{get_append, get_seam}
+use Rattle.ae_base.proofs.ListFacts.{get_seam}
 use Rattle.ae_base.proofs.Options.{never_some}
 
 -- ---- one more line

@@ -8,12 +8,9 @@ use Rattle.std.proofs.Math.ListN.{length-map}
 use Rattle.ae_driver.specs.declared.first_text.Equation.{Equation}
 use Rattle.ae_driver.specs.Inner.Places.{IsEquationOver}
 use Rattle.ae_driver.specs.Inner.Merging.{from, replaced, merged, values_after}
+use Rattle.ae_base.proofs.Tests.{same_choice}
 
 -- ---- replacing
-same_choice : (b : Bool) (s : ℕ) → cond b s s ≡ s
-same_choice true s = refl
-same_choice false s = refl
-
 replaced_small : (s l : ℕ) → replaced s l s ≡ s
 replaced_small s l = same_choice (nat_eq s l) s
 

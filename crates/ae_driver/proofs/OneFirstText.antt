@@ -23,8 +23,9 @@ use Rattle.ae_driver.specs.declared.first_text.Chain.{Chain}
 use Rattle.ae_driver.specs.declared.first_text.FirstText.{FirstText}
 use Rattle.ae_driver.specs.FirstTexts.{IsNameAt, IsConstantAt, IsEquation, IsChain, IsGoalDecl, IsFirstTextOf}
 use Rattle.ae_driver.specs.Output.{Reads}
-use Rattle.ae_driver.proofs.Reading.{some_same, binary_left, binary_right, not_both, same_body, stands_one, apart_at, others_are, type_one, constants_one}
+use Rattle.ae_driver.proofs.Reading.{binary_left, binary_right, not_both, same_body, stands_one, apart_at, others_are, type_one, constants_one}
 use Rattle.ae_base.proofs.ListFacts.{cons_same}
+use Rattle.std.proofs.lemmas.Option.{same_Some}
 
 -- ---- the places of names
 applied_in : {A B C D : Type 0} → ExprKind-F A B C D → Option Span
@@ -33,7 +34,7 @@ applied_in _ = None
 
 same_applied : (s t : Span) → expr.Apply s [] ≡ expr.Apply t [] → s ≡ t
 unfolding applied_in
-same_applied s t e = some_same s t (sym (ap applied_in (outs-Apply s [])) ∙ ap (λ f. applied_in (out-ExprKind f)) e ∙ ap applied_in (outs-Apply t []))
+same_applied s t e = same_Some s t (sym (ap applied_in (outs-Apply s [])) ∙ ap (λ f. applied_in (out-ExprKind f)) e ∙ ap applied_in (outs-Apply t []))
 
 goal_span_in : DeclKind → Option Span
 goal_span_in (decl.Goal s b) = Some s
@@ -41,7 +42,7 @@ goal_span_in _ = None
 
 same_span : (s t : Span) (a b : Expr) → decl.Goal s a ≡ decl.Goal t b → s ≡ t
 unfolding goal_span_in
-same_span s t a b e = some_same s t (ap goal_span_in e)
+same_span s t a b e = same_Some s t (ap goal_span_in e)
 
 one_name : (text : List ℕ) (s t : Span) (a b : List ℕ) → s ≡ t → IsNameAt text s a → IsNameAt text t b → a ≡ b
 one_name text s t a b e p q = stands_one text t a b (subst (λ z. IsNameAt text z a) e p) q

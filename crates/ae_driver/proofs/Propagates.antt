@@ -14,7 +14,7 @@ use Rattle.ae_core.specs.declared.formulas.Quant.{Quant}
 use Rattle.ae_core.specs.declared.formulas.Lit.{Lit}
 use Rattle.ae_driver.specs.declared.first_text.Equation.{Equation}
 use Rattle.ae_driver.specs.Problems.{equation, chain}
-use Rattle.std.proofs.lemmas.Bool.{and_from, or_left, or_right, or_cases}
+use Rattle.std.proofs.lemmas.Bool.{and_from, or_left, or_right, or_cases, cases_Bool}
 use Rattle.ae_base.proofs.Decided.{decided_yes, decided_of}
 
 -- ---- which literals become false on the way
@@ -84,10 +84,6 @@ and_right : (a b : Bool) → a && b ≡ true → b ≡ true
 and_right true b e = e
 and_right false b e = absurd (true≢false (sym e))
 
-is_bool : (b : Bool) → (b ≡ true) ⊎ (b ≡ false)
-is_bool true = inl refl
-is_bool false = inr refl
-
 -- each of the false literals is one that may be
 pub AllMay : List Lit → Type 0
 AllMay fs = list_all may fs ≡ true
@@ -102,7 +98,7 @@ stands_may (m ∷ fs) l a s =
     (or_cases (decided (Lit_discrete m l)) (stands fs l) s)
 
 stands_not : (fs : List Lit) (l : Lit) → AllMay fs → may l ≡ false → stands fs l ≡ false
-stands_not fs l a n = ⊎_elim (λ s. absurd (true≢false (sym (stands_may fs l a s) ∙ n))) (λ s. s) (is_bool (stands fs l))
+stands_not fs l a n = ⊎_elim (λ s. absurd (true≢false (sym (stands_may fs l a s) ∙ n))) (λ s. s) (cases_Bool (stands fs l))
 
 stands_more : (fs gs : List Lit) (l : Lit) → stands fs l ≡ true → stands (fs ++ gs) l ≡ true
 stands_more [] gs l s = absurd (true≢false (sym s))

@@ -1,7 +1,7 @@
 -- The reader of first texts.
-use Rattle.std.proofs.Common.{◌≡◌, ◌≢◌, ℕ, ◌+◌, ◌<◌, ◌≤◌, List, [], ◌∷◌, ◌++◌, length, take, drop, get_or, Some, None, zero, suc, sym, ap, ◌∙◌, subst, arith, refl, rules, append_assoc}
-use Rattle.std.specs.Prelude.{◌↔◌, Bool, false, IsTrue, slice_get, Option, MatchOption, option_map, slice_index_or}
-use Rattle.std.proofs.lemmas.List.{append-nil, take_more, take_all}
+use Rattle.std.proofs.Common.{◌≡◌, ◌≢◌, ℕ, ◌+◌, ◌<◌, ◌≤◌, List, [], ◌∷◌, ◌++◌, length, take, get_or, Some, None, zero, suc, sym, ap, ◌∙◌, subst, arith, refl, rules, append_assoc}
+use Rattle.std.specs.Prelude.{◌↔◌, Bool, false, IsTrue, slice_get, Option, MatchOption, option_map}
+use Rattle.std.proofs.lemmas.List.{append-nil}
 use Rattle.std.proofs.lemmas.List.Quantifiers.{all_pairs_push}
 use Rattle.std.specs.List.{AllPairs, AllByRecursion}
 use Rattle.ae_syntax.specs.declared.spans.Span.{Span}
@@ -29,25 +29,15 @@ use Rattle.ae_driver.specs.Inner.Places.{IsEquationOver, IsGoalOver, IsWellPlace
 use Rattle.ae_base.proofs.ListFacts.{cons_head, cons_tail, get_front, get_read}
 use Rattle.ae_base.proofs.Relations.{pairwise_at, pairwise_back, pairwise_get}
 use Rattle.ae_base.proofs.Options.{never_some}
-use Rattle.std.proofs.lemmas.Option.{slice_get-get_or}
+use Rattle.std.proofs.lemmas.Option.{slice_get-get_or, same_Some}
 use Rattle.ae_base.specs.Relations.{Pairwise}
+use Rattle.std.proofs.lemmas.List.{get_or_default}
 
 -- ---- places in lists
 pub get_past : {X : Type 0} (xs : List X) (i : ℕ) (x : X) → length xs ≤ i → slice_get xs i ≡ Some x → ⊥
 get_past [] i x le e = search (rules, e)
 get_past (y ∷ xs) zero x le e = absurd (omega (arith, le))
 get_past (y ∷ xs) (suc i) x le e = get_past xs i x (omega (arith, le)) e
-
-pub some_same : {X : Type 0} (x y : X) → Some x ≡ Some y → x ≡ y
-some_same x y e = search (rules, e)
-
-pub when_none : {X : Type 0} (o : Option X) (P : Type 0) (Q : X → Type 0) → o ≡ None → MatchOption o P Q → P
-when_none None P Q e h = h
-when_none (Some x) P Q e h = absurd (never_some _ (sym e))
-
-pub when_some : {X : Type 0} (o : Option X) (x : X) (P : Type 0) (Q : X → Type 0) → o ≡ Some x → MatchOption o P Q → Q x
-when_some None x P Q e h = absurd (never_some _ e)
-when_some (Some y) x P Q e h = subst Q (some_same y x e) h
 
 -- ---- the parts of a binary expression
 op_in : {A B C D : Type 0} → ExprKind-F A B C D → Option BinaryOp
@@ -64,15 +54,15 @@ right_in _ = None
 
 binary_op : (o p : BinaryOp) (l r m s : Expr) → expr.Binary o l r ≡ expr.Binary p m s → o ≡ p
 unfolding op_in
-binary_op o p l r m s e = some_same o p (sym (ap op_in (outs-Binary o l r)) ∙ ap (λ f. op_in (out-ExprKind f)) e ∙ ap op_in (outs-Binary p m s))
+binary_op o p l r m s e = same_Some o p (sym (ap op_in (outs-Binary o l r)) ∙ ap (λ f. op_in (out-ExprKind f)) e ∙ ap op_in (outs-Binary p m s))
 
 pub binary_left : (o p : BinaryOp) (l r m s : Expr) → expr.Binary o l r ≡ expr.Binary p m s → l ≡ m
 unfolding left_in
-binary_left o p l r m s e = some_same l m (sym (ap left_in (outs-Binary o l r)) ∙ ap (λ f. left_in (out-ExprKind f)) e ∙ ap left_in (outs-Binary p m s))
+binary_left o p l r m s e = same_Some l m (sym (ap left_in (outs-Binary o l r)) ∙ ap (λ f. left_in (out-ExprKind f)) e ∙ ap left_in (outs-Binary p m s))
 
 pub binary_right : (o p : BinaryOp) (l r m s : Expr) → expr.Binary o l r ≡ expr.Binary p m s → r ≡ s
 unfolding right_in
-binary_right o p l r m s e = some_same r s (sym (ap right_in (outs-Binary o l r)) ∙ ap (λ f. right_in (out-ExprKind f)) e ∙ ap right_in (outs-Binary p m s))
+binary_right o p l r m s e = same_Some r s (sym (ap right_in (outs-Binary o l r)) ∙ ap (λ f. right_in (out-ExprKind f)) e ∙ ap right_in (outs-Binary p m s))
 
 pub not_both : (e l r m s : Expr) → e.kind ≡ expr.Binary op.Equal l r → e.kind ≡ expr.Binary op.Implies m s → ⊥
 not_both e l r m s p q = let same = binary_op op.Equal op.Implies l r m s (sym p ∙ q) in search (rules, same)
@@ -118,7 +108,7 @@ pub others_before : (cs : List (List ℕ)) (i : ℕ) (c name : List ℕ) → i <
 others_before cs i c name lt e before other k le f =
     let not_less : ¬ (k < i) = λ less. before k less f in
     let same : k ≡ i = omega (arith, le, not_less) in
-    other (e ∙ some_same _ _ (sym (slice_get-get_or cs i c lt) ∙ subst (λ j. slice_get cs j ≡ Some name) same f))
+    other (e ∙ same_Some _ _ (sym (slice_get-get_or cs i c lt) ∙ subst (λ j. slice_get cs j ≡ Some name) same f))
 
 pub none_has : (cs : List (List ℕ)) (i : ℕ) (name : List ℕ) → length cs ≤ i → ((k : ℕ) → k < i → slice_get cs k ≡ Some name → ⊥) → (k : ℕ) → slice_get cs k ≡ Some name → ⊥
 none_has cs i name le before k f =
@@ -144,7 +134,7 @@ goal_body_in _ = None
 
 pub same_body : (s t : Span) (a b : Expr) → decl.Goal s a ≡ decl.Goal t b → a ≡ b
 unfolding goal_body_in
-same_body s t a b e = some_same a b (ap goal_body_in e)
+same_body s t a b e = same_Some a b (ap goal_body_in e)
 
 pub too_long : (text : List ℕ) (constants : List (List ℕ)) (d : Decl) (s : Span) (body : Expr) (hs : List Equation) (q : Equation) → d.kind ≡ decl.Goal s body → (gs : List Equation) × (hs ≡ [] ++ gs) × IsChain text constants body gs q
     → MOST_HYPOTHESES < length hs → (g : Chain) → IsGoalDecl text constants d g → ⊥
@@ -184,18 +174,13 @@ old_name text s found name k at e other at_other = (k, e ∙ ap Some (stands_one
 
 -- ---- declarations
 pub result_is : (text : List ℕ) (r : SymbolResult) (sort : WrittenType) (name : List ℕ) (b : Bool) → r.sort ≡ Some sort → (IsTrue b ↔ IsTypeName text sort name) → (IsTrue b ↔ IsResult text r name)
-result_is text r sort name b e i = (λ t. (sort, e, i.0 t), λ p. i.1 (subst (λ z. IsTypeName text z name) (some_same p.0 sort (sym p.1 ∙ e)) p.2))
+result_is text r sort name b e i = (λ t. (sort, e, i.0 t), λ p. i.1 (subst (λ z. IsTypeName text z name) (same_Some p.0 sort (sym p.1 ∙ e)) p.2))
 
 pub no_goal : (text : List ℕ) (constants : List (List ℕ)) (ds : List Decl) (gs : List Chain) (i : ℕ) (d : Decl) → i < length ds → d ≡ get_or ds i d → ((g : Chain) → IsGoalDecl text constants d g → ⊥) → Pairwise (IsGoalDecl text constants) ds gs → ⊥
 no_goal text constants ds gs i d lt e none all = let at = pairwise_at (IsGoalDecl text constants) ds gs i d lt e all in none at.0 at.1
 
-same_read : {X : Type 0} (xs : List X) (i : ℕ) (d e : X) → i < length xs → get_or xs i d ≡ get_or xs i e
-same_read [] i d e lt = absurd (omega (arith, lt))
-same_read (x ∷ xs) zero d e lt = refl
-same_read (x ∷ xs) (suc i) d e lt = same_read xs i d e (omega (arith, lt))
-
 pub read_is : {X : Type 0} (xs : List X) (i : ℕ) (d : X) → i < length xs → get_or xs i d ≡ get_or xs i (get_or xs i d)
-read_is xs i d lt = same_read xs i d (get_or xs i d) lt
+read_is xs i d lt = get_or_default xs i d (get_or xs i d) lt
 
 logic_result : DeclKind → Option SymbolResult
 logic_result (decl.Logic a ns ss r) = Some r
@@ -211,15 +196,15 @@ type_span _ = None
 
 same_result : (a b : Bool) (ns ms : List Span) (ss ts : List WrittenType) (q r : SymbolResult) → decl.Logic a ns ss q ≡ decl.Logic b ms ts r → q ≡ r
 unfolding logic_result
-same_result a b ns ms ss ts q r e = some_same q r (ap logic_result e)
+same_result a b ns ms ss ts q r e = same_Some q r (ap logic_result e)
 
 same_names : (a b : Bool) (ns ms : List Span) (ss ts : List WrittenType) (q r : SymbolResult) → decl.Logic a ns ss q ≡ decl.Logic b ms ts r → ns ≡ ms
 unfolding logic_names
-same_names a b ns ms ss ts q r e = some_same ns ms (ap logic_names e)
+same_names a b ns ms ss ts q r e = same_Some ns ms (ap logic_names e)
 
 same_type : (ps qs : List Span) (n m : Span) (fs gs : List TypedName) → decl.Type ps n fs ≡ decl.Type qs m gs → n ≡ m
 unfolding type_span
-same_type ps qs n m fs gs e = some_same n m (ap type_span e)
+same_type ps qs n m fs gs e = same_Some n m (ap type_span e)
 
 pub no_constants : (text : List ℕ) (d : Decl) (type_name : List ℕ) (a : Bool) (ns : List Span) (ss : List WrittenType) (r : SymbolResult) → d.kind ≡ decl.Logic a ns ss r → (IsResult text r type_name → ⊥) → (cs : List (List ℕ)) → IsLogicDecl text d type_name cs → ⊥
 no_constants text d type_name a ns ss r e none cs (ms, q, f, is, all) = none (subst (λ z. IsResult text z type_name) (same_result false a ms ns [] ss q r (sym f ∙ e)) is)

@@ -1,5 +1,5 @@
 -- The state of a chain whose values tell the sides of its end apart is saturated, and its goal is false in it.
-use Rattle.std.specs.Prelude.{◌≡◌, ◌≢◌, ◌⊎◌, ℕ, zero, suc, ◌+◌, ◌<◌, Bool, true, false, cond, not, ◌||◌, nat_eq, nat_lt, List, [], ◌∷◌, ◌++◌, map, length, get_or, slice_get, Option, Some, None}
+use Rattle.std.specs.Prelude.{◌≡◌, ◌≢◌, ◌⊎◌, ℕ, zero, suc, ◌<◌, Bool, true, false, cond, not, ◌||◌, nat_eq, nat_lt, List, [], ◌∷◌, ◌++◌, map, length, get_or, slice_get, Option, Some, None}
 use Rattle.std.specs.List.{AllByRecursion, Contains}
 use Rattle.std.proofs.Common.{refl, sym, ap, ◌∙◌, subst, arith, true≢false, ⊎_elim, inl, inr}
 use Rattle.std.proofs.lemmas.Bool.Decides.{eqb_tells}
@@ -13,7 +13,6 @@ use Rattle.ae_rules.proofs.ClauseLaws.{row_eq, row_or}
 use Rattle.ae_core.proofs.Recursion.{fold_eq, fold_not, fold_or}
 use Rattle.ae_core.specs.declared.terms.Sort.{Sort, Int, out-Sort}
 use Rattle.ae_core.specs.declared.terms.Head.{Head}
-use Rattle.ae_core.specs.declared.terms.Head.TheVariants.{Symbol}
 use Rattle.ae_core.specs.declared.terms.Term.{Term, Apply}
 use Rattle.ae_core.specs.declared.formulas.Formula.{Formula, Formula-F, Eq, Not, Or, Pred, out-Formula}
 use Rattle.ae_core.specs.declared.formulas.Formula.TheOpen as layer
@@ -23,23 +22,25 @@ use Rattle.ae_core.specs.declared.formulas.Lit.{Lit}
 use Rattle.ae_core.specs.declared.problems.Problem.{Problem}
 use Rattle.ae_core.specs.declared.problems.Item.{Item}
 use Rattle.ae_core.specs.declared.problems.Item.TheVariants.{Axiom, Goal}
-use Rattle.ae_num.specs.declared.forms.Lin.{Lin}
 use Rattle.ae_journal.specs.Values.{Val, leaf}
-use Rattle.ae_journal.specs.Systems.{IsNamed, ValueOf, IsName, Has}
+use Rattle.ae_journal.specs.Systems.{IsNamed, ValueOf, Has}
 use Rattle.ae_journal.specs.Truth.{truth, truth_step}
-use Rattle.ae_journal.specs.States.{IsSaturated, IsSaturatedBy, Stands, SomeStands, IsFirst, of_hypothesis, of_goal, Comes, first, by_row, by_block, Matches, HasGeneration, Owner, of_literal, of_axiom, Pattern, pattern_of, quant_of, is_universal_by, literal_pattern, axiom_pattern, inequality, inequality_of, outside, outside_step}
+use Rattle.ae_journal.specs.States.{IsSaturated, IsSaturatedBy, Stands, SomeStands, IsFirst, of_hypothesis, of_goal, Comes, first}
+use Rattle.ae_journal.specs.States.{by_row, by_block, Matches, HasGeneration, Owner, of_literal, of_axiom, Pattern, pattern_of, quant_of}
+use Rattle.ae_journal.specs.States.{is_universal_by, literal_pattern, axiom_pattern, inequality, inequality_of, outside, outside_step}
 use Rattle.ae_journal.specs.declared.systems.Saturated.{Saturated}
 use Rattle.ae_driver.specs.declared.first_text.Equation.{Equation}
 use Rattle.ae_driver.specs.declared.first_text.Chain.{Chain}
 use Rattle.ae_driver.specs.declared.first_text.FirstText.{FirstText}
 use Rattle.ae_driver.specs.Inner.Places.{IsEquationOver}
-use Rattle.ae_driver.specs.Problems.{constant, equation, chain, the_type, goal_item, signature, problem}
+use Rattle.ae_driver.specs.Problems.{constant, equation, chain, goal_item, signature, problem}
 use Rattle.ae_driver.specs.Inner.StateChains.{state_literals, constant_system, state_of}
 use Rattle.ae_driver.proofs.MergedValues.{IsValues, Same}
 use Rattle.ae_driver.proofs.ChainProof.{no_chain, no_not}
-use Rattle.ae_driver.proofs.ConstantSystems.{number, number_is, head_is, no_choices, no_constructor, name_of, valued, worth, its_sort, its_head, not_int, completed}
+use Rattle.ae_driver.proofs.ConstantSystems.{number, number_is, no_choices, no_constructor, name_of, valued, worth, its_sort, its_head, not_int, completed}
 use Rattle.ae_base.proofs.AllOf.{all_append}
 use Rattle.ae_base.proofs.Options.{never_some}
+use Rattle.std.proofs.lemmas.Bool.{eq-eqb}
 
 -- ---- places and elements
 pub contains_at : {X : Type 0} (xs : List X) (i : ℕ) (x : X) → slice_get xs i ≡ Some x → Contains xs x
@@ -51,9 +52,6 @@ all_contained P (y ∷ ys) x a (zero, lt, e) = subst P e a.0
 all_contained P (y ∷ ys) x a (suc k, lt, e) = all_contained P ys x a.1 (k, omega (arith, lt), e)
 
 -- ---- equality of numbers
-nat_eq_same : (a b : ℕ) → a ≡ b → nat_eq a b ≡ true
-nat_eq_same a b e = ⊎_elim (λ s. s.0) (λ d. absurd (d.1 e)) (eqb_tells a b)
-
 nat_eq_apart : (a b : ℕ) → a ≢ b → nat_eq a b ≡ false
 nat_eq_apart a b n = ⊎_elim (λ s. absurd (n s.1)) (λ d. d.0) (eqb_tells a b)
 
@@ -121,7 +119,7 @@ module _ (n : ℕ) (vs : List ℕ) (same : Term → Term → Bool) (said : ℕ �
   true_or = fold_or Bool (Unit {0}) (truth_step same said) (λ q. tt)
 
   equation_true : (e : Equation) → IsEquationOver n e → Same vs e → truth same said (equation e) ≡ true
-  equation_true e v h = true_eq (constant e.left) (constant e.right) ∙ agrees e.left e.right v.0 v.1 ∙ nat_eq_same _ _ h
+  equation_true e v h = true_eq (constant e.left) (constant e.right) ∙ agrees e.left e.right v.0 v.1 ∙ eq-eqb _ _ h
 
   module _ (g : Equation) (w : IsEquationOver n g) (differ : get_or vs g.left 0 ≢ get_or vs g.right 0) where
     end_false : truth same said (equation g) ≡ false

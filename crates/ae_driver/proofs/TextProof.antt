@@ -21,8 +21,11 @@ use Rattle.ae_driver.specs.Problems.{constant, equation, chain}
 use Rattle.ae_driver.specs.Inner.ChainProofs.{assumed, defs, hints, chain_proof}
 use Rattle.ae_driver.specs.Inner.Places.{IsEquationOver}
 use Rattle.ae_driver.specs.Inner.Search.{OfConstants, Refutes, block_of, no_signature, any}
-use Rattle.ae_driver.specs.Texts.{Names, term_text, term_layer_text, formula_text, formula_text_step, of_two, of_one, literal_text, unless_negation, is_negation, sign_text, sides_text, derived_text, in_order, literal_line, block_text, line_text, proof_text}
-use Rattle.ae_driver.specs.Inner.Bytes.{name_bytes, equation_bytes, opening_bytes, closing_bytes, chain_bytes, def_bytes, defs_bytes, equation_line, assumed_bytes, term_bytes, derived_bytes, ending_bytes, rup_bytes, proof_bytes}
+use Rattle.ae_driver.specs.Texts.{Names, term_text, term_layer_text, formula_text, formula_text_step, of_two, of_one, literal_text}
+use Rattle.ae_driver.specs.Texts.{unless_negation, is_negation, sign_text, sides_text, derived_text, in_order, literal_line, block_text}
+use Rattle.ae_driver.specs.Texts.{line_text, proof_text}
+use Rattle.ae_driver.specs.Inner.Bytes.{name_bytes, equation_bytes, opening_bytes, closing_bytes, chain_bytes, def_bytes, defs_bytes}
+use Rattle.ae_driver.specs.Inner.Bytes.{equation_line, assumed_bytes, term_bytes, derived_bytes, ending_bytes, rup_bytes, proof_bytes}
 use Rattle.ae_driver.proofs.TextLaws.{bytes_apply}
 
 -- ---- formulas

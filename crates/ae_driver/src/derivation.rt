@@ -9,8 +9,8 @@ ghost use Rattle.ae_driver.specs.Inner.Places.{IsEquationOver};
 ghost use Rattle.ae_driver.specs.Inner.Search.{At, Grows, Holds, IsDerivation, OfConstants, no_signature};
 
 use crate::first_text::Equation;
-use ae_core::formulas::Lit;
 use ae_base::lists::List;
+use ae_core::formulas::Lit;
 use ae_core::proofs::{Deriv, EqLine};
 use ae_core::terms::{Head, Term};
 use std::alloc::{AllocError, Global};

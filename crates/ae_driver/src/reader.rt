@@ -299,7 +299,11 @@ fn split(file: &File) -> Option<(&Decl, &Decl, &[Decl])>
 }
 
 /// What the file of a text says as a first text; `None` exactly where it is none. An `Err` is want of memory.
-pub fn first_text_of(alloc: Global, text: &[u8], file: &File) -> Result<Option<FirstText>, AllocError>
+pub fn first_text_of(
+    alloc: Global,
+    text: &[u8],
+    file: &File,
+) -> Result<Option<FirstText>, AllocError>
     ensures { IfOk result (λ found. MatchOption found ((f : FirstText) → IsFirstTextOf text.now file.now f → ⊥) (λ f. IsFirstTextOf text.now file.now f)) }
 {
     let Some((first, second, others)) = split(file) else {

@@ -12,8 +12,8 @@ ghost use Rattle.ae_driver.specs.Inner.Merging.{from, merged, numbers_of, replac
 
 use crate::derivation::{Derivation, constant_term};
 use crate::first_text::Equation;
-use ae_core::formulas::{Formula, Lit};
 use ae_base::lists::List;
+use ae_core::formulas::{Formula, Lit};
 use ae_core::proofs::Deriv;
 use std::alloc::{AllocError, Global};
 

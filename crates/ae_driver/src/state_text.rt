@@ -6,7 +6,9 @@ ghost use Rattle.ae_driver.specs.Inner.StateBytes as bytes;
 
 use crate::first_text::{Chain, Equation};
 use crate::search::Named;
-use crate::text::{put, put_closings, put_equation, put_equation_line, put_name, put_number, put_openings};
+use crate::text::{
+    put, put_closings, put_equation, put_equation_line, put_name, put_number, put_openings,
+};
 use ae_base::words::Word;
 use std::alloc::AllocError;
 

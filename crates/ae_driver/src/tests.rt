@@ -111,8 +111,14 @@ fn first_other(
 
 #[test]
 fn texts_and_their_answers(rt: HostRuntime) -> Result<(), Fail> {
-    assert_eq!(rt; first_other(rt.alloc(), ANSWERED.as_slice(), Status::Done)?, None);
-    assert_eq!(rt; first_other(rt.alloc(), REFUSED.as_slice(), Status::Refused)?, None);
+    assert_eq!(rt;
+        first_other(rt.alloc(), ANSWERED.as_slice(), Status::Done)?,
+        None
+    );
+    assert_eq!(rt;
+        first_other(rt.alloc(), REFUSED.as_slice(), Status::Refused)?,
+        None
+    );
     Ok(())
 }
 
@@ -136,7 +142,9 @@ fn longest_chain(alloc: Global) -> Result<(Status, Vec<u8>), AllocError> {
 #[test]
 fn limits(rt: HostRuntime) -> Result<(), Fail> {
     let (status, line) = too_long(rt.alloc())?;
-    assert!(rt; status == Status::Refused && line.as_slice() == b"refused input too long\n".as_slice());
+    assert!(rt;
+        status == Status::Refused && line.as_slice() == b"refused input too long\n".as_slice()
+    );
     let (status, part) = longest_chain(rt.alloc())?;
     assert!(rt; status == Status::Done && part.starts_with(b"goal g Valid\nproof 1\ngoal\n"));
     Ok(())
@@ -175,8 +183,17 @@ fn pieces_and_faults(rt: HostRuntime) -> Result<(), Fail> {
     let alloc = rt.alloc();
     let whole = (Status::Done, Some(TRANSITIVITY_PART.len()));
     assert_eq!(rt; cut(alloc, 7, None, None)?, whole);
-    assert_eq!(rt; cut(alloc, 20, Some(2), None)?, (Status::ReadFault, Some(0)));
-    assert_eq!(rt; cut(alloc, 64, None, Some(0))?, (Status::WriteFault, Some(0)));
-    assert_eq!(rt; cut(alloc, 64, None, Some(3))?, (Status::WriteFault, Some(192)));
+    assert_eq!(rt;
+        cut(alloc, 20, Some(2), None)?,
+        (Status::ReadFault, Some(0))
+    );
+    assert_eq!(rt;
+        cut(alloc, 64, None, Some(0))?,
+        (Status::WriteFault, Some(0))
+    );
+    assert_eq!(rt;
+        cut(alloc, 64, None, Some(3))?,
+        (Status::WriteFault, Some(192))
+    );
     Ok(())
 }

@@ -7,9 +7,9 @@ ghost use Rattle.ae_driver.specs.Inner.Bytes.{valid_bytes};
 
 use crate::first_text::{Chain, Equation};
 use crate::search::Refutation;
+use ae_base::words::Word;
 use ae_core::proofs::EqLine;
 use ae_core::terms::{Head, Term};
-use ae_base::words::Word;
 use ae_rules::rows::{OR_FROM_LEFT, OR_FROM_RIGHT};
 use itoa::Buffer;
 use std::alloc::AllocError;

@@ -1,5 +1,5 @@
 -- How each function below `run` ends.
-use Rattle.std.specs.Prelude.{◌≡◌, ◌⊎◌, ℕ, ◌≤◌, List, [], ◌++◌, length}
+use Rattle.std.specs.Prelude.{◌≡◌, ◌⊎◌, ℕ, ◌≤◌, List, [], length}
 use Rattle.ae_io.specs.Moves.{Written, Gets, GetsPrefix}
 use Rattle.ae_report.specs.Lines.{IsRefusalLine}
 use Rattle.ae_report.specs.declared.refusal.Refusal.{Refusal}
