@@ -39,17 +39,9 @@ use Rattle.ae_driver.proofs.MergedValues.{IsValues, Same}
 use Rattle.ae_driver.proofs.ChainProof.{no_chain, no_not}
 use Rattle.ae_driver.proofs.ConstantSystems.{number, number_is, no_choices, no_constructor, name_of, valued, worth, its_sort, its_head, not_int, completed}
 use Rattle.ae_base.proofs.AllOf.{all_append}
+use Rattle.ae_journal.proofs.Splits.{contains_at, all_contained}
 use Rattle.ae_base.proofs.Options.{never_some}
 use Rattle.std.proofs.lemmas.Bool.{eq-eqb}
-
--- ---- places and elements
-pub contains_at : {X : Type 0} (xs : List X) (i : ℕ) (x : X) → slice_get xs i ≡ Some x → Contains xs x
-contains_at xs i x e = (i, slice_get_within xs i x e, get_or_from_slice_get xs i x x e)
-
-all_contained : {X : Type 0} (P : X → Type 0) (xs : List X) (x : X) → AllByRecursion P xs → Contains xs x → P x
-all_contained P [] x a (k, lt, e) = absurd (omega (arith, lt))
-all_contained P (y ∷ ys) x a (zero, lt, e) = subst P e a.0
-all_contained P (y ∷ ys) x a (suc k, lt, e) = all_contained P ys x a.1 (k, omega (arith, lt), e)
 
 -- ---- equality of numbers
 nat_eq_apart : (a b : ℕ) → a ≢ b → nat_eq a b ≡ false

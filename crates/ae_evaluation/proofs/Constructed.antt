@@ -23,11 +23,7 @@ use Rattle.ae_evaluation.proofs.Constructors.{choices_are}
 use Rattle.ae_evaluation.proofs.Exhausted.{chosen_value, constructor_evaluates, constructors_apart, exhausts}
 use Rattle.ae_evaluation.proofs.Main.{no_assignment, nothing_assigned, value_shape}
 use Rattle.ae_evaluation.proofs.Rules.{reduction}
-
-contained : {A : Type 0} (xs : List A) (i : ℕ) (x : A) → slice_get xs i ≡ Some x → Contains xs x
-contained [] i x e = absurd (cc)
-contained (y ∷ xs) zero x e = let z : y ≡ x = cc in (zero, omega arith, z)
-contained (y ∷ xs) (suc i) x e = let c = contained xs i x e in (suc c.0, omega (arith, c.1), c.2)
+use Rattle.ae_journal.proofs.Splits.{contains_at}
 
 module _ (p : Problem) (g : ℕ) (st : Saturated) (takes : Lit → Lit) (bound : ℕ) (lawful : IsLawful p.signature)
     (saturated : IsSaturatedBy p g st takes bound) where
@@ -58,7 +54,7 @@ module _ (p : Problem) (g : ℕ) (st : Saturated) (takes : Lit → Lit) (bound :
       let w =
       chosen_value p.signature lawful st.system numbering (reduced_by st.system) saturated.completed
       (reduction p.signature st.system saturated.completed) s (V t) x hs f in
-      (w.0, contained hs w.1 w.0 w.2, sym w.3 ∙ sym (constructor_term w.0 (choices_are p.signature lawful s hs w.1 w.0 f w.2)))
+      (w.0, contains_at hs w.1 w.0 w.2, sym w.3 ∙ sym (constructor_term w.0 (choices_are p.signature lawful s hs w.1 w.0 f w.2)))
 
   pub constructors_differ : (h i : Head) → IsConstructor p.signature h → IsConstructor p.signature i → V (Apply h [] []) ≡ V (Apply i [] [])
       → h ≡ i

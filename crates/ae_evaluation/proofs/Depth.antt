@@ -20,7 +20,7 @@ use Rattle.ae_core.specs.declared.problems.Kind.{Kind}
 use Rattle.ae_core.specs.declared.problems.Kind.TheVariants.{Abstract, Choices, Fields}
 use Rattle.ae_journal.specs.Systems.{record_fields, fields_of}
 use Rattle.ae_journal.specs.Evaluation.{larger, largest, depth_step, depth_by, type_depth, type_depths, depth_of}
-use Rattle.ae_base.proofs.ListFacts.{get_map}
+use Rattle.ae_base.proofs.ListFacts.{get_map, get_before}
 use Rattle.std.proofs.lemmas.Bool.{and_parts, ltb-true}
 
 -- ---- the larger of two numbers, the largest of several
@@ -120,11 +120,6 @@ agree_type n B D agree e b = go e.kind b
     go (Choices cs) b = refl
     go (Fields fs) b = ap (λ ds. suc (largest ds)) (agree_fields n B D agree fs (b fs refl))
 
-get_front : (xs ys : List ℕ) (i : ℕ) → i < length xs → slice_get (xs ++ ys) i ≡ slice_get xs i
-get_front [] ys i h = absurd (omega (arith, h))
-get_front (x ∷ xs) ys zero h = refl
-get_front (x ∷ xs) ys (suc i) h = get_front xs ys i (omega (arith, h))
-
 get_next : (xs : List ℕ) (y : ℕ) → slice_get (xs ++ y ∷ []) (length xs) ≡ Some y
 get_next [] y = refl
 get_next (x ∷ xs) y = get_next xs y
@@ -137,7 +132,7 @@ kept : (below : List ℕ) (es : List TypeEntry) (i : ℕ) → i < length below �
 kept below [] i h = refl
 kept below (e ∷ es) i h =
     let l = length-next below (type_depth below e) in
-    kept (below ++ type_depth below e ∷ []) es i (omega (arith, l, h)) ∙ get_front below (type_depth below e ∷ []) i h
+    kept (below ++ type_depth below e ∷ []) es i (omega (arith, l, h)) ∙ get_before below (type_depth below e ∷ []) i h
 
 entry : (below : List ℕ) (es : List TypeEntry) → ((k : ℕ) (e : TypeEntry) → slice_get es k ≡ Some e → NamesBelow (length below + k) e)
     → (k : ℕ) (e : TypeEntry) → slice_get es k ≡ Some e
@@ -151,7 +146,7 @@ entry below (x ∷ es) lawful zero e g =
     let z : length below + zero ≡ length below = omega arith in
     let same : x ≡ e = cc in
     let agree : Agree (length below) below D =
-    λ i h. sym (kept (below ++ d ∷ []) es i (omega (arith, l, h)) ∙ get_front below (d ∷ []) i h) in
+    λ i h. sym (kept (below ++ d ∷ []) es i (omega (arith, l, h)) ∙ get_before below (d ∷ []) i h) in
     let b : NamesBelow (length below) x = subst (λ (n : ℕ). NamesBelow n x) z (lawful zero x refl) in
     ap (slice_get D) z ∙ kept (below ++ d ∷ []) es (length below) (omega (arith, l)) ∙ get_next below d
     ∙ ap (λ (n : ℕ). Some n) (agree_type (length below) below D agree x b ∙ ap (type_depth D) same)

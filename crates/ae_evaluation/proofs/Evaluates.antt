@@ -26,12 +26,13 @@ use Rattle.ae_journal.specs.Systems.{IsCompleted, IsName, IsNamed, IsJoin, value
 use Rattle.ae_journal.specs.Evaluation.{Reduction, ev, value_of, new, free_value, other_value, applied_value, whole, members, is_ac}
 use Rattle.ae_evaluation.proofs.Linear.{ev-Apply, rest_of, ev-Fresh}
 use Rattle.ae_evaluation.proofs.SortFacts.{IsApplied, is_applied, is_built, is_field, result_is, ac_arguments}
-use Rattle.ae_evaluation.proofs.Sane.{gets, sort_for}
+use Rattle.ae_evaluation.proofs.Sane.{sort_for}
 use Rattle.ae_evaluation.proofs.Shape.{ac_is}
 use Rattle.ae_evaluation.proofs.Names.{value_by_term, linear_name, numeral_name, free_name, joined_name, field_name}
 use Rattle.ae_journal.specs.declared.systems.System.{System}
 use Rattle.ae_base.proofs.Options.{bind_some}
 use Rattle.std.proofs.lemmas.Option.{same_Some, slice_get_within}
+use Rattle.ae_base.proofs.ListFacts.{value_at as at_place}
 
 -- ---- a name with a value has a representative
 module _ (sig : Signature) (y : System) (s : Sort) (v : Val) where
@@ -158,7 +159,7 @@ module _ (sig : Signature) (lawful : IsLawful sig) (y : System) (num : Numbering
   valued : (t : Term) → IsNamed y t → (v : Val) × ValueOf y t v
   valued t i =
       let b = slice_get_within y.names i.0 t i.1 in
-      let w = gets y.values i.0 (omega (arith, b, completed.values)) in
+      let w = at_place y.values i.0 (omega (arith, b, completed.values)) in
       (meaning w.0, (i.0, i.1, ap (λ o. o >>= λ w. Some (meaning w)) w.1))
 
   abbrev pub Evaluates : Term → Type 0
@@ -223,7 +224,7 @@ module _ (sig : Signature) (lawful : IsLawful sig) (y : System) (num : Numbering
             let same : vs ≡ rec.0 =
             same_lists vs rec.0 (omega (arith, l, m, c, d)) (λ i a w f g.
             let low = slice_get_within vs i a f in
-            let u = gets ts i (omega (arith, low, c)) in
+            let u = at_place ts i (omega (arith, low, c)) in
             let of_field =
             value_there y (field_terms (Named n ss) t k) rec.0 i (Apply (head.Field n i) ss (t ∷ [])) w rec.2
             (field_term n ss t k i (omega (arith, low, c, d))) g in

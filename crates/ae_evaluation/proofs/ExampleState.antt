@@ -54,12 +54,13 @@ use Rattle.ae_evaluation.specs.Examples.{state, red, hue, colour_type, red_entry
 use Rattle.ae_evaluation.proofs.ExampleSystem.{R, no_entry, each_applied, one_place, completed, x_value, joined_value, field_value, x_sort, r_sort, joined_sort}
 use Rattle.ae_evaluation.proofs.ExampleSystem.{square_sort, field_sort, R_fields, real_fields, once_tells, each_name, C, C_choices, red_sort, hue_sort}
 use Rattle.ae_evaluation.proofs.ExampleSystem.{red_value, hue_value}
-use Rattle.ae_evaluation.proofs.Literals.{here_or_later, one_there, outside-Eq}
+use Rattle.ae_evaluation.proofs.Literals.{outside-Eq}
 use Rattle.ae_evaluation.proofs.Decisions.{yes_sort, yes_sorts}
 use Rattle.ae_evaluation.proofs.Plainness.{plain-Apply}
 use Rattle.ae_evaluation.proofs.Substitution.{constants-Apply}
 use Rattle.ae_base.proofs.Options.{bind_some, never_some, only_some}
 use Rattle.std.proofs.lemmas.Option.{same_Some}
+use Rattle.ae_journal.proofs.Splits.{contains_cases, contains_one}
 
 -- ---- the two formulas
 outs_hypothesis : out-Formula hypothesis ≡ formula_layer.Eq joined_x x
@@ -84,8 +85,8 @@ true_or_false e = cc
 
 only_these : (l : Lit) → Stands problem 1 state l → (is_true hypothesis ≡ l) ⊎ (is_false goal ≡ l)
 only_these l h =
-    elim (here_or_later (is_true hypothesis) (is_false goal ∷ []) l h) as
-    (λ _. (is_true hypothesis ≡ l) ⊎ (is_false goal ≡ l)) [ inl e ↦ inl e | inr c ↦ inr (one_there (is_false goal) l c) ]
+    elim (contains_cases (is_true hypothesis) (is_false goal ∷ []) l h) as
+    (λ _. (is_true hypothesis ≡ l) ⊎ (is_false goal ≡ l)) [ inl e ↦ inl e | inr c ↦ inr (contains_one (is_false goal) l c) ]
 
 positive_is : (f : Formula) → Stands problem 1 state (is_true f) → hypothesis ≡ f
 positive_is f h = elim (only_these (is_true f) h) as (λ _. hypothesis ≡ f) [

@@ -21,28 +21,9 @@ use Rattle.ae_core.specs.declared.problems.Signature.{Signature}
 use Rattle.ae_journal.specs.Values.{Val}
 use Rattle.ae_evaluation.proofs.Substitution.{Fill, at_variable}
 use Rattle.ae_base.proofs.ListFacts.{map_reverse}
-use Rattle.ae_base.proofs.Options.{bind_some}
+use Rattle.ae_base.proofs.Options.{bind_some, known_each}
 use Rattle.std.proofs.lemmas.Bool.{and_parts}
-
--- ---- lists
-
-pub contains_here : {A : Type 0} (x : A) (xs : List A) → Contains (x ∷ xs) x
-contains_here x xs = (zero, omega arith, refl)
-
-pub contains_later : {A : Type 0} (x : A) (xs : List A) (z : A) → Contains xs z → Contains (x ∷ xs) z
-contains_later x xs z c = (suc c.0, omega (arith, c.1), c.2)
-
-pub each_of : {A : Type 0} (P : A → Type 0) (xs : List A) (z : A) → AllByRecursion P xs → Contains xs z → P z
-each_of P [] z a (k, h, e) = absurd (omega (arith, h))
-each_of P (x ∷ xs) z a (zero, h, e) = subst P e a.0
-each_of P (x ∷ xs) z a (suc k, h, e) = each_of P xs z a.1 (k, omega (arith, h), e)
-
-known_each : (f : Term → Option Sort) (ts : List Term) (ss : List Sort) → all_known (map f ts) ≡ Some ss → map f ts ≡ map Some ss
-known_each f [] ss e = ap (map Some) (same_Some [] ss e)
-known_each f (t ∷ ts) ss e =
-    let b = bind_some (f t) (λ x. all_known (map f ts) >>= λ xs. Some (x ∷ xs)) ss e in
-    let c = bind_some (all_known (map f ts)) (λ xs. Some (b.0 ∷ xs)) ss b.2 in
-    (λ i. b.1 i ∷ known_each f ts c.0 c.1 i) ∙ ap (map Some) (same_Some (b.0 ∷ c.0) ss c.2)
+use Rattle.ae_journal.proofs.Splits.{contains_later}
 
 found_at : (f : Term → Option Sort) (o : Option Term) (s : Sort) → option_map f o ≡ Some (Some s)
     → (t : Term) × (o ≡ Some t) × (f t ≡ Some s)

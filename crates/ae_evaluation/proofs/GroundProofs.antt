@@ -60,7 +60,7 @@ use Rattle.ae_evaluation.proofs.PutTruth.{keeps_truth, put_no_formula, put_simpl
 use Rattle.ae_evaluation.proofs.Substitution.{left_empty}
 use Rattle.ae_evaluation.proofs.Truths.{truth_all, truth_eq, literal_is, rows_hold}
 use Rattle.ae_evaluation.proofs.GroundBlocks.{block_true}
-use Rattle.ae_evaluation.proofs.FreshValues.{each_of, fill_of, variables_same, constants_sorted, lookup, found_constant, found_term, EachValue, found_holds, own_values}
+use Rattle.ae_evaluation.proofs.FreshValues.{fill_of, variables_same, constants_sorted, lookup, found_constant, found_term, EachValue, found_holds, own_values}
 use Rattle.ae_journal.specs.declared.systems.Saturated.{Saturated}
 use Rattle.ae_base.proofs.AllOf.{all_append, all_at}
 use Rattle.ae_base.proofs.Decided.{decided_of}
@@ -68,6 +68,7 @@ use Rattle.ae_base.proofs.Options.{bind_some, only_some, when_some}
 use Rattle.std.proofs.lemmas.Bool.{and_parts}
 use Rattle.std.proofs.lemmas.List.Elements.{Contains-append_left, Contains-append_right}
 use Rattle.std.proofs.lemmas.Option.{same_Some}
+use Rattle.ae_journal.proofs.Splits.{all_contained}
 
 all_reverse : {A : Type 0} (P : A → Type 0) (xs : List A) → AllByRecursion P xs → AllByRecursion P (reverse xs)
 all_reverse P [] a = tt
@@ -373,7 +374,7 @@ module _ (p : Problem) (g : ℕ) (st : Saturated) (takes : Lit → Lit) (bound :
       let c = found_constant V m chosen.sorts chosen.terms n o v e in
       let b : block_sorts (out-Formula f) ≡ chosen.sorts = ap (λ (g : Formula). block_sorts (out-Formula g)) (goal_is f i) ∙ chosen.block in
       let d =
-      each_of (λ c. ¬ (Contains (formula_constants f ++ flat_map (line_constants p g) earlier) c)) (fresh_terms m f) (Fresh n o) new
+      all_contained (λ c. ¬ (Contains (formula_constants f ++ flat_map (line_constants p g) earlier) c)) (fresh_terms m f) (Fresh n o) new
       (subst (λ (ss : List Sort). Contains (count_from m ss) (Fresh n o)) (sym b) c) in
       skip earlier (FreshLine f m ∷ later) a n o
       (λ q. d (Contains-append_right (formula_constants f) (flat_map (line_constants p g) earlier) (Fresh n o) q))

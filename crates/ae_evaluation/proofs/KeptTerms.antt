@@ -34,9 +34,8 @@ use Rattle.ae_journal.specs.States.{outside, outside_step}
 use Rattle.ae_evaluation.proofs.Decisions.{both_all}
 use Rattle.ae_evaluation.proofs.Literals.{outside-Eq, outside-Pred, simple-Not, simple-And, simple-Or, simple-Xor, simple-Iff, lt_not_simple, le_not_simple, all_not_simple, ex_not_simple}
 use Rattle.ae_evaluation.proofs.Names.{value_by_term}
-use Rattle.ae_evaluation.proofs.Sane.{gets}
 use Rattle.ae_journal.specs.declared.systems.System.{System}
-use Rattle.ae_base.proofs.ListFacts.{map_reverse}
+use Rattle.ae_base.proofs.ListFacts.{map_reverse, value_at as at_place}
 use Rattle.ae_base.proofs.Options.{bind_some}
 use Rattle.std.proofs.lemmas.Bool.{and_parts}
 
@@ -161,7 +160,7 @@ module _ (sig : Signature) (y : System) (completed : IsCompleted sig y) where
   unfolding keep
   kept_named t i =
       let b = slice_get_within y.names i.0 t i.1 in
-      let w = gets y.values i.0 (omega (arith, b, completed.values)) in
+      let w = at_place y.values i.0 (omega (arith, b, completed.values)) in
       ap (λ o. elim o as (λ _. Term) [ Some v ↦ t | None ↦ constant_for t ])
       (value_by_term sig y numbering (reduced_by y) true completed i.0 t (meaning w.0) i.1 (ap (λ o. o >>= λ w. Some (meaning w)) w.1))
 

@@ -39,7 +39,6 @@ use Rattle.ae_journal.specs.Ground.{is_simple, simple_step}
 use Rattle.ae_evaluation.proofs.Decisions.{same_list, yes_sorts}
 use Rattle.ae_evaluation.proofs.Main.{names_have_values}
 use Rattle.ae_evaluation.proofs.Respect.{is_known}
-use Rattle.ae_evaluation.proofs.Sane.{gets}
 use Rattle.ae_evaluation.proofs.SortFacts.{is_applied, result_is, no_result}
 use Rattle.ae_evaluation.proofs.Truths.{truth_true, truth_false, truth_eq, truth_pred, truth_not, truth_and, truth_or, truth_xor, truth_iff}
 use Rattle.ae_journal.specs.declared.systems.Saturated.{Saturated}
@@ -47,6 +46,8 @@ use Rattle.ae_base.proofs.Decided.{decided_not, decided_of, decided_yes}
 use Rattle.ae_base.proofs.Options.{bind_some}
 use Rattle.std.proofs.lemmas.Bool.{and_parts}
 use Rattle.std.proofs.lemmas.Option.{same_Some, slice_get_within}
+use Rattle.ae_base.proofs.ListFacts.{value_at as at_place}
+use Rattle.ae_journal.proofs.Splits.{contains_cases, contains_one}
 
 -- ---- simple formulas
 simple-Lt : (a b : Term) → is_simple (Lt a b) ≡ false
@@ -109,15 +110,8 @@ unfolding outside
 outside-Pred p ss us = fold_pred (List Term) (Unit {0}) outside_step (λ q. tt) p ss us
 
 -- ---- elements of lists
-pub here_or_later : {A : Type 0} (x : A) (xs : List A) (z : A) → Contains (x ∷ xs) z → (x ≡ z) ⊎ Contains xs z
-here_or_later x xs z (zero, h, e) = inl e
-here_or_later x xs z (suc k, h, e) = inr (k, omega (arith, h), e)
-
 none_there : {A : Type 0} (z : A) → Contains [] z → ⊥
 none_there z c = omega (arith, c.1)
-
-pub one_there : {A : Type 0} (x z : A) → Contains (x ∷ []) z → x ≡ z
-one_there x z c = elim (here_or_later x [] z c) as (λ _. x ≡ z) [ inl e ↦ e | inr k ↦ absurd (none_there z k) ]
 
 -- ---- a saturated state
 module _ (p : Problem) (g : ℕ) (st : Saturated) (takes : Lit → Lit) (bound : ℕ) (lawful : IsLawful p.signature)
@@ -134,7 +128,7 @@ module _ (p : Problem) (g : ℕ) (st : Saturated) (takes : Lit → Lit) (bound :
   pub valued : (t : Term) → IsNamed st.system t → (v : Val) × ValueOf st.system t v
   valued t i =
       let b = slice_get_within st.system.names i.0 t i.1 in
-      let w = gets st.system.values i.0 (omega (arith, b, saturated.completed.values)) in
+      let w = at_place st.system.values i.0 (omega (arith, b, saturated.completed.values)) in
       (meaning w.0, (i.0, i.1, ap (λ o. o >>= λ w. Some (meaning w)) w.1))
 
   pub has_value : (t : Term) (s : Sort) (v : Val) → sort_of p.signature t ≡ Some s → ValueOf st.system t v → V t ≡ v
@@ -155,24 +149,24 @@ module _ (p : Problem) (g : ℕ) (st : Saturated) (takes : Lit → Lit) (bound :
       → row r f ≡ Some (a ∷ b ∷ []) → Stands p g st a ⊎ Stands p g st b
   row_two f s r a b h e =
       let k = saturated.taken_apart (record { positive = s; formula = f }) h r (a ∷ b ∷ []) e in
-      elim (here_or_later a (b ∷ []) k.0 k.1) as
+      elim (contains_cases a (b ∷ []) k.0 k.1) as
       (λ _. Stands p g st a ⊎ Stands p g st b) [
         | inl z ↦ inl (stands_at k.0 a (sym z) k.2)
         | inr c ↦ inr
-            (stands_at k.0 b (sym (one_there b k.0 c)) k.2)
+            (stands_at k.0 b (sym (contains_one b k.0 c)) k.2)
       ]
 
   row_three : (f : Formula) (s : Bool) (r : ℕ) (a b c : Lit) → Stands p g st (record { positive = s; formula = f })
       → row r f ≡ Some (a ∷ b ∷ c ∷ []) → Stands p g st a ⊎ Stands p g st b ⊎ Stands p g st c
   row_three f s r a b c h e =
       let k = saturated.taken_apart (record { positive = s; formula = f }) h r (a ∷ b ∷ c ∷ []) e in
-      elim (here_or_later a (b ∷ c ∷ []) k.0 k.1) as (λ _. Stands p g st a ⊎ Stands p g st b ⊎ Stands p g st c) [
+      elim (contains_cases a (b ∷ c ∷ []) k.0 k.1) as (λ _. Stands p g st a ⊎ Stands p g st b ⊎ Stands p g st c) [
         | inl z ↦ inl (stands_at k.0 a (sym z) k.2)
-        | inr d ↦ elim (here_or_later b (c ∷ []) k.0 d) as
+        | inr d ↦ elim (contains_cases b (c ∷ []) k.0 d) as
             (λ _. Stands p g st a ⊎ Stands p g st b ⊎ Stands p g st c) [
               | inl z ↦ inr (inl (stands_at k.0 b (sym z) k.2))
               | inr q ↦ inr
-                  (inr (stands_at k.0 c (sym (one_there c k.0 q)) k.2))
+                  (inr (stands_at k.0 c (sym (contains_one c k.0 q)) k.2))
             ]
       ]
 
@@ -198,7 +192,7 @@ module _ (p : Problem) (g : ℕ) (st : Saturated) (takes : Lit → Lit) (bound :
   alone_of f s r h e =
       let k = saturated.taken_apart (record { positive = s; formula = f }) h r (record { positive = not s; formula = f } ∷ []) e in
       saturated.consistent (record { positive = s; formula = f }) h
-      (stands_at k.0 (record { positive = not s; formula = f }) (sym (one_there (record { positive = not s; formula = f }) k.0 k.1)) k.2)
+      (stands_at k.0 (record { positive = not s; formula = f }) (sym (contains_one (record { positive = not s; formula = f }) k.0 k.1)) k.2)
 
   -- ---- connectives
   true_case : IsTrueLiteral True
@@ -373,7 +367,7 @@ module _ (p : Problem) (g : ℕ) (st : Saturated) (takes : Lit → Lit) (bound :
   said_of : (ls : List Lit) (l : Lit) (q : ℕ) (ss : List Sort) (us : List Term) → Contains ls l
       → l.positive && says_by same_one_value q ss us (out-Formula l.formula) ≡ true → is_said same_one_value ls q ss us ≡ true
   said_of [] l q ss us c e = absurd (none_there l c)
-  said_of (m ∷ ls) l q ss us c e = go (here_or_later m ls l c) (λ d. said_of ls l q ss us d e)
+  said_of (m ∷ ls) l q ss us c e = go (contains_cases m ls l c) (λ d. said_of ls l q ss us d e)
     where
       or_true : (x : Bool) → x || true ≡ true
       or_true true = refl

@@ -19,10 +19,6 @@ use Rattle.ae_core.proofs.SortLaws.{sort_in_apply}
 use Rattle.ae_evaluation.proofs.Decisions.{same_list}
 use Rattle.ae_evaluation.proofs.Congruence.{IsNumeral, IsPlainNode}
 
-all_map : {A : Type 0} (f : A → Bool) (xs : List A) → list_all (λ b. b) (map f xs) ≡ list_all f xs
-all_map f [] = refl
-all_map f (x ∷ xs) = ap (λ b. f x && b) (all_map f xs)
-
 pairs_all : (f : Term → Bool) (ts : List Term) → list_all {X = Term × Bool} (λ a. a.1) (map (λ t. (t, f t)) ts) ≡ list_all f ts
 pairs_all f [] = refl
 pairs_all f (t ∷ ts) = ap (λ b. f t && b) (pairs_all f ts)
@@ -71,9 +67,6 @@ plain_node (head.Real op.Mod) ts e = tt
 pub sort-Apply : (sig : Signature) (h : Head) (ss : List Sort) (ts : List Term)
     → sort_of sig (Apply h ss ts) ≡ (only (list_all (is_closed_sort sig) ss) (all_known (map (sort_of sig) ts)) >>= head_sort sig h ss)
 sort-Apply sig h ss ts = sort_in_apply sig (is_closed_sort sig) [] h ss ts
-
-some_same : (a b : Sort) → ◌≡◌ {A = Option Sort} (Some a) (Some b) → a ≡ b
-some_same a b e = cc
 
 -- two arguments of one known sort
 two_known : (c z : Bool) (A B : Option Sort) (o r s : Sort)

@@ -39,14 +39,8 @@ use Rattle.ae_evaluation.proofs.Linear.{ev-Apply, ev-Bound, ev-Fresh, ev-Num}
 use Rattle.ae_num.specs.declared.forms.Value.{Value}
 use Rattle.ae_journal.specs.declared.systems.System.{System}
 use Rattle.ae_base.proofs.Decided.{decided_of}
+use Rattle.ae_base.proofs.ListFacts.{value_at as at_place}
 use Rattle.std.proofs.lemmas.Option.{slice_get_within}
-
--- ---- lists
-
-pub gets : {A : Type 0} (xs : List A) (n : ℕ) → n < length xs → (x : A) × (slice_get xs n ≡ Some x)
-gets [] n h = absurd (omega arith)
-gets (y ∷ ys) zero h = (y, refl)
-gets (y ∷ ys) (suc n) h = gets ys n (omega (arith, h))
 
 module _ (sig : Signature) (y : System) (num : Numbering) (reduce : Head → List Sort → List ℕ → List ℕ) (choosing : Bool) where
   abbrev pub sort_for : Head → List Sort → Sort
@@ -58,7 +52,7 @@ module _ (sig : Signature) (y : System) (num : Numbering) (reduce : Head → Lis
       where
         go : (o : Option Value) → o ≡ slice_get y.values n → (o >>= λ w. Some (meaning w)) ≡ Some v → (t : Term) × IsName y n t
         go None p e = absurd (cc)
-        go (Some w) p e = let b = slice_get_within y.values n w (sym p) in gets y.names n (omega (arith, b, completed.values))
+        go (Some w) p e = let b = slice_get_within y.values n w (sym p) in at_place y.names n (omega (arith, b, completed.values))
 
     -- ---- elements
     abbrev Found : Val → ℕ → List Term → List Value → ℕ → Type 0

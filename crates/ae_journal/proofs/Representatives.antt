@@ -1,5 +1,6 @@
 -- Representatives: unique, least, and their own.
 use Rattle.std.proofs.Common.{◌≡◌, ℕ, zero, suc, ◌+◌, ◌<◌, ◌≤◌, List, [], ◌∷◌, length, Option, Some, None, slice_get, inl, inr, ◌⊎◌, refl, sym, ◌∙◌, ap, arith}
+use Rattle.std.proofs.lemmas.Option.{same_Some}
 use Rattle.ae_core.specs.Sorts.{sort_of}
 use Rattle.ae_base.specs.Options.{or_else}
 use Rattle.ae_core.specs.Decided.{Term_discrete}
@@ -19,17 +20,14 @@ one_representative sig y s v m n a b = omega (arith, a.least n b.has, b.least m 
 pub leaf_representative : LeafRepresentative
 leaf_representative sig y s n r l p = (p.least n l, p.has.value)
 
-same_some : {A : Type 0} (a b : A) → ◌≡◌ {A = Option A} (Some a) (Some b) → a ≡ b
-same_some a b e = cc
-
 pub one_value : OneValue
 one_value sig y t v w c a b =
     let e : a.0 ≡ b.0 = c.apart a.0 b.0 t a.1 b.1 in
-    same_some v w (sym a.2 ∙ ap (value_at y) e ∙ b.2)
+    same_Some v w (sym a.2 ∙ ap (value_at y) e ∙ b.2)
 
 module _ (sig : Signature) (names : List Term) (js : List Line) where
   one_sort : (n : ℕ) (s t : Term) (o p : Sort) → slice_get names n ≡ Some s → slice_get names n ≡ Some t → sort_of sig s ≡ Some o → sort_of sig t ≡ Some p → (s ≡ t) × (o ≡ p)
-  one_sort n s t o p a b c d = let e : s ≡ t = same_some s t (sym a ∙ b) in (e, same_some o p (sym c ∙ ap (sort_of sig) e ∙ d))
+  one_sort n s t o p a b c d = let e : s ≡ t = same_Some s t (sym a ∙ b) in (e, same_Some o p (sym c ∙ ap (sort_of sig) e ∙ d))
 
   at_most : (n q r : ℕ) → IsLeast sig names js n q → IsLeast sig names js n r → q ≤ r
   at_most n q r a b =
@@ -60,7 +58,7 @@ represents_itself x js = itself_now x.problem.signature x.names _
 -- ---- leaves of terms
 -- a number in the list is that of the term at its place
 found_by : (n k : ℕ) (u t : Term) (rest : Option ℕ) (d : Dec (u ≡ t)) → pick d (Some n) rest ≡ Some k → ((n ≡ k) × (u ≡ t)) ⊎ (rest ≡ Some k)
-found_by n k u t rest (yes e) h = inl (same_some n k h, e)
+found_by n k u t rest (yes e) h = inl (same_Some n k h, e)
 found_by n k u t rest (no e) h = inr h
 
 found_at : (n : ℕ) (us : List Term) (t : Term) (k : ℕ) → number_from n us t ≡ Some k → (i : ℕ) × (k ≡ n + i) × (i < length us) × (slice_get us i ≡ Some t)
@@ -80,7 +78,7 @@ leaf_by names s t (Some m) (Some n) a b e =
     let f = found_at 0 names s m a in
     let g = found_at 0 names t n b in
     let i : f.0 ≡ g.0 = omega (arith, f.1, g.1, e) in
-    same_some s t (sym f.3 ∙ ap (slice_get names) i ∙ g.3)
+    same_Some s t (sym f.3 ∙ ap (slice_get names) i ∙ g.3)
 leaf_by names s t (Some m) None a b e = let f = found_at 0 names s m a in absurd (omega (arith, f.1, f.2, e))
 leaf_by names s t None (Some n) a b e = let g = found_at 0 names t n b in absurd (omega (arith, g.1, g.2, e))
 leaf_by names s t None None a b e = same_number s t (omega (arith, e))

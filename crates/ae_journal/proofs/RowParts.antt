@@ -1,5 +1,6 @@
 -- The literals of a formula's defining clauses are of the formula or of its parts; the sides of an inequality stand outside quantified parts.
 use Rattle.std.proofs.Common.{◌≡◌, ℕ, List, [], ◌∷◌, Bool, true, false, not, nat_eq, cond, arith, Option, Some, None, refl, sym, ◌∙◌, ap, subst, inl, inr, ◌⊎◌}
+use Rattle.std.proofs.lemmas.Option.{same_Some}
 use Rattle.std.specs.List.{AllByRecursion, Contains}
 use Rattle.ae_rules.specs.declared.rows.TheConstants.{AND_TO_LEFT, AND_TO_RIGHT, AND_FROM_BOTH, OR_FROM_LEFT, OR_FROM_RIGHT, OR_TO_EITHER, IFF_TO_RIGHT, IFF_TO_LEFT, IFF_FROM_NEITHER}
 use Rattle.ae_rules.specs.declared.rows.TheConstants.{IFF_FROM_BOTH, XOR_TO_EITHER, XOR_TO_NOT_BOTH, XOR_FROM_LEFT, XOR_FROM_RIGHT, TRUE_STANDS, FALSE_FAILS}
@@ -20,9 +21,6 @@ use Rattle.ae_journal.proofs.Splits.{contains_cases, contains_here, contains_lat
 
 never : {A P : Type 0} (a : A) → ◌≡◌ {A = Option A} None (Some a) → P
 never a e = cc
-
-same_some : {A : Type 0} (a b : A) → ◌≡◌ {A = Option A} (Some a) (Some b) → a ≡ b
-same_some a b e = cc
 
 first_part : (f a : Formula) (rest : List Formula) → parts_of f ≡ a ∷ rest → Contains (parts_of f) a
 first_part f a rest e = subst (λ (w : List Formula). Contains w a) (sym e) (contains_here a rest)
@@ -72,7 +70,7 @@ module _ (P : Formula → Type 0) (closed : (h a : Formula) → P h → Contains
   three_each l m k p q r = each (l ∷ m ∷ k ∷ []) (p, (q, (r, tt)))
 
   found : (r k : ℕ) (d : Clause) (rest : Option Clause) (c : Clause) (b : Bool) → cond b (Some d) rest ≡ Some c → (d ≡ c) ⊎ (rest ≡ Some c)
-  found r k d rest c true e = inl (same_some d c e)
+  found r k d rest c true e = inl (same_Some d c e)
   found r k d rest c false e = inr e
 
   tabled : (r : ℕ) (table : List (ℕ × Clause)) (c : Clause) → row_at r table ≡ Some c → AllByRecursion (λ (t : ℕ × Clause). Each t.1) table → Each c
@@ -158,7 +156,7 @@ two_sides f a b y o e n sign s t strict i = picked (n sign).1
 
     moved : (u v : Term) (k : Bool) → Contains (outside f) u → Contains (outside f) v → inequality_of sign y ≡ Some (u, v, k) → Contains (outside f) s × Contains (outside f) t
     moved u v k p q h =
-        let same : (u, v, k) ≡ (s, t, strict) = same_some (u, v, k) (s, t, strict) (sym h ∙ ap (inequality_of sign) (sym o) ∙ i) in
+        let same : (u, v, k) ≡ (s, t, strict) = same_Some (u, v, k) (s, t, strict) (sym h ∙ ap (inequality_of sign) (sym o) ∙ i) in
         (subst (λ w. Contains (outside f) w) (ap (λ r. r.0) same) p, subst (λ w. Contains (outside f) w) (ap (λ r. r.1) same) q)
 
     picked : {k : Bool} → (inequality_of sign y ≡ Some (a, b, k)) ⊎ (inequality_of sign y ≡ Some (b, a, k)) → Contains (outside f) s × Contains (outside f) t
