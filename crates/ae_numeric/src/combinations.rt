@@ -22,8 +22,8 @@ use ae_core::proofs::{EqLine, Relation, Scaled};
 use ae_core::sorts::{same_numeric, sort_of};
 use ae_core::terms::{Sort, Term};
 use ae_num::forms::{Lin, Part, plus, scale, zero};
-use ae_rules::facts::stated;
 use ae_num::numbers::NumFail;
+use ae_rules::facts::stated;
 use std::alloc::{AllocError, Global};
 
 /// Whether a line may stand in a sum for a line of this relation: an equation is a sum of equations alone.

@@ -23,8 +23,8 @@ use ae_core::proofs::{EqLine, Relation};
 use ae_core::sorts::{is_sort, same_numeric, sort_of};
 use ae_core::terms::{Sort, Term};
 use ae_num::forms::{Lin, Part, fraction, plus};
-use ae_rules::facts::stated;
 use ae_num::numbers::{NumFail, gcd};
+use ae_rules::facts::stated;
 use std::alloc::{AllocError, Global};
 
 /// The greatest common divisor of the factors; 0 where there are none.
