@@ -1,19 +1,16 @@
 //! Clause lines: what each states, and whether it is allowed after earlier ones.
-ghost use Rattle.std.specs.Prelude.{◌≡◌, ◌↔◌, ◌&&◌, ◌∷◌, [], IfOk, IfErr, OnOk, IsTrue, map};
+ghost use Rattle.std.specs.Prelude.{◌≡◌, ◌↔◌, ◌&&◌, IfOk, IfErr, OnOk, IsTrue};
 ghost use Rattle.std.specs.List.{list_all};
 ghost use Rattle.ae_rules.specs.Derivations as spec;
 ghost use Rattle.ae_rules.specs.Instances as stated;
-ghost use Rattle.ae_base.specs.Options.{only, when};
 ghost use Rattle.ae_core.specs.Sorts as sorted;
-ghost use Rattle.ae_core.specs.declared.formulas.Formula.{out-Formula};
-ghost use Rattle.ae_rules.specs.Clauses as clauses;
 ghost use Rattle.ae_core.specs.declared.proofs.ClauseLine.TheVariants.{Hyp, Goal};
 ghost use Rattle.ae_num.specs.Forms.{IfWide};
 ghost use Rattle.ae_calc.specs.Reached.{Fit, FirstWide, LineReaches};
 
 use crate::enumerations::{exhaustion, trichotomy};
 use crate::fresh::are_new;
-use crate::instances::{fresh_clause, hypothesis, instance_clause};
+use crate::instances::{fresh_clause, hypothesis, hypothesis_clause, instance_clause};
 use crate::lines::block_allowed;
 use ae_rules::literals::{literal, opposites};
 use crate::propagation::refutes;
@@ -40,6 +37,89 @@ pub fn clause_ok(alloc: Global, signature: &Signature, clause: &[Lit]) -> Result
     Ok(true)
 }
 
+/// The clause of the line `goal`: the goal is false. There is none where no goal stands at that place.
+fn goal_clause(
+    alloc: Global,
+    problem: &Problem,
+    goal: usize,
+) -> Result<Option<Clause>, AllocError>
+    ensures { IfOk result (λ c. c ≡ spec.clause_of problem.now goal Goal) }
+{
+    match at(problem.items.as_slice(), goal) {
+        None => Ok(None),
+        Some(item) => match item {
+            Item::Axiom { .. } => Ok(None),
+            Item::Goal { body, .. } => {
+                let mut clause = List::new(alloc);
+                clause.push(literal(alloc, false, body)?)?;
+                Ok(Some(clause))
+            }
+        },
+    }
+}
+
+/// The clause that a line is written to state, whether it fits the problem or not.
+fn clause_of(
+    alloc: Global,
+    problem: &Problem,
+    goal: usize,
+    line: &ClauseLine,
+) -> Result<Option<Clause>, AllocError>
+    ensures { IfOk result (λ c. c ≡ spec.clause_of problem.now goal line.now) }
+{
+    let signature = &problem.signature;
+    match line {
+        ClauseLine::Hyp { axiom, sorts } => {
+            hypothesis_clause(alloc, problem, goal, *axiom, sorts.as_slice())
+        }
+        ClauseLine::Goal => goal_clause(alloc, problem, goal),
+        ClauseLine::Def {
+            row: number,
+            formula,
+        } => row(alloc, *number, formula),
+        ClauseLine::Inst { formula, terms } => {
+            instance_clause(alloc, signature, formula, terms.as_slice())
+        }
+        ClauseLine::Fresh { formula, first } => fresh_clause(alloc, formula, *first),
+        ClauseLine::Exh { term } => exhaustion(alloc, signature, term),
+        ClauseLine::Tri { left, right } => trichotomy(alloc, signature, left, right),
+        ClauseLine::Block(block) => Ok(Some(opposites(alloc, block.deriv.hyps.as_slice())?)),
+        ClauseLine::Rup { clause, .. } => Ok(Some(copy_clause(alloc, clause.as_slice())?)),
+    }
+}
+
+/// Whether the goal at this place is closed and well sorted; it isn't where no goal stands there.
+fn goal_ok(alloc: Global, problem: &Problem, goal: usize) -> Result<bool, AllocError>
+    ensures { IfOk result (λ b. b ≡ spec.line_ok problem.now goal Goal) }
+{
+    match at(problem.items.as_slice(), goal) {
+        None => Ok(false),
+        Some(item) => match item {
+            Item::Axiom { .. } => Ok(false),
+            Item::Goal { body, .. } => formula_ok(alloc, &problem.signature, body),
+        },
+    }
+}
+
+/// Whether the sorts put are closed, and the axiom with them is there, closed and well sorted.
+fn hypothesis_ok(
+    alloc: Global,
+    problem: &Problem,
+    goal: usize,
+    place: usize,
+    sorts: &[Sort],
+) -> Result<bool, AllocError>
+    ensures { IfOk result (λ b. b ≡ spec.line_ok problem.now goal (Hyp place sorts.now)) }
+{
+    if !are_closed_sorts(&problem.signature, sorts) {
+        return Ok(false);
+    }
+    match hypothesis(alloc, problem, goal, place, sorts)? {
+        None => Ok(false),
+        Some(formula) => formula_ok(alloc, &problem.signature, &formula),
+    }
+}
+
 /// Whether a term is closed and well sorted.
 fn term_ok(alloc: Global, signature: &Signature, term: &Term) -> Result<bool, AllocError>
     ensures { IfOk result (λ b. b ≡ sorted.term_ok signature.now term.now) }
@@ -59,169 +139,46 @@ fn terms_ok(alloc: Global, signature: &Signature, terms: &[Term]) -> Result<bool
     Ok(true)
 }
 
-/// The clause of one formula, true or by the sign false.
-fn unit(alloc: Global, sign: bool, formula: &Formula) -> Result<Clause, AllocError>
-    ensures { IfOk result (λ c. c ≡ clauses.literal sign formula.now ∷ []) }
+/// Whether a term is closed and well sorted, and so is what an enumeration's line states of it.
+fn exhaustion_ok(alloc: Global, signature: &Signature, term: &Term) -> Result<bool, AllocError>
+    ensures { IfOk result (λ b. b ≡ (sorted.term_ok signature.now term.now && spec.clause_stands signature.now (stated.exhaustion signature.now term.now))) }
 {
-    let mut clause = List::new(alloc);
-    clause.push(literal(alloc, sign, formula)?)?;
-    Ok(clause)
-}
-
-/// The clause of the line `goal`: the goal is false. There is none where no goal stands at that place, or its formula isn't closed and well sorted.
-fn goal_clause(
-    alloc: Global,
-    problem: &Problem,
-    goal: usize,
-) -> Result<Option<Clause>, AllocError>
-    ensures { IfOk result (λ c. c ≡ spec.conclusion problem.now goal Goal) }
-{
-    match at(problem.items.as_slice(), goal) {
-        None => Ok(None),
-        Some(item) => match item {
-            Item::Axiom { .. } => Ok(None),
-            Item::Goal { body, .. } => {
-                if !formula_ok(alloc, &problem.signature, body)? {
-                    return Ok(None);
-                }
-                Ok(Some(unit(alloc, false, body)?))
-            }
-        },
+    if !term_ok(alloc, signature, term)? {
+        return Ok(false);
     }
-}
-
-/// The clause of a line `hyp`: the axiom with these sorts. There is none where no axiom stands at a place before that of the goal, where
-/// the sorts aren't closed or aren't one for each of its type variables, and where its formula with them isn't closed and well sorted.
-fn hypothesis_clause(
-    alloc: Global,
-    problem: &Problem,
-    goal: usize,
-    place: usize,
-    sorts: &[Sort],
-) -> Result<Option<Clause>, AllocError>
-    ensures { IfOk result (λ c. c ≡ spec.conclusion problem.now goal (Hyp place sorts.now)) }
-{
-    if !are_closed_sorts(&problem.signature, sorts) {
-        return Ok(None);
-    }
-    match hypothesis(alloc, problem, goal, place, sorts)? {
-        None => Ok(None),
-        Some(formula) => {
-            if !formula_ok(alloc, &problem.signature, &formula)? {
-                return Ok(None);
-            }
-            Ok(Some(unit(alloc, true, &formula)?))
-        }
-    }
-}
-
-/// The clause of a line `def`. There is none where the formula isn't closed and well sorted, or has no such row.
-fn definition_clause(
-    alloc: Global,
-    signature: &Signature,
-    number: usize,
-    formula: &Formula,
-) -> Result<Option<Clause>, AllocError>
-    ensures { IfOk result (λ c. c ≡ only (sorted.formula_ok signature.now formula.now) (clauses.row number formula.now)) }
-{
-    if !formula_ok(alloc, signature, formula)? {
-        return Ok(None);
-    }
-    row(alloc, number, formula)
-}
-
-/// The clause of a line `inst`. There is none where the formula is no block of variables that is closed and well sorted, and where the
-/// terms aren't closed terms of its variables' sorts.
-fn put_terms_clause(
-    alloc: Global,
-    signature: &Signature,
-    formula: &Formula,
-    terms: &[Term],
-) -> Result<Option<Clause>, AllocError>
-    ensures { IfOk result (λ c. c ≡ only (sorted.formula_ok signature.now formula.now && list_all (sorted.term_ok signature.now) terms.now) (stated.instance_clause signature.now formula.now terms.now (out-Formula formula.now))) }
-{
-    if !formula_ok(alloc, signature, formula)? {
-        return Ok(None);
-    }
-    if !terms_ok(alloc, signature, terms)? {
-        return Ok(None);
-    }
-    instance_clause(alloc, signature, formula, terms)
-}
-
-/// The clause of a line `fresh`. There is none where the formula is no block of variables that is closed and well sorted, and where a
-/// constant's number would reach 2^64.
-fn put_constants_clause(
-    alloc: Global,
-    signature: &Signature,
-    formula: &Formula,
-    first: usize,
-) -> Result<Option<Clause>, AllocError>
-    ensures { IfOk result (λ c. c ≡ only (sorted.formula_ok signature.now formula.now) (stated.fresh_clause formula.now first (out-Formula formula.now))) }
-{
-    if !formula_ok(alloc, signature, formula)? {
-        return Ok(None);
-    }
-    fresh_clause(alloc, formula, first)
-}
-
-/// The clause of a line `exh`. There is none where the term isn't closed, well sorted and of an enumeration.
-fn enumeration_clause(
-    alloc: Global,
-    signature: &Signature,
-    term: &Term,
-) -> Result<Option<Clause>, AllocError>
-    ensures { IfOk result (λ c. c ≡ only (sorted.term_ok signature.now term.now && spec.clause_stands signature.now (stated.exhaustion signature.now term.now)) (stated.exhaustion signature.now term.now)) }
-{
     match exhaustion(alloc, signature, term)? {
-        None => Ok(None),
-        Some(clause) => {
-            if !clause_ok(alloc, signature, clause.as_slice())? {
-                return Ok(None);
-            }
-            Ok(Some(clause))
+        None => Ok(false),
+        Some(clause) => clause_ok(alloc, signature, clause.as_slice()),
+    }
+}
+
+/// Whether each formula, term and sort that a line states or is given is closed and well sorted.
+fn line_ok(
+    alloc: Global,
+    problem: &Problem,
+    goal: usize,
+    line: &ClauseLine,
+) -> Result<bool, AllocError>
+    ensures { IfOk result (λ b. b ≡ spec.line_ok problem.now goal line.now) }
+{
+    let signature = &problem.signature;
+    match line {
+        ClauseLine::Hyp { axiom, sorts } => {
+            hypothesis_ok(alloc, problem, goal, *axiom, sorts.as_slice())
         }
+        ClauseLine::Goal => goal_ok(alloc, problem, goal),
+        ClauseLine::Def { formula, .. } => formula_ok(alloc, signature, formula),
+        ClauseLine::Inst { formula, terms } => Ok(
+            formula_ok(alloc, signature, formula)? && terms_ok(alloc, signature, terms.as_slice())?,
+        ),
+        ClauseLine::Fresh { formula, .. } => formula_ok(alloc, signature, formula),
+        ClauseLine::Exh { term } => exhaustion_ok(alloc, signature, term),
+        ClauseLine::Tri { left, right } => {
+            Ok(term_ok(alloc, signature, left)? && term_ok(alloc, signature, right)?)
+        }
+        ClauseLine::Block(block) => clause_ok(alloc, signature, block.deriv.hyps.as_slice()),
+        ClauseLine::Rup { clause, .. } => clause_ok(alloc, signature, clause.as_slice()),
     }
-}
-
-/// The clause of a line `tri`. There is none where the terms aren't closed numbers of one sort.
-fn order_clause(
-    alloc: Global,
-    signature: &Signature,
-    left: &Term,
-    right: &Term,
-) -> Result<Option<Clause>, AllocError>
-    ensures { IfOk result (λ c. c ≡ only (sorted.term_ok signature.now left.now && sorted.term_ok signature.now right.now) (stated.trichotomy signature.now left.now right.now)) }
-{
-    trichotomy(alloc, signature, left, right)
-}
-
-/// The clause of a block: the opposite of each hypothesis. There is none where one of them isn't closed and well sorted; its lines aren't looked at.
-fn block_clause(
-    alloc: Global,
-    signature: &Signature,
-    hyps: &[Lit],
-) -> Result<Option<Clause>, AllocError>
-    ensures { IfOk result (λ c. c ≡ when (spec.clause_ok signature.now hyps.now) (map clauses.opposite hyps.now)) }
-{
-    if !clause_ok(alloc, signature, hyps)? {
-        return Ok(None);
-    }
-    Ok(Some(opposites(alloc, hyps)?))
-}
-
-/// The clause of a line `rup`, as it stands. There is none where one of its formulas isn't closed and well sorted.
-fn written_clause(
-    alloc: Global,
-    signature: &Signature,
-    clause: &[Lit],
-) -> Result<Option<Clause>, AllocError>
-    ensures { IfOk result (λ c. c ≡ when (spec.clause_ok signature.now clause.now) clause.now) }
-{
-    if !clause_ok(alloc, signature, clause)? {
-        return Ok(None);
-    }
-    Ok(Some(copy_clause(alloc, clause)?))
 }
 
 /// The clause that a line states, for the goal at place `goal` among the items.
@@ -236,27 +193,10 @@ pub fn conclusion(
 ) -> Result<Option<Clause>, AllocError>
     ensures { IfOk result (λ c. c ≡ spec.conclusion problem.now goal line.now) }
 {
-    let signature = &problem.signature;
-    match line {
-        ClauseLine::Hyp { axiom, sorts } => {
-            hypothesis_clause(alloc, problem, goal, *axiom, sorts.as_slice())
-        }
-        ClauseLine::Goal => goal_clause(alloc, problem, goal),
-        ClauseLine::Def {
-            row: number,
-            formula,
-        } => definition_clause(alloc, signature, *number, formula),
-        ClauseLine::Inst { formula, terms } => {
-            put_terms_clause(alloc, signature, formula, terms.as_slice())
-        }
-        ClauseLine::Fresh { formula, first } => {
-            put_constants_clause(alloc, signature, formula, *first)
-        }
-        ClauseLine::Exh { term } => enumeration_clause(alloc, signature, term),
-        ClauseLine::Tri { left, right } => order_clause(alloc, signature, left, right),
-        ClauseLine::Block(block) => block_clause(alloc, signature, block.deriv.hyps.as_slice()),
-        ClauseLine::Rup { clause, .. } => written_clause(alloc, signature, clause.as_slice()),
+    if !line_ok(alloc, problem, goal, line)? {
+        return Ok(None);
     }
+    clause_of(alloc, problem, goal, line)
 }
 
 /// Whether a line states a clause.

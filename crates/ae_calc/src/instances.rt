@@ -1,9 +1,12 @@
 //! The clauses of the lines that put sorts or terms: hypotheses, instances and fresh constants.
 ghost use Rattle.std.specs.Prelude.{◌≡◌, ◌∷◌, [], IfOk, ◌+◌, ◌≤◌, ◌^◌, length, not};
 ghost use Rattle.ae_base.specs.Options.{when};
+ghost use Rattle.ae_rules.specs.Clauses as clauses;
 ghost use Rattle.ae_rules.specs.Clauses.{literal};
 ghost use Rattle.ae_core.specs.Putting.{put_formula};
+ghost use Rattle.ae_rules.specs.Derivations.{clause_of};
 ghost use Rattle.ae_rules.specs.Instances as spec;
+ghost use Rattle.ae_core.specs.declared.proofs.ClauseLine.TheVariants.{Hyp};
 ghost use Rattle.ae_core.specs.declared.formulas.Formula.{out-Formula};
 
 use ae_rules::literals::{literal, signed};
@@ -53,6 +56,26 @@ pub fn hypothesis(
     }
 }
 
+/// The clause of a hypothesis.
+pub fn hypothesis_clause(
+    alloc: Global,
+    problem: &Problem,
+    goal: usize,
+    place: usize,
+    sorts: &[Sort],
+) -> Result<Option<Clause>, AllocError>
+    ensures { IfOk result (λ c. c ≡ clause_of problem.now goal (Hyp place sorts.now)) }
+{
+    match hypothesis(alloc, problem, goal, place, sorts)? {
+        None => Ok(None),
+        Some(formula) => {
+            let mut clause = List::new(alloc);
+            clause.push(literal(alloc, true, &formula)?)?;
+            Ok(Some(clause))
+        }
+    }
+}
+
 /// Whether terms are closed and well sorted, one for each of the sorts, of that sort.
 pub fn have_sorts(
     alloc: Global,
@@ -68,6 +91,30 @@ pub fn have_sorts(
     }
 }
 
+/// The clause of a formula as it stands, true or false by the sign.
+fn alone(alloc: Global, sign: bool, whole: &Formula) -> Result<Clause, AllocError>
+    ensures { IfOk result (λ c. c ≡ record { positive = sign; formula = whole.now } ∷ []) }
+{
+    let mut clause = List::new(alloc);
+    clause.push(signed(alloc, sign, whole)?)?;
+    Ok(clause)
+}
+
+/// The clause of a formula as it stands and of one part, each true or false by its sign.
+fn with_part(
+    alloc: Global,
+    sign: bool,
+    whole: &Formula,
+    first: bool,
+    a: &Formula,
+) -> Result<Clause, AllocError>
+    ensures { IfOk result (λ c. c ≡ record { positive = sign; formula = whole.now } ∷ clauses.literal first a.now ∷ []) }
+{
+    let mut clause = alone(alloc, sign, whole)?;
+    clause.push(literal(alloc, first, a)?)?;
+    Ok(clause)
+}
+
 /// The clause of a block with one sign, and of its body with terms put, with the other.
 pub fn put_clause(
     alloc: Global,
@@ -79,10 +126,7 @@ pub fn put_clause(
     ensures { IfOk result (λ c. c ≡ record { positive = sign; formula = whole.now } ∷ literal (not sign) (put_formula terms.now quant.now.body) ∷ []) }
 {
     let body = substitute(alloc, quant, terms)?;
-    let mut clause = List::new(alloc);
-    clause.push(signed(alloc, sign, whole)?)?;
-    clause.push(literal(alloc, !sign, &body)?)?;
-    Ok(clause)
+    with_part(alloc, sign, whole, !sign, &body)
 }
 
 /// The same where the terms are of the sorts of the block's variables; otherwise there is none.
