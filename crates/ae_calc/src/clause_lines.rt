@@ -12,9 +12,7 @@ use crate::enumerations::{exhaustion, trichotomy};
 use crate::fresh::are_new;
 use crate::instances::{fresh_clause, hypothesis, hypothesis_clause, instance_clause};
 use crate::lines::block_allowed;
-use ae_rules::literals::{literal, opposites};
 use crate::propagation::refutes;
-use ae_rules::rows::row;
 use ae_core::copies::copy_clause;
 use ae_core::formulas::{Clause, Formula, Lit};
 use ae_core::lists::{List, at};
@@ -23,6 +21,8 @@ use ae_core::proofs::ClauseLine;
 use ae_core::sorts::{are_closed_sorts, formula_ok, sort_of};
 use ae_core::terms::{Sort, Term};
 use ae_num::numbers::NumFail;
+use ae_rules::literals::{literal, opposites};
+use ae_rules::rows::row;
 use std::alloc::{AllocError, Global};
 
 /// Whether each formula of a clause is closed and well sorted.
@@ -38,11 +38,7 @@ pub fn clause_ok(alloc: Global, signature: &Signature, clause: &[Lit]) -> Result
 }
 
 /// The clause of the line `goal`: the goal is false. There is none where no goal stands at that place.
-fn goal_clause(
-    alloc: Global,
-    problem: &Problem,
-    goal: usize,
-) -> Result<Option<Clause>, AllocError>
+fn goal_clause(alloc: Global, problem: &Problem, goal: usize) -> Result<Option<Clause>, AllocError>
     ensures { IfOk result (λ c. c ≡ spec.clause_of problem.now goal Goal) }
 {
     match at(problem.items.as_slice(), goal) {

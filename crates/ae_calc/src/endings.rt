@@ -9,15 +9,15 @@ ghost use Rattle.ae_core.specs.declared.terms.Term.{Apply};
 ghost use Rattle.ae_core.specs.declared.terms.Head.{Head as HeadOf};
 
 use crate::equations::{assumes, equates_all};
+use ae_core::equality::{same_head, same_sorts};
 use ae_core::formulas::{Formula, Lit};
 use ae_core::problems::{Nature, Signature};
 use ae_core::proofs::{Ending, EqLine, Relation};
 use ae_core::terms::{Head, Term};
-use ae_core::equality::{same_head, same_sorts};
 use ae_num::numbers::NumFail;
 use ae_numeric::combinations::{const_ends, zero_ends};
-use ae_rules::facts::stated;
 use ae_numeric::rounding::gcd_ends;
+use ae_rules::facts::stated;
 use std::alloc::Global;
 
 /// Whether a line equates two terms that a hypothesis says are different.

@@ -6,12 +6,12 @@ ghost use Rattle.ae_core.specs.declared.formulas.Formula.{Eq, Lt, Le};
 ghost use Rattle.ae_core.specs.declared.terms.Term.{Apply};
 ghost use Rattle.ae_core.specs.declared.terms.Head.TheVariants as head;
 
+use ae_core::equality::{same_head, same_sorts, same_term};
 use ae_core::formulas::{Formula, Lit};
 use ae_core::problems::{Kind, Signature};
 use ae_core::proofs::{EqLine, Relation};
 use ae_core::sorts::{same_known, same_numeric, sort_of};
 use ae_core::terms::{Head, Sort, Term};
-use ae_core::equality::{same_head, same_sorts, same_term};
 use ae_rules::facts::stated;
 use std::alloc::{AllocError, Global};
 

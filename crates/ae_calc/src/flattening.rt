@@ -4,10 +4,10 @@ ghost use Rattle.std.specs.List.Sorted.{IsPermutation};
 ghost use Rattle.ae_rules.specs.Lines.{AllowedAc, IsAc, flat};
 ghost use Rattle.ae_calc.specs.Inner.LentTerms.{values, IsRisingList};
 
+use ae_core::equality::{same_head, same_sorts, same_term};
 use ae_core::orders::compare_terms;
 use ae_core::problems::{Nature, Signature};
 use ae_core::terms::{Head, Op, Sort, Term};
-use ae_core::equality::{same_head, same_sorts, same_term};
 use std::alloc::{AllocError, Global};
 
 /// Whether a head is associative and commutative: a declared symbol of that nature, or the product of a numeric sort.

@@ -9,7 +9,6 @@ ghost use Rattle.ae_rules.specs.Instances as spec;
 ghost use Rattle.ae_core.specs.declared.proofs.ClauseLine.TheVariants.{Hyp};
 ghost use Rattle.ae_core.specs.declared.formulas.Formula.{out-Formula};
 
-use ae_rules::literals::{literal, signed};
 use ae_core::copies::copy_sort;
 use ae_core::formulas::{Clause, Formula, Quant};
 use ae_core::lists::{Boxed, List, at};
@@ -17,6 +16,7 @@ use ae_core::problems::{Item, Problem, Signature};
 use ae_core::putting::{instance, substitute};
 use ae_core::sorts::{are_sorts, sorts_in};
 use ae_core::terms::{Sort, Term};
+use ae_rules::literals::{literal, signed};
 use std::alloc::{AllocError, Global};
 
 /// An axiom's formula with sorts put for its type variables. There is none where their numbers differ.

@@ -7,16 +7,19 @@ ghost use Rattle.ae_numeric.specs.Stated.{line_steps};
 ghost use Rattle.ae_calc.specs.Reached.{Fit, FirstWide, BlockReaches, IsLineAllowed};
 
 use crate::endings::ends;
-use crate::equations::{assumes, assumes_at_most, assumes_below, congruent, equates, fact_is_ok, fields_allowed, is_written_field, joined};
+use crate::equations::{
+    assumes, assumes_at_most, assumes_below, congruent, equates, fact_is_ok, fields_allowed,
+    is_written_field, joined,
+};
 use crate::flattening::ac_allowed;
+use ae_core::equality::same_term;
 use ae_core::formulas::Lit;
 use ae_core::problems::Signature;
 use ae_core::proofs::{Block, Ending, EqLine};
-use ae_core::equality::same_term;
 use ae_num::numbers::NumFail;
 use ae_numeric::combinations::{le_sum_allowed, lin_allowed, lt_sum_allowed};
-use ae_rules::facts::stated;
 use ae_numeric::rounding::round_allowed;
+use ae_rules::facts::stated;
 use std::alloc::Global;
 
 /// Whether the rule of a derived line allows it after earlier ones; its terms' sorts are looked at elsewhere.

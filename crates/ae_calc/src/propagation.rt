@@ -5,10 +5,10 @@ ghost use Rattle.ae_rules.specs.Clauses as spec;
 ghost use Rattle.ae_base.specs.Decided.{decided};
 ghost use Rattle.ae_core.specs.Decided.{Lit_discrete};
 
-use ae_rules::literals::opposite;
 use ae_core::copies::copy_clause;
-use ae_core::formulas::{Clause, Lit};
 use ae_core::equality::{same_formula, same_lit};
+use ae_core::formulas::{Clause, Lit};
+use ae_rules::literals::opposite;
 use std::alloc::{AllocError, Global};
 
 /// Whether two literals are the same, as the definitions say it.

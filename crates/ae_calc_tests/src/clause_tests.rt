@@ -1,5 +1,8 @@
 //! Each kind of clause line where it is allowed, and where it is refused.
-use crate::fixture::{A, B, By, C, Fact, RED, Say, THING, U, X, block, different, equal, formula, literals, named, signature, step, term, word};
+use crate::fixture::{
+    A, B, By, C, Fact, RED, Say, THING, U, X, block, different, equal, formula, literals, named,
+    signature, step, term, word,
+};
 use ae_calc::clause_lines::allowed;
 use ae_core::formulas::{Formula, Quant};
 use ae_core::lists::{Boxed, List};
@@ -31,10 +34,7 @@ fn is_a(alloc: Global) -> Result<Formula, AllocError> {
 fn both(alloc: Global) -> Result<Formula, AllocError> {
     let first = formula(alloc, equal(&[Say::Of(A)], &[Say::Of(B)]))?;
     let second = formula(alloc, equal(&[Say::Of(B)], &[Say::Of(C)]))?;
-    Ok(Formula::And(
-        Boxed::new(alloc, first)?,
-        Boxed::new(alloc, second)?,
-    ))
+    Ok(Formula::And(Boxed::new(alloc, first)?, Boxed::new(alloc, second)?))
 }
 
 fn axiom(alloc: Global, vars: usize, body: Formula) -> Result<Item, AllocError> {
@@ -87,12 +87,31 @@ fn hypothesis(alloc: Global, axiom: usize, sort: Option<Sort>) -> Result<ClauseL
 #[test]
 fn an_axiom_before_the_goal_and_the_goal(rt: HostRuntime) -> Result<(), NumFail> {
     let alloc = rt.alloc();
-    assert!(rt; allows(alloc, GOAL, hypothesis(alloc, 0, Some(named(alloc, THING)))?)?);
-    assert!(rt; !allows(alloc, GOAL, hypothesis(alloc, 0, None)?)?, "no sort");
-    assert!(rt; !allows(alloc, GOAL, hypothesis(alloc, 0, Some(Sort::Var(0)))?)?, "a variable");
-    assert!(rt; !allows(alloc, GOAL, hypothesis(alloc, 1, None)?)?, "an earlier goal");
+    assert!(rt;
+        allows(
+            alloc,
+            GOAL,
+            hypothesis(alloc, 0, Some(named(alloc, THING)))?
+        )?
+    );
+    assert!(rt;
+        !allows(alloc, GOAL, hypothesis(alloc, 0, None)?)?,
+        "no sort"
+    );
+    assert!(rt;
+        !allows(alloc, GOAL, hypothesis(alloc, 0, Some(Sort::Var(0)))?)?,
+        "a variable"
+    );
+    assert!(rt;
+        !allows(alloc, GOAL, hypothesis(alloc, 1, None)?)?,
+        "an earlier goal"
+    );
     for (place, allowed) in [(GOAL, false), (4, true)] {
-        assert_eq!(rt; allows(alloc, place, hypothesis(alloc, 3, None)?)?, allowed, "an axiom");
+        assert_eq!(rt;
+            allows(alloc, place, hypothesis(alloc, 3, None)?)?,
+            allowed,
+            "an axiom"
+        );
     }
     for (place, allowed) in [(0, false), (GOAL, true), (4, false)] {
         assert_eq!(rt; allows(alloc, place, ClauseLine::Goal)?, allowed, "a goal");
@@ -105,7 +124,10 @@ fn a_row_is_that_of_a_formula(rt: HostRuntime) -> Result<(), NumFail> {
     let alloc = rt.alloc();
     for (row, allowed) in [(3, true), (4, false)] {
         let formula = both(alloc)?;
-        assert_eq!(rt; allows(alloc, GOAL, ClauseLine::Def { row, formula })?, allowed);
+        assert_eq!(rt;
+            allows(alloc, GOAL, ClauseLine::Def { row, formula })?,
+            allowed
+        );
     }
     Ok(())
 }
@@ -126,8 +148,14 @@ fn put(alloc: Global, parts: &[Say]) -> Result<ClauseLine, AllocError> {
 fn terms_are_put_for_variables(rt: HostRuntime) -> Result<(), NumFail> {
     let alloc = rt.alloc();
     assert!(rt; allows(alloc, GOAL, put(alloc, &[Say::Of(B)])?)?);
-    assert!(rt; !allows(alloc, GOAL, put(alloc, &[Say::Int(1)])?)?, "another sort");
-    assert!(rt; !allows(alloc, GOAL, put(alloc, &[Say::Var])?)?, "an open term");
+    assert!(rt;
+        !allows(alloc, GOAL, put(alloc, &[Say::Int(1)])?)?,
+        "another sort"
+    );
+    assert!(rt;
+        !allows(alloc, GOAL, put(alloc, &[Say::Var])?)?,
+        "an open term"
+    );
     assert!(rt; !allows(alloc, GOAL, put(alloc, &[])?)?, "no term");
     Ok(())
 }
@@ -137,7 +165,10 @@ fn fresh_constants_are_new(rt: HostRuntime) -> Result<(), NumFail> {
     let alloc = rt.alloc();
     for (first, allowed) in [(0, false), (1, true), (usize::MAX, true)] {
         let formula = is_a(alloc)?;
-        assert_eq!(rt; allows(alloc, GOAL, ClauseLine::Fresh { formula, first })?, allowed);
+        assert_eq!(rt;
+            allows(alloc, GOAL, ClauseLine::Fresh { formula, first })?,
+            allowed
+        );
     }
     let other = each_is(alloc, Sort::Int, &[Say::Var])?;
     let line = ClauseLine::Fresh {
@@ -147,10 +178,16 @@ fn fresh_constants_are_new(rt: HostRuntime) -> Result<(), NumFail> {
     assert!(rt; allows(alloc, GOAL, line)?, "its number with another sort");
     for (first, allowed) in [(7, false), (8, true)] {
         let formula = each_is(alloc, named(alloc, THING), &[Say::New(7)])?;
-        assert_eq!(rt; allows(alloc, GOAL, ClauseLine::Fresh { formula, first })?, allowed);
+        assert_eq!(rt;
+            allows(alloc, GOAL, ClauseLine::Fresh { formula, first })?,
+            allowed
+        );
     }
     let formula = both(alloc)?;
-    assert!(rt; !allows(alloc, GOAL, ClauseLine::Fresh { formula, first: 1 })?, "no block");
+    assert!(rt;
+        !allows(alloc, GOAL, ClauseLine::Fresh { formula, first: 1 })?,
+        "no block"
+    );
     Ok(())
 }
 
@@ -170,7 +207,10 @@ fn numbers_of_one_sort_are_in_order(rt: HostRuntime) -> Result<(), NumFail> {
     for (from, to, allowed) in [(X, X, true), (X, U, false), (A, B, false)] {
         let left = term(alloc, &[Say::Of(from)])?;
         let right = term(alloc, &[Say::Of(to)])?;
-        assert_eq!(rt; allows(alloc, GOAL, ClauseLine::Tri { left, right })?, allowed);
+        assert_eq!(rt;
+            allows(alloc, GOAL, ClauseLine::Tri { left, right })?,
+            allowed
+        );
     }
     Ok(())
 }
@@ -204,8 +244,14 @@ fn by_hints(alloc: Global, hints: &[usize]) -> Result<ClauseLine, AllocError> {
 fn hints_refute_a_clause(rt: HostRuntime) -> Result<(), NumFail> {
     let alloc = rt.alloc();
     assert!(rt; allows(alloc, GOAL, by_hints(alloc, &[0, 1])?)?);
-    assert!(rt; !allows(alloc, GOAL, by_hints(alloc, &[0])?)?, "a hint left out");
+    assert!(rt;
+        !allows(alloc, GOAL, by_hints(alloc, &[0])?)?,
+        "a hint left out"
+    );
     assert!(rt; !allows(alloc, GOAL, by_hints(alloc, &[])?)?, "no hint");
-    assert!(rt; !allows(alloc, GOAL, by_hints(alloc, &[0, 1, 2])?)?, "a hint at no line");
+    assert!(rt;
+        !allows(alloc, GOAL, by_hints(alloc, &[0, 1, 2])?)?,
+        "a hint at no line"
+    );
     Ok(())
 }

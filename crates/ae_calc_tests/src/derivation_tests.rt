@@ -1,5 +1,7 @@
 //! Whole proofs: one that derives its goal, and what is left when a part is taken away.
-use crate::fixture::{A, B, By, C, Row, Say, block, different, equal, formula, signature, step, word};
+use crate::fixture::{
+    A, B, By, C, Row, Say, block, different, equal, formula, signature, step, word,
+};
 use ae_calc::derivation::derives;
 use ae_core::formulas::Formula;
 use ae_core::lists::{Boxed, List};

@@ -1,5 +1,8 @@
 //! Each derived line and each ending, once allowed and at least once refused.
-use crate::fixture::{A, B, By, C, EVEN, Fact, GREEN, JOIN, PAIR, POINT, RED, Row, Say, U, WRAP, X, Y, block, different, equal, relate, signature, step, term};
+use crate::fixture::{
+    A, B, By, C, EVEN, Fact, GREEN, JOIN, PAIR, POINT, RED, Row, Say, U, WRAP, X, Y, block,
+    different, equal, relate, signature, step, term,
+};
 use ae_calc::lines::block_allowed;
 use ae_core::formulas::{Formula, Lit};
 use ae_core::lists::List;
@@ -22,18 +25,32 @@ fn stands(alloc: Global, hyps: &[Fact], rows: [Row; 3], line: Row) -> Result<boo
 #[test]
 fn each_line_of_terms(rt: HostRuntime) -> Result<(), NumFail> {
     let (a, b, c) = ([Say::Of(A)], [Say::Of(B)], [Say::Of(C)]);
-    let (wa, wb) = (
-        [Say::Of(WRAP), Say::Of(A)],
-        [Say::Of(WRAP), Say::Of(B)],
-    );
-    let grouped = [Say::Of(JOIN), Say::Of(A), Say::Of(JOIN), Say::Of(B), Say::Of(C)];
-    let regrouped = [Say::Of(JOIN), Say::Of(JOIN), Say::Of(C), Say::Of(A), Say::Of(B)];
+    let (wa, wb) = ([Say::Of(WRAP), Say::Of(A)], [Say::Of(WRAP), Say::Of(B)]);
+    let grouped = [
+        Say::Of(JOIN),
+        Say::Of(A),
+        Say::Of(JOIN),
+        Say::Of(B),
+        Say::Of(C),
+    ];
+    let regrouped = [
+        Say::Of(JOIN),
+        Say::Of(JOIN),
+        Say::Of(C),
+        Say::Of(A),
+        Say::Of(B),
+    ];
     let (short, pair, turned) = (
         [Say::Of(JOIN), Say::Of(C), Say::Of(A)],
         [Say::Of(PAIR), Say::Of(A), Say::Of(B)],
         [Say::Of(PAIR), Say::Of(B), Say::Of(A)],
     );
-    let hyps = [equal(&a, &b), equal(&b, &c), equal(&c, &c), different(&a, &b)];
+    let hyps = [
+        equal(&a, &b),
+        equal(&b, &c),
+        equal(&c, &c),
+        different(&a, &b),
+    ];
     let rows = [
         step(equal(&a, &b), By::Hyp(0)),
         step(equal(&b, &c), By::Hyp(1)),
@@ -63,10 +80,35 @@ fn each_line_of_terms(rt: HostRuntime) -> Result<(), NumFail> {
 fn each_line_of_records(rt: HostRuntime) -> Result<(), NumFail> {
     let (a, b, p) = ([Say::Of(A)], [Say::Of(B)], [Say::Of(POINT)]);
     let (px, py) = ([Say::At(0), Say::Of(POINT)], [Say::At(1), Say::Of(POINT)]);
-    let copy = [Say::Point, Say::At(0), Say::Of(POINT), Say::At(1), Say::Of(POINT)];
-    let cx = [Say::At(0), Say::Point, Say::At(0), Say::Of(POINT), Say::At(1), Say::Of(POINT)];
-    let cy = [Say::At(1), Say::Point, Say::At(0), Say::Of(POINT), Say::At(1), Say::Of(POINT)];
-    let hyps = [equal(&a, &b), equal(&a, &a), equal(&a, &a), different(&a, &b)];
+    let copy = [
+        Say::Point,
+        Say::At(0),
+        Say::Of(POINT),
+        Say::At(1),
+        Say::Of(POINT),
+    ];
+    let cx = [
+        Say::At(0),
+        Say::Point,
+        Say::At(0),
+        Say::Of(POINT),
+        Say::At(1),
+        Say::Of(POINT),
+    ];
+    let cy = [
+        Say::At(1),
+        Say::Point,
+        Say::At(0),
+        Say::Of(POINT),
+        Say::At(1),
+        Say::Of(POINT),
+    ];
+    let hyps = [
+        equal(&a, &b),
+        equal(&a, &a),
+        equal(&a, &a),
+        different(&a, &b),
+    ];
     let rows = [
         step(equal(&a, &b), By::Hyp(0)),
         step(equal(&cx, &px), By::Field),
@@ -110,7 +152,10 @@ fn each_inequality_by_a_hypothesis(rt: HostRuntime) -> Result<(), NumFail> {
         (relate(false, le, &y, &x), relate(true, lt, &x, &y), true),
         (relate(true, le, &y, &x), relate(true, lt, &x, &y), false),
     ] {
-        assert_eq!(rt; follows(rt.alloc(), given, states, step(states, By::Hyp(1)))?, right);
+        assert_eq!(rt;
+            follows(rt.alloc(), given, states, step(states, By::Hyp(1)))?,
+            right
+        );
     }
     Ok(())
 }
@@ -126,15 +171,60 @@ fn each_sum_and_rounding(rt: HostRuntime) -> Result<(), NumFail> {
     let (none, two, three) = ([Say::Int(0)], [Say::Int(2)], [Say::Int(3)]);
     let (eq, le, lt) = (Relation::Equal, Relation::AtMost, Relation::Below);
     for (given, states, by, right) in [
-        (relate(true, eq, &x, &y), relate(true, eq, &dx, &dy), By::Sum(3, 6, 1), true),
-        (relate(true, eq, &x, &y), relate(true, eq, &dx, &dy), By::Sum(3, 5, 1), false),
-        (relate(true, eq, &x, &y), relate(true, eq, &dx, &dy), By::Sum(0, 0, 1), false),
-        (relate(true, le, &x, &y), relate(true, le, &dx, &dy), By::Sum(1, 2, 1), true),
-        (relate(true, le, &x, &y), relate(true, le, &dy, &dx), By::Sum(1, -2, 1), false),
-        (relate(true, lt, &x, &y), relate(true, lt, &dx, &dy), By::Sum(1, 2, 1), true),
-        (relate(true, le, &x, &y), relate(true, lt, &dx, &dy), By::Sum(1, 2, 1), false),
-        (relate(true, le, &none, &lower), relate(true, le, &two, &x), By::Round(1), true),
-        (relate(true, le, &none, &lower), relate(true, le, &three, &x), By::Round(1), false),
+        (
+            relate(true, eq, &x, &y),
+            relate(true, eq, &dx, &dy),
+            By::Sum(3, 6, 1),
+            true,
+        ),
+        (
+            relate(true, eq, &x, &y),
+            relate(true, eq, &dx, &dy),
+            By::Sum(3, 5, 1),
+            false,
+        ),
+        (
+            relate(true, eq, &x, &y),
+            relate(true, eq, &dx, &dy),
+            By::Sum(0, 0, 1),
+            false,
+        ),
+        (
+            relate(true, le, &x, &y),
+            relate(true, le, &dx, &dy),
+            By::Sum(1, 2, 1),
+            true,
+        ),
+        (
+            relate(true, le, &x, &y),
+            relate(true, le, &dy, &dx),
+            By::Sum(1, -2, 1),
+            false,
+        ),
+        (
+            relate(true, lt, &x, &y),
+            relate(true, lt, &dx, &dy),
+            By::Sum(1, 2, 1),
+            true,
+        ),
+        (
+            relate(true, le, &x, &y),
+            relate(true, lt, &dx, &dy),
+            By::Sum(1, 2, 1),
+            false,
+        ),
+        (
+            relate(true, le, &none, &lower),
+            relate(true, le, &two, &x),
+            By::Round(1),
+            true,
+        ),
+        (
+            relate(true, le, &none, &lower),
+            relate(true, le, &three, &x),
+            By::Round(1),
+            false,
+        ),
     ] {
         assert_eq!(rt; follows(rt.alloc(), given, given, step(states, by))?, right);
     }
@@ -167,12 +257,7 @@ fn contradicts(alloc: Global, hyp: Fact, ending: Ending) -> Result<bool, NumFail
 
 #[test]
 fn each_ending_of_a_line(rt: HostRuntime) -> Result<(), NumFail> {
-    let (red, green, x, u) = (
-        [Say::Of(RED)],
-        [Say::Of(GREEN)],
-        [Say::Of(X)],
-        [Say::Of(U)],
-    );
+    let (red, green, x, u) = ([Say::Of(RED)], [Say::Of(GREEN)], [Say::Of(X)], [Say::Of(U)]);
     let next = [Say::Add, Say::Of(X), Say::Int(1)];
     let odd = [Say::Add, Say::Times, Say::Int(3), Say::Of(X), Say::Int(1)];
     let double = [Say::Add, Say::Times, Say::Int(3), Say::Of(X), Say::Int(2)];
@@ -191,10 +276,26 @@ fn each_ending_of_a_line(rt: HostRuntime) -> Result<(), NumFail> {
         (relate(true, lt, &x, &x), false, false, false, true),
     ] {
         let alloc = rt.alloc();
-        assert_eq!(rt; contradicts(alloc, hyp, Ending::Clash { line: 0 })?, clash, "clash");
-        assert_eq!(rt; contradicts(alloc, hyp, Ending::Gcd { line: 0 })?, divisor, "gcd");
-        assert_eq!(rt; contradicts(alloc, hyp, Ending::Const { line: 0 })?, constant, "const");
-        assert_eq!(rt; contradicts(alloc, hyp, Ending::Zero { line: 0 })?, zero, "zero");
+        assert_eq!(rt;
+            contradicts(alloc, hyp, Ending::Clash { line: 0 })?,
+            clash,
+            "clash"
+        );
+        assert_eq!(rt;
+            contradicts(alloc, hyp, Ending::Gcd { line: 0 })?,
+            divisor,
+            "gcd"
+        );
+        assert_eq!(rt;
+            contradicts(alloc, hyp, Ending::Const { line: 0 })?,
+            constant,
+            "const"
+        );
+        assert_eq!(rt;
+            contradicts(alloc, hyp, Ending::Zero { line: 0 })?,
+            zero,
+            "zero"
+        );
     }
     Ok(())
 }
@@ -219,7 +320,12 @@ fn even_block(alloc: Global, yes: usize, no: usize) -> Result<Block, AllocError>
         no,
         lines: List::from_slice(alloc, &[0])?,
     };
-    let mut block = block(alloc, &[equal(&a, &b)], &[step(equal(&a, &b), By::Hyp(0))], ending)?;
+    let mut block = block(
+        alloc,
+        &[equal(&a, &b)],
+        &[step(equal(&a, &b), By::Hyp(0))],
+        ending,
+    )?;
     block.deriv.hyps.push(even(alloc, true, A)?)?;
     block.deriv.hyps.push(even(alloc, false, B)?)?;
     Ok(block)
@@ -242,7 +348,10 @@ fn a_denied_equation(rt: HostRuntime) -> Result<(), NumFail> {
     let hyps = [equal(&a, &b), different(&a, &b)];
     let rows = [step(equal(&a, &b), By::Hyp(0))];
     for (hyp, right) in [(1, true), (0, false)] {
-        assert_eq!(rt; ends(rt.alloc(), &hyps, &rows, Ending::Neq { line: 0, hyp })?, right);
+        assert_eq!(rt;
+            ends(rt.alloc(), &hyps, &rows, Ending::Neq { line: 0, hyp })?,
+            right
+        );
     }
     Ok(())
 }

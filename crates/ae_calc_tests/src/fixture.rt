@@ -64,9 +64,10 @@ fn coordinate(alloc: Global) -> Result<FieldEntry, AllocError> {
 fn kind(alloc: Global, number: usize) -> Result<Kind, AllocError> {
     match number {
         COLOR => Ok(Kind::Choices(List::from_slice(alloc, &[RED, GREEN])?)),
-        POINTS => Ok(Kind::Fields(List::from_vec(
-            vec![in alloc; coordinate(alloc)?, coordinate(alloc)?]?,
-        ))),
+        POINTS => Ok(Kind::Fields(List::from_vec(vec![in alloc;
+            coordinate(alloc)?,
+            coordinate(alloc)?,
+        ]?))),
         _ => Ok(Kind::Abstract),
     }
 }
@@ -316,13 +317,7 @@ fn assumed(relation: Relation, left: Term, right: Term, hyp: usize) -> EqLine {
     }
 }
 
-fn summed(
-    relation: Relation,
-    left: Term,
-    right: Term,
-    times: i128,
-    parts: List<Scaled>,
-) -> EqLine {
+fn summed(relation: Relation, left: Term, right: Term, times: i128, parts: List<Scaled>) -> EqLine {
     match relation {
         Relation::Equal => EqLine::EqLin {
             left,
