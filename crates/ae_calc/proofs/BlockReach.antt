@@ -1,14 +1,15 @@
 -- What the lines of a block state, one line after another.
 use Rattle.std.specs.Prelude.{ℕ, suc, ℤ, ◌+◌, ◌<◌, ◌≤◌, Bool, true, false, cond, ◌&&◌, List, [], ◌∷◌, ◌++◌, ◌≡◌, length, take, drop, get_or, Option, Some, None, Result, Ok, Err, IfOk, OnOk, IfErr, IsTrue, ◌↔◌}
 use Rattle.std.specs.List.{list_all}
-use Rattle.std.proofs.Common.{inl, inr, ⊎_elim, drop-cons}
+use Rattle.std.proofs.Common.{inl, inr, ⊎_elim, drop-cons, add-one}
 use Rattle.std.proofs.lemmas.List.{take_more, take_all, drop_all}
+use Rattle.std.proofs.lemmas.Bool.{and_left, and_right}
 use mathlib.Core.Path.{refl, sym, ap, ◌∙◌, subst}
-use native.Mathlib.Omega.{arith}
 use Rattle.ae_num.specs.Forms.{Step, first_wide, IfWide}
 use Rattle.ae_num.specs.declared.numbers.NumFail.{NumFail}
 use Rattle.ae_num.specs.declared.numbers.NumFail.TheVariants.{Wide as WideFail, Memory}
 use Rattle.ae_num.specs.declared.numbers.Wide.{Wide}
+use Rattle.ae_base.specs.Options.{◌>>=◌, when}
 use Rattle.ae_core.specs.Sorts.{sort_of, same_known, same_numeric}
 use Rattle.ae_rules.specs.Lines.{Fact, fact_ok, states, equal, at_most, below}
 use Rattle.ae_core.specs.declared.terms.Sort.{Sort}
@@ -22,15 +23,8 @@ use Rattle.ae_numeric.specs.Stated.{line_steps, ending_steps, facts_at, fact_at,
 use Rattle.ae_calc.specs.Reached.{Fit, IsLineAllowed, BlockReaches}
 
 -- ---- a line whose terms aren't of one sort states nothing
-first_false : (a b : Bool) → a ≡ false → a && b ≡ false
-first_false a b e = ap (λ h. h && b) e
-
-second_false : (a b : Bool) → b ≡ false → a && b ≡ false
-second_false true b e = e
-second_false false b e = refl
-
 unknown : (a b : Option Sort) → same_known a b ≡ false → same_numeric a b ≡ false
-unknown (Some s) (Some t) e = first_false (same_known (Some s) (Some t)) _ e
+unknown (Some s) (Some t) e = and_left (same_known (Some s) (Some t)) _ e
 unknown (Some s) None e = refl
 unknown None b e = refl
 
@@ -44,14 +38,14 @@ module _ (sig : Signature) where
 
   of_two_sorts : (f g : Fact) → OfTwoSorts f → of_one_sort sig f g ≡ false
   of_two_sorts f g e =
-      first_false (same_numeric (sort_of sig f.left) (sort_of sig f.right) && same_numeric (sort_of sig f.left) (sort_of sig g.left)) (same_numeric (sort_of sig f.left) (sort_of sig g.right))
-      (first_false (same_numeric (sort_of sig f.left) (sort_of sig f.right)) (same_numeric (sort_of sig f.left) (sort_of sig g.left)) e)
+      and_left (same_numeric (sort_of sig f.left) (sort_of sig f.right) && same_numeric (sort_of sig f.left) (sort_of sig g.left)) (same_numeric (sort_of sig f.left) (sort_of sig g.right))
+      (and_left (same_numeric (sort_of sig f.left) (sort_of sig f.right)) (same_numeric (sort_of sig f.left) (sort_of sig g.left)) e)
 
   no_sum : (earlier : List EqLine) (fits : Fact → Bool) (gap : Fact → Computation) (d : ℤ) (f : Fact) (ps : List Scaled) → OfTwoSorts f → sum_line_steps sig earlier fits gap d f ps ≡ []
   no_sum earlier fits gap d f ps e =
       no_steps (facts_at earlier ps) (λ fs. list_all (λ g. fits g.1) fs && of_one_sort sig f f && list_all (λ g. of_one_sort sig f g.1) fs) (sum_steps gap d f)
-      (λ fs. first_false (list_all (λ g. fits g.1) fs && of_one_sort sig f f) (list_all (λ g. of_one_sort sig f g.1) fs)
-      (second_false (list_all (λ g. fits g.1) fs) (of_one_sort sig f f) (of_two_sorts f f e)))
+      (λ fs. and_left (list_all (λ g. fits g.1) fs && of_one_sort sig f f) (list_all (λ g. of_one_sort sig f g.1) fs)
+      (and_right (list_all (λ g. fits g.1) fs) (of_one_sort sig f f) (of_two_sorts f f e)))
 
   nothing : (earlier : List EqLine) (l : EqLine) → fact_ok sig (states l) ≡ false → line_steps sig earlier l ≡ []
   nothing earlier (EqLin s t d ps) e = no_sum earlier is_equation forward d (equal s t) ps (unknown (sort_of sig s) (sort_of sig t) e)
@@ -59,7 +53,7 @@ module _ (sig : Signature) where
   nothing earlier (LtSum s t d ps) e = no_sum earlier (λ f. true) backward d (below s t) ps e
   nothing earlier (LeRound s t k) e =
       no_steps (fact_at earlier k) (λ f. is_inequality f && of_one_sort sig (at_most s t) f) (λ f. round_steps f (at_most s t))
-      (λ f. second_false (is_inequality f) (of_one_sort sig (at_most s t) f) (of_two_sorts (at_most s t) f e))
+      (λ f. and_right (is_inequality f) (of_one_sort sig (at_most s t) f) (of_two_sorts (at_most s t) f e))
   nothing earlier l e = refl
 
   pub unsorted_fits : (earlier : List EqLine) (l : EqLine) → fact_ok sig (states l) ≡ false → first_wide (line_steps sig earlier l) ≡ None
@@ -84,9 +78,6 @@ and_known (Ok b) A B a h = (λ t. (a, h.0 t), λ p. h.1 p.1)
 and_known (Err e) A B a h = tt
 
 -- ---- one step along the lines
-one_more : (i : ℕ) → i + 1 ≡ suc i
-one_more i = omega arith
-
 module _ (sig : Signature) (hyps : List Lit) (e : Ending) (ls : List EqLine) (i : ℕ) where
   abbrev Here : List Step → Type 0
   Here = BlockReaches sig hyps e (take i ls) (drop i ls)
@@ -105,7 +96,7 @@ module _ (sig : Signature) (hyps : List Lit) (e : Ending) (ls : List EqLine) (i 
     split = ap (λ z. BlockReaches sig hyps e (take i ls) z) (sym (drop-cons ls i d b))
 
     rest : ◌≡◌ {A = List Step → Type 0} Next Rest
-    rest = ap (λ k. BlockReaches sig hyps e (take (i + 1) ls) (drop k ls)) (one_more i) ∙ ap (λ z. BlockReaches sig hyps e z (drop (suc i) ls)) (take_more ls i d b)
+    rest = ap (λ k. BlockReaches sig hyps e (take (i + 1) ls) (drop k ls)) (add-one i) ∙ ap (λ z. BlockReaches sig hyps e z (drop (suc i) ls)) (take_more ls i d b)
 
     fit_split : first_wide (line_steps sig (take i ls) (get_or ls i d)) ≡ None → (IsLineAllowed sig hyps (take i ls) (get_or ls i d) → Fit Rest) → Fit Split
     fit_split f n = record { each = λ ss r. ⊎_elim (λ s. ap first_wide s ∙ f) (λ x. (n x.0).each ss x.2) r }

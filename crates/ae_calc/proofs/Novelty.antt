@@ -1,22 +1,23 @@
 -- The constants that a line puts are new where none of them is mentioned.
-use Rattle.std.specs.Prelude.{ℕ, zero, suc, ◌+◌, ◌<◌, Bool, true, false, not, ◌||◌, ◌&&◌, List, [], ◌∷◌, ◌++◌, ◌≡◌, ◌↔◌, IsTrue, length, get_or}
+use Rattle.std.specs.Prelude.{ℕ, zero, suc, ◌+◌, ◌<◌, Bool, true, false, not, ◌||◌, List, [], ◌∷◌, ◌++◌, ◌≡◌, ◌↔◌, IsTrue, length, get_or}
 use Rattle.std.specs.List.{AllByRecursion, Contains, list_any, flat_map}
 use Rattle.std.proofs.lemmas.List.Folds.{list_any-append}
-use Rattle.std.proofs.lemmas.Bool.{or_parts}
+use Rattle.std.proofs.lemmas.Bool.{or_right}
 use mathlib.Core.Path.{refl, sym, ap, ◌∙◌, subst}
 use native.Mathlib.Omega.{arith}
 use Rattle.ae_base.specs.Decided.{decided}
 use Rattle.ae_core.specs.Decided.{Term_discrete}
 use Rattle.ae_base.specs.Options.{or_else}
+use Rattle.ae_base.proofs.Decided.{decided_yes, decided_of}
+use Rattle.ae_base.proofs.Tests.{by_either}
 use Rattle.ae_rules.specs.Lines.{states}
 use Rattle.ae_rules.specs.Clauses.{Clause}
 use Rattle.ae_rules.specs.Instances.{count_from, fresh_terms}
 use Rattle.ae_core.specs.Constants.{constants, formula_constants, clause_constants}
-use Rattle.ae_rules.specs.Derivations.{AreNew, conclusion, own_constants, line_constants}
+use Rattle.ae_rules.specs.Derivations.{conclusion, own_constants, line_constants}
 use Rattle.ae_core.specs.declared.terms.Sort.{Sort}
 use Rattle.ae_core.specs.declared.terms.Term.{Term}
-use Rattle.ae_core.specs.declared.formulas.Formula.{Formula, All, Ex}
-use Rattle.ae_core.specs.declared.formulas.Quant.{Quant}
+use Rattle.ae_core.specs.declared.formulas.Formula.{Formula}
 use Rattle.ae_core.specs.declared.problems.Problem.{Problem}
 use Rattle.ae_core.specs.declared.proofs.EqLine.{EqLine}
 use Rattle.ae_core.specs.declared.proofs.ClauseLine.{ClauseLine}
@@ -92,14 +93,6 @@ Apart xs cs = AllByRecursion (λ c. ¬ (Contains xs c)) cs
 abbrev same : Term → Term → Bool
 same c t = decided (Term_discrete c t)
 
-decided_yes : {P : Type 0} (d : Dec P) → decided d ≡ true → P
-decided_yes (yes p) e = p
-decided_yes (no n) e = absurd (cc)
-
-decided_of : {P : Type 0} (d : Dec P) → P → decided d ≡ true
-decided_of (yes p) q = refl
-decided_of (no n) q = absurd (n q)
-
 -- an element that is among the others
 found : (cs xs : List Term) (k : ℕ) (d : Term) → k < length xs → list_any (λ c. same c (get_or xs k d)) cs ≡ true → list_any (λ t. list_any (λ c. same c t) cs) xs ≡ true
 found cs [] k d b e = absurd (omega (arith, b))
@@ -110,21 +103,13 @@ found cs (x ∷ xs) (suc k) d b e = ap (λ h. list_any (λ c. same c x) cs || h)
     or_true true = refl
     or_true false = refl
 
-or_more : (a b : Bool) → b ≡ true → (a || b) ≡ true
-or_more true b e = refl
-or_more false b e = e
-
-or_cases : (a b : Bool) (P : Type 0) → (a || b) ≡ true → (a ≡ true → P) → (b ≡ true → P) → P
-or_cases true b P e f h = f refl
-or_cases false b P e f h = h e
-
 -- whether an element of the second list is among those of the first
 abbrev meet : List Term → List Term → Bool
 meet cs xs = list_any (λ t. list_any (λ c. same c t) cs) xs
 
 apart_go : (cs xs ds : List Term) → ((c : Term) → list_any (λ d. same d c) ds ≡ true → list_any (λ d. same d c) cs ≡ true) → meet cs xs ≡ false → Apart xs ds
 apart_go cs xs [] h e = tt
-apart_go cs xs (c ∷ ds) h e = (λ a. clash (h c (ap (λ b. b || list_any (λ d. same d c) ds) (decided_of (Term_discrete c c) refl))) a, apart_go cs xs ds (λ d i. h d (or_more (same c d) (list_any (λ b. same b d) ds) i)) e)
+apart_go cs xs (c ∷ ds) h e = (λ a. clash (h c (ap (λ b. b || list_any (λ d. same d c) ds) (decided_of (Term_discrete c c) refl))) a, apart_go cs xs ds (λ d i. h d (or_right (same c d) (list_any (λ b. same b d) ds) i)) e)
   where
     true-false : true ≡ false → ⊥
     true-false q = cc
@@ -138,12 +123,12 @@ apart_of cs xs e = apart_go cs xs cs (λ c i. i) e
 hit : (xs cs : List Term) (t : Term) → list_any (λ c. same c t) cs ≡ true → Apart xs cs → Contains xs t → ⊥
 hit xs [] t e a i = absurd (cc)
 hit xs (c ∷ cs) t e a i =
-    or_cases (same c t) (list_any (λ c. same c t) cs) ⊥ e (λ s. a.0 (subst (Contains xs) (sym (decided_yes (Term_discrete c t) s)) i)) (λ s. hit xs cs t s a.1 i)
+    by_either (same c t) (list_any (λ c. same c t) cs) e (λ s. a.0 (subst (Contains xs) (sym (decided_yes (Term_discrete c t) s)) i)) (λ s. hit xs cs t s a.1 i)
 
 meets_none : (xs cs ys : List Term) → ((t : Term) → Contains ys t → Contains xs t) → meet cs ys ≡ true → Apart xs cs → ⊥
 meets_none xs cs [] sub e a = absurd (cc)
 meets_none xs cs (y ∷ ys) sub e a =
-    or_cases (list_any (λ c. same c y) cs) (meet cs ys) ⊥ e (λ s. hit xs cs y s a (sub y (zero, omega arith, refl)))
+    by_either (list_any (λ c. same c y) cs) (meet cs ys) e (λ s. hit xs cs y s a (sub y (zero, omega arith, refl)))
     (λ s. meets_none xs cs ys (λ t i. sub t (suc i.0, omega (arith, i.1), i.2)) s a)
 
 by_cases : (b : Bool) (P : Type 0) → (b ≡ false → P) → (b ≡ true → P → ⊥) → IsTrue (not b) ↔ P
