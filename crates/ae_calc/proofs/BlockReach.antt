@@ -64,10 +64,6 @@ pub if_wide : (f : NumFail) (P Q : Wide → Type 0) → ((w : Wide) → P w → 
 if_wide (WideFail w) P Q h p = h w p
 if_wide (Memory m) P Q h p = tt
 
-pub ok_then : {T E : Type 0} (r : Result T E) (P Q : Type 0) → (P → Q) → OnOk r P → OnOk r Q
-ok_then (Ok x) P Q h p = h p
-ok_then (Err e) P Q h p = tt
-
 pub err_then : {T : Type 0} (r : Result T NumFail) (P Q : Wide → Type 0) → ((w : Wide) → P w → Q w) → IfErr r (λ f. IfWide f P) → IfErr r (λ f. IfWide f Q)
 err_then (Ok x) P Q h p = tt
 err_then (Err f) P Q h p = if_wide f P Q h p

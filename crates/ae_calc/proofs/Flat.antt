@@ -17,11 +17,6 @@ use Rattle.ae_core.specs.declared.terms.Term.TheOpen as layer
 use Rattle.ae_core.specs.declared.terms.Term.TheVariants.{rolls-Bound, rolls-Num, rolls-Fresh, rolls-Apply}
 use Rattle.ae_calc.specs.Inner.LentTerms.{values}
 
--- what holds where a call answers
-pub on_ok : {A E : Type 0} (r : Result A E) (P Q : Type 0) → (P → Q) → OnOk r P → OnOk r Q
-on_ok (Ok x) P Q f p = f p
-on_ok (Err e) P Q f p = tt
-
 -- one more lent term
 pub values_push : (ts : List (Bor Term)) (t : Bor Term) → values (ts ++ t ∷ []) ≡ values ts ++ t.now ∷ []
 values_push ts t = map-append (λ (u : Bor Term). u.now) ts (t ∷ [])

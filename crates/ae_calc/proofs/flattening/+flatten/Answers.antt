@@ -2,7 +2,8 @@ use Rattle.std.proofs.Common.{arith, ◌≡◌, ◌≢◌, ◌∙◌, ◌++◌, 
 use Rattle.ae_rules.specs.Lines.{flat}
 use Rattle.ae_core.specs.declared.terms.Term.{Apply}
 use Rattle.ae_calc.specs.Inner.LentTerms.{values}
-use Rattle.ae_calc.proofs.Flat.{flat_alone, flat_other_length, flat_inside, flat_other_head, flat_other_sorts, kept, joined, on_ok}
+use Rattle.std.proofs.lemmas.Result.{on_ok_weaker}
+use Rattle.ae_calc.proofs.Flat.{flat_alone, flat_other_length, flat_inside, flat_other_head, flat_other_sorts, kept, joined}
 use Rattle.ae_calc.proofs.flattening.+flatten.Goals as goal
 use Rattle.ae_calc.proofs.flattening.+flatten.Goals.{else-parts-eq2-via-then-parts-eq2+then-same_head+else-same_sorts, else-parts-eq2-via-then-parts-eq2+else-same_head, else-parts-eq2-via-else-parts-eq2}
 
@@ -15,7 +16,7 @@ returns-in_ok-flatten-in-Apply t c =
     flat_inside h ss term k us args c.index-parts-0.result c.index-parts-1.result is c.if-parts-eq2.true c.index-parts-0.is c.index-parts-1.is
     (c.same_head.ensures.0 c.if-same_head.true) (c.same_sorts.ensures.0 c.if-same_sorts.true ∙ c.as_slice.ensures) in
     let middle = values c.flatten.new.found.items in let after = values c.flatten-then-same_sorts.new.found.items in
-    on_ok c.flatten-then-same_sorts.result (after ≡ middle ++ flat h ss c.index-parts-1.result) (after ≡ values before ++ flat h ss term)
+    on_ok_weaker {P = after ≡ middle ++ flat h ss c.index-parts-1.result} {Q = after ≡ values before ++ flat h ss term} c.flatten-then-same_sorts.result
     (joined h ss before middle after term c.index-parts-0.result c.index-parts-1.result whole c.in_ok-flatten-in-Apply.ensures) c.flatten-then-same_sorts.ensures
 
 pub returns-in_ok-push-in-Apply : goal.returns-in_ok-push-in-Apply

@@ -6,7 +6,8 @@ use Rattle.ae_numeric.specs.Stated.{line_steps, ending_steps}
 use Rattle.ae_calc.specs.Reached.{Fit, FirstWide, IsLineAllowed, BlockReaches}
 use Rattle.std.proofs.lemmas.List.{take_all}
 use Rattle.ae_calc.proofs.AllowedLines.{lines_more, lines_stop}
-use Rattle.ae_calc.proofs.BlockReach.{fit_more, reach_more, reach_here, fit_end, reach_end, and_known, ok_then, err_then}
+use Rattle.std.proofs.lemmas.Result.{on_ok_weaker}
+use Rattle.ae_calc.proofs.BlockReach.{fit_more, reach_more, reach_here, fit_end, reach_end, and_known, err_then}
 use Rattle.ae_num.proofs.StepLaws.{same_err}
 use Rattle.ae_calc.proofs.lines.lines_allowed.Goals as goal
 
@@ -56,7 +57,7 @@ returns-in_err-line_allowed-clause-wide c =
 pub returns-clause-fits : goal.returns-clause-fits
 returns-clause-fits c =
     let sig = c.args.signature.now in let hyps = c.args.hyps.now in let ls = c.args.lines.now in let e = c.args.ending.now in
-    ok_then c.ends.result (first_wide (ending_steps sig ls e) ≡ None) (Fit (BlockReaches sig hyps e [] ls))
+    on_ok_weaker {P = first_wide (ending_steps sig ls e) ≡ None} {Q = Fit (BlockReaches sig hyps e [] ls)} c.ends.result
     (λ f. c.loop-i.invariant.within (fit_end sig hyps e ls c.loop-i.i c.loop-i-test.false f)) c.ends.ensures.fits
 
 pub returns-clause-wide : goal.returns-clause-wide
