@@ -1,5 +1,5 @@
 -- One step along a list of lines, each of which is allowed after those before it.
-use Rattle.std.specs.Prelude.{ℕ, zero, suc, ◌+◌, ◌-◌, ◌<◌, List, [], ◌∷◌, ◌++◌, ◌≡◌, true, length, take, get_or, reverse, Some}
+use Rattle.std.specs.Prelude.{ℕ, zero, suc, ◌+◌, ◌<◌, List, [], ◌∷◌, ◌++◌, ◌≡◌, true, length, take, get_or, reverse, Some}
 use Rattle.std.proofs.lemmas.List.{take_more, get_or-reverse, length-reverse}
 use Rattle.std.proofs.lemmas.Option.{slice_get-get_or}
 use mathlib.Core.Path.{sym, ap, ◌∙◌, subst}

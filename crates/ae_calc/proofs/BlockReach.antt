@@ -1,5 +1,5 @@
 -- What the lines of a block state, one line after another.
-use Rattle.std.specs.Prelude.{ℕ, suc, ℤ, ◌+◌, ◌<◌, ◌≤◌, Bool, true, false, cond, ◌&&◌, List, [], ◌∷◌, ◌++◌, ◌≡◌, length, take, drop, get_or, Option, Some, None, Result, Ok, Err, IfOk, OnOk, IfErr, IsTrue, ◌↔◌}
+use Rattle.std.specs.Prelude.{ℕ, suc, ℤ, ◌+◌, ◌<◌, ◌≤◌, Bool, true, false, ◌&&◌, List, [], ◌∷◌, ◌++◌, ◌≡◌, length, take, drop, get_or, Option, Some, None, Result, Ok, Err, IfOk, IfErr, IsTrue, ◌↔◌}
 use Rattle.std.specs.List.{list_all}
 use Rattle.std.proofs.Common.{inl, inr, ⊎_elim, drop-cons, add-one}
 use Rattle.std.proofs.lemmas.List.{take_more, take_all, drop_all}
@@ -16,7 +16,7 @@ use Rattle.ae_core.specs.declared.terms.Sort.{Sort}
 use Rattle.ae_core.specs.declared.formulas.Lit.{Lit}
 use Rattle.ae_core.specs.declared.problems.Signature.{Signature}
 use Rattle.ae_core.specs.declared.proofs.EqLine.{EqLine}
-use Rattle.ae_core.specs.declared.proofs.EqLine.TheVariants.{EqHyp, EqRefl, EqSym, EqTrans, EqCong, EqAc, EqLin, EqField, EqFields, LeHyp, LtHyp, LeSum, LtSum, LeRound}
+use Rattle.ae_core.specs.declared.proofs.EqLine.TheVariants.{EqLin, LeSum, LtSum, LeRound}
 use Rattle.ae_core.specs.declared.proofs.Ending.{Ending}
 use Rattle.ae_core.specs.declared.proofs.Scaled.{Scaled}
 use Rattle.ae_numeric.specs.Stated.{line_steps, ending_steps, facts_at, fact_at, steps_of, of_one_sort, is_equation, is_inequality, Computation, sum_steps, sum_line_steps, round_steps, forward, backward}

@@ -1,11 +1,11 @@
 -- Constants counted from a number on.
 use Rattle.std.specs.Prelude.{ℕ, suc, ◌+◌, ◌<◌, List, [], ◌∷◌, ◌++◌, ◌≡◌, length, take, get_or}
 use Rattle.std.proofs.lemmas.List.{take_more, length-take-le}
-use mathlib.Core.Path.{refl, sym, ap, ◌∙◌}
+use mathlib.Core.Path.{ap, ◌∙◌}
 use native.Mathlib.Omega.{arith}
 use Rattle.ae_rules.specs.Instances.{count_from}
 use Rattle.ae_core.specs.declared.terms.Sort.{Sort}
-use Rattle.ae_core.specs.declared.terms.Term.{Term, Fresh}
+use Rattle.ae_core.specs.declared.terms.Term.{Fresh}
 
 count_push : (m : ℕ) (ss : List Sort) (s : Sort) → count_from m (ss ++ s ∷ []) ≡ count_from m ss ++ Fresh (m + length ss) s ∷ []
 count_push m [] s = ap (λ k. Fresh k s ∷ []) (omega arith)

@@ -1,6 +1,6 @@
 -- What a clause line states: only a block states products and sums, and each block with well-sorted hypotheses states a clause.
-use Rattle.std.specs.Prelude.{ℕ, ◌≡◌, ◌≢◌, true, map, List, Some}
-use mathlib.Core.Path.{refl, ap, ◌∙◌}
+use Rattle.std.specs.Prelude.{ℕ, ◌≢◌, map, [], Some}
+use mathlib.Core.Path.{refl, ap}
 use Rattle.ae_base.specs.Options.{only}
 use Rattle.ae_base.proofs.Options.{only_some}
 use Rattle.ae_num.specs.declared.numbers.Wide.{Wide}

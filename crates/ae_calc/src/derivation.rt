@@ -12,7 +12,7 @@ use ae_num::numbers::NumFail;
 use std::alloc::{AllocError, Global};
 
 /// Whether each clause line is allowed after those before it.
-#[tactic(auto, using(crate::proofs::AllowedLines::clause_lines_more, crate::proofs::AllowedLines::clause_lines_stop, crate::proofs::ProofReach::fit_more, crate::proofs::ProofReach::fit_stop, crate::proofs::ProofReach::wide_at))]
+#[tactic(auto, using(crate::proofs::AllowedLines::clause_lines_stop))]
 pub fn are_allowed(
     alloc: Global,
     problem: &Problem,

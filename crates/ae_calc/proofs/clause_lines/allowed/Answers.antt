@@ -1,7 +1,5 @@
-use Rattle.std.proofs.Common.{◌≡◌, IsTrue}
-use Rattle.ae_rules.specs.Derivations.{HasConclusion, Meets}
+use Rattle.std.proofs.Common.{IsTrue}
 use Rattle.ae_calc.proofs.LineReach.{without_clause}
-use Rattle.ae_calc.proofs.BlockReach.{and_known}
 use Rattle.ae_calc.proofs.clause_lines.allowed.Goals as goal
 
 pub returns-then-not-branch-clause-fits : goal.returns-then-not-branch-clause-fits

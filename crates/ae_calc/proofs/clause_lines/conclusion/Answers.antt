@@ -1,7 +1,7 @@
 use Rattle.std.specs.Prelude.{◌≡◌, IfOk}
 use Rattle.std.proofs.Common.{sym, ap, ◌∙◌, subst}
 use Rattle.ae_base.specs.Options.{only}
-use Rattle.ae_rules.specs.Derivations.{line_ok, clause_of}
+use Rattle.ae_rules.specs.Derivations.{clause_of}
 use Rattle.ae_calc.proofs.clause_lines.conclusion.Goals as goal
 
 pub returns-then-not-branch : goal.returns-then-not-branch

@@ -1,4 +1,4 @@
-use Rattle.std.proofs.Common.{◌≡◌, take, map, [], ◌∷◌}
+use Rattle.std.proofs.Common.{◌≡◌, take, map, []}
 use Rattle.ae_rules.specs.Clauses.{is_true}
 use Rattle.ae_core.specs.declared.formulas.Formula.{Eq}
 use Rattle.ae_core.specs.declared.terms.Term.{Apply}

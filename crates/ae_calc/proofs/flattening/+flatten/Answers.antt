@@ -1,4 +1,4 @@
-use Rattle.std.proofs.Common.{arith, ◌≡◌, ◌≢◌, ◌∙◌, ◌++◌, true, false, sym, ap, length, List}
+use Rattle.std.proofs.Common.{◌≡◌, ◌≢◌, ◌∙◌, ◌++◌, true, false, sym, ap}
 use Rattle.ae_rules.specs.Lines.{flat}
 use Rattle.ae_core.specs.declared.terms.Term.{Apply}
 use Rattle.ae_calc.specs.Inner.LentTerms.{values}

@@ -1,4 +1,4 @@
-use Rattle.std.proofs.Common.{◌≡◌, ◌∙◌, sym, ap, subst, ◌++◌, rules}
+use Rattle.std.proofs.Common.{◌≡◌, ◌∙◌, ap, subst, ◌++◌, rules}
 use Rattle.std.specs.List.Sorted.{IsPermutation}
 use Rattle.std.proofs.lemmas.List.Sorted.{IsPermutation-map}
 use denote.Ref.{Bor}

@@ -1,5 +1,4 @@
 use Rattle.std.proofs.Common.{◌≡◌, false, take}
-use Rattle.std.specs.List.{list_any}
 use Rattle.ae_calc.specs.Inner.Mentions as spec
 use Rattle.ae_calc.proofs.mentions.clause_mentions.Given as goal
 

@@ -1,4 +1,4 @@
-use Rattle.std.proofs.Common.{◌≡◌, ◌∙◌, sym, false}
+use Rattle.std.proofs.Common.{◌∙◌, sym}
 use Rattle.ae_calc.proofs.Mentioning.{put_early, put_later, put_beyond, put_behind}
 use Rattle.ae_calc.proofs.mentions.is_put.Goals as goal
 

@@ -1,6 +1,5 @@
 use Rattle.std.proofs.Common.{◌≡◌, false, take}
 use Rattle.std.specs.List.{list_any}
-use Rattle.ae_rules.specs.Clauses as spec
 use Rattle.ae_base.specs.Decided.{decided}
 use Rattle.ae_core.specs.Decided.{Lit_discrete}
 use Rattle.ae_calc.proofs.propagation.stands.Given as goal
