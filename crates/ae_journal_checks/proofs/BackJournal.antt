@@ -40,7 +40,7 @@ use Rattle.ae_journal.specs.Legal.{setting}
 use Rattle.ae_journal.proofs.Splits.{contains_one, contains_cases, contains_here, contains_later}
 use Rattle.ae_journal_checks.specs.Examples.{function_signature, constant, f_of, fixed, block, some_fixed, first_choice, second_choice, choices, back_goal, back_problem, back_story, instance_line}
 use Rattle.ae_journal_checks.specs.Laws.{GoingBackIsLegal}
-use Rattle.ae_journal_checks.proofs.NoBlocks.{no_hypothesis}
+use Rattle.ae_journal_checks.proofs.NoBlocks.{no_hypothesis, nothing}
 use Rattle.ae_journal_checks.proofs.InstanceLine.{a, clause, concludes, universal, pattern_is, no_arithmetic, some_literal, have_sort, put_T}
 
 -- ---- formulas of different kinds differ
@@ -270,9 +270,6 @@ module _ (l : Lit) where
 module _ (fresh : Formula → ℕ) where
   abbrev x : Setting
   x = setting back_problem 0 back_story fresh
-
-  nothing : {A : Type 0} (j : A) → ¬ Contains [] j
-  nothing j h = omega (arith, h.1)
 
   given_clause : (c : Clause) (l : Lit) → IsGiven x [] c → Contains c l → is_false back_goal ≡ l
   given_clause _ l (inl (by_hypothesis k f e)) i = absurd (no_hypothesis back_problem k f e)

@@ -26,7 +26,7 @@ use Rattle.ae_journal.specs.Legal.{setting}
 use Rattle.ae_journal.proofs.Splits.{contains_one, contains_cases, contains_here, contains_later}
 use Rattle.ae_journal_checks.specs.Examples.{constant, one, other, one_or_other, choice_problem, choice_story}
 use Rattle.ae_journal_checks.specs.Laws.{OneDecisionIsLegal}
-use Rattle.ae_journal_checks.proofs.NoBlocks.{own_constants, NoBlock, equation, negation, either, no_hypothesis}
+use Rattle.ae_journal_checks.proofs.NoBlocks.{own_constants, NoBlock, equation, negation, either, no_hypothesis, nothing, no_name}
 use Rattle.ae_journal_checks.proofs.RuleJournal.{one_line, no_line}
 
 goal : Formula
@@ -126,9 +126,6 @@ module _ (fresh : Formula → ℕ) where
   abbrev x : Setting
   x = setting choice_problem 0 choice_story fresh
 
-  nothing : {A : Type 0} (j : A) → ¬ Contains [] j
-  nothing j h = omega (arith, h.1)
-
   the_goal : (f : Formula) → goal_body choice_problem 0 ≡ Some f → no_of goal ≡ no_of f
   unfolding goal
   the_goal f e = ap no_of (same_Some goal f e)
@@ -199,9 +196,6 @@ module _ (fresh : Formula → ℕ) where
       ]
     ];
   }
-
-no_name : {A : Type 0} {P : Type 0} (n : ℕ) (t : A) → ◌≡◌ {A = Option A} (slice_get [] n) (Some t) → P
-no_name n t e = cc
 
 pub one_decision_is_legal : OneDecisionIsLegal
 one_decision_is_legal bound = (

@@ -25,7 +25,7 @@ use Rattle.ae_journal.specs.Legal.{setting}
 use Rattle.ae_journal.proofs.Splits.{contains_one, contains_here}
 use Rattle.ae_journal_checks.specs.Examples.{signature, true_problem, true_story}
 use Rattle.ae_journal_checks.specs.Laws.{OneLearntClauseIsLegal}
-use Rattle.ae_journal_checks.proofs.NoBlocks.{own_constants, NoBlock, truth, no_hypothesis}
+use Rattle.ae_journal_checks.proofs.NoBlocks.{own_constants, NoBlock, truth, no_hypothesis, nothing, no_name}
 use Rattle.ae_journal_checks.proofs.RuleJournal.{one_line, no_line}
 
 abbrev learnt : Clause
@@ -67,9 +67,6 @@ module _ (fresh : Formula → ℕ) where
   possible : IsPossible x [] learnt
   possible = row_of [] True TRUE_STANDS learnt formula the_row
 
-  nothing : {A : Type 0} (j : A) → ¬ Contains [] j
-  nothing j h = omega (arith, h.1)
-
   -- the goal's clause says the opposite
   is_new : (d : Clause) → IsGiven x [] d → ¬ ((m : Lit) → Contains d m → Contains learnt m)
   is_new _ (inl (by_hypothesis k f e)) h = no_hypothesis true_problem k f e
@@ -93,9 +90,6 @@ module _ (fresh : Formula → ℕ) where
     new = is_new;
     again = λ a b e c d q. absurd (no_learn [] a b e (line.Learn c) (line.Learn d) q);
   }
-
-no_name : {A : Type 0} {P : Type 0} (n : ℕ) (t : A) → ◌≡◌ {A = Option A} (slice_get [] n) (Some t) → P
-no_name n t e = cc
 
 pub one_learnt_clause_is_legal : OneLearntClauseIsLegal
 one_learnt_clause_is_legal bound = (

@@ -1,5 +1,5 @@
 -- No formula of the examples' journals is quantified.
-use Rattle.std.proofs.Common.{◌≡◌, ℕ, List, [], ◌∷◌, map, nat_lt, false, Bool, Option, Some, sym, ◌∙◌, ap, subst, arith, inl, inr, length}
+use Rattle.std.proofs.Common.{◌≡◌, ℕ, List, [], ◌∷◌, map, nat_lt, false, Bool, Option, Some, sym, ◌∙◌, ap, subst, arith, inl, inr, length, slice_get}
 use Rattle.std.specs.List.{Contains}
 use Rattle.std.proofs.lemmas.Option.{same_Some}
 use Rattle.std.proofs.lemmas.Bool.Decides.{nat_tests}
@@ -24,6 +24,13 @@ use Rattle.ae_journal.proofs.RowParts.{literal_part}
 use Rattle.ae_journal.proofs.Splits.{contains_one, contains_cases}
 use Rattle.ae_journal.specs.declared.lines.Line.{Line}
 use Rattle.ae_journal.specs.declared.lines.Line.TheVariants as line
+
+-- nothing is in an empty list, and nothing stands at a place of it
+pub nothing : {A : Type 0} (j : A) → ¬ Contains [] j
+nothing j h = omega (arith, h.1)
+
+pub no_name : {A : Type 0} {P : Type 0} (n : ℕ) (t : A) → ◌≡◌ {A = Option A} (slice_get [] n) (Some t) → P
+no_name n t e = cc
 
 pub data NoBlock : Formula → Type 0 where
   truth : NoBlock True
