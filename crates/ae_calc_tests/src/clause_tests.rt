@@ -63,14 +63,19 @@ fn problem(alloc: Global) -> Result<Problem, AllocError> {
     })
 }
 
-/// Whether a line is allowed for the item at a place, after the goal and fresh constant 0 for its variable.
-fn allows(alloc: Global, place: usize, line: ClauseLine) -> Result<bool, NumFail> {
-    let problem = problem(alloc)?;
+/// The goal, and fresh constant 0 for its variable.
+fn earlier(alloc: Global) -> Result<List<ClauseLine>, AllocError> {
     let first = ClauseLine::Fresh {
         formula: is_a(alloc)?,
         first: 0,
     };
-    let earlier = List::from_vec(vec![in alloc; ClauseLine::Goal, first]?);
+    Ok(List::from_vec(vec![in alloc; ClauseLine::Goal, first]?))
+}
+
+/// Whether a line is allowed after these, for the item at a place.
+fn allows(alloc: Global, place: usize, line: ClauseLine) -> Result<bool, NumFail> {
+    let problem = problem(alloc)?;
+    let earlier = earlier(alloc)?;
     allowed(alloc, &problem, place, earlier.as_slice(), &line)
 }
 
