@@ -1,0 +1,14 @@
+pub mod PutLaws
+pub mod FaultLaws
+pub mod NumberRules
+pub mod Moved
+pub mod Natural
+pub mod SortsIn
+pub mod Renaming
+pub mod ProblemLaws
+pub mod StepLaws
+pub mod NumberLaws
+pub mod WalkLaws
+pub mod WeightLaws
+pub mod PartRules
+pub mod Weighing
