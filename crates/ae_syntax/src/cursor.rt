@@ -10,7 +10,7 @@ ghost use Rattle.ae_syntax.specs.Inner.SameKinds.{same};
 
 use crate::exprs::{BinaryOp, Quantifier};
 use crate::faults::Refusal;
-use ae_lex::{Reserved, Sign, Token, TokenList, TokenKind};
+use ae_lex::{Reserved, Sign, Token, TokenKind, TokenList};
 
 /// The greatest depth that a token may have.
 pub const DEPTH_LIMIT: usize = 1000;
@@ -21,7 +21,11 @@ pub fn next(tokens: &TokenList, at: usize) -> Option<Token>
     ensures some { IfSome result (λ t. IsAt tokens.now at t) }
     ensures none { IfNone result (drop at tokens.now ≡ []) }
 {
-    tokens.get(at)
+    if at < tokens.len() {
+        tokens.get(at)
+    } else {
+        None
+    }
 }
 
 /// Whether two kinds are the same word or sign, or both identifiers or type variables.

@@ -11,7 +11,7 @@ use crate::decls::{Decl, File};
 use crate::faults::{Refusal, SyntaxFault};
 use crate::read_decls::read_decl;
 use crate::spans::List;
-use ae_lex::{Reserved, Token, TokenList, TokenKind};
+use ae_lex::{Reserved, Token, TokenKind, TokenList};
 use std::alloc::Global;
 
 // The words of the language that the profile leaves out.

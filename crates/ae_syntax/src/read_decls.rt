@@ -24,7 +24,7 @@ use crate::read_items::read_item_list;
 use crate::read_types::{more_types, read_type};
 use crate::spans::{List, Span};
 use crate::types::WrittenType;
-use ae_lex::{Reserved, Sign, Token, TokenList, TokenKind};
+use ae_lex::{Reserved, Sign, Token, TokenKind, TokenList};
 use std::alloc::Global;
 
 // A name with its type.
@@ -148,7 +148,11 @@ fn read_type_decl(
 }
 
 // A type or `prop`.
-fn read_result(alloc: Global, tokens: &TokenList, at: usize) -> Result<(SymbolResult, usize), Refusal>
+fn read_result(
+    alloc: Global,
+    tokens: &TokenList,
+    at: usize,
+) -> Result<(SymbolResult, usize), Refusal>
     requires within { at ≤ length tokens.now }
     ensures { Answered (λ r. part.result r) (machine.a_result ∷ []) [] tokens.now 8 at result }
 {
@@ -325,7 +329,11 @@ fn read_predicate(
 }
 
 // A name and, after a colon, an expression.
-fn read_named(alloc: Global, tokens: &TokenList, at: usize) -> Result<((Token, Expr), usize), Refusal>
+fn read_named(
+    alloc: Global,
+    tokens: &TokenList,
+    at: usize,
+) -> Result<((Token, Expr), usize), Refusal>
     requires within { at ≤ length tokens.now }
     ensures { Turns (machine.keep kind.Ident 0 ∷ machine.past sign.Colon 0 ∷ machine.an_expr 0 ∷ []) [] tokens.now at [] (λ p. part.tree p.1 ∷ part.token p.0 ∷ []) result }
 {

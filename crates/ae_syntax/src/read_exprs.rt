@@ -2,7 +2,7 @@
 //! The recursion goes deeper only where the depth of a token does, or from one line of the grammar to
 //! a tighter one.
 
-ghost use Rattle.std.specs.Prelude.{ℕ, ◌≡◌, ◌+◌, ◌≤◌, ◌<◌, ◌∷◌, [], true, length, drop, IfOk};
+ghost use Rattle.std.specs.Prelude.{ℕ, ◌≡◌, ◌+◌, ◌^◌, ◌≤◌, ◌<◌, ◌∷◌, [], true, length, drop, IfOk};
 ghost use Rattle.std.specs.Bool.{MatchBool};
 ghost use Rattle.ae_lex.specs.declared.kinds.Token.{Token};
 ghost use Rattle.ae_lex.specs.declared.kinds.TokenKind.TheVariants as kind;
@@ -29,7 +29,7 @@ use crate::nodes::{
 use crate::read_groups::read_groups;
 use crate::read_types::read_type;
 use crate::spans::{Boxed, List};
-use ae_lex::{Reserved, Sign, Token, TokenList, TokenKind};
+use ae_lex::{Reserved, Sign, Token, TokenKind, TokenList};
 use std::alloc::{AllocError, Global};
 
 /// An expression.
@@ -521,9 +521,7 @@ fn constant(alloc: Global, kind: TokenKind) -> Result<Option<ExprKind>, AllocErr
     ensures { IfOk result (λ atom. (t : Token) → constant t kind ≡ placed t atom) }
 {
     let atom = match kind {
-        TokenKind::Whole(value) => {
-            ExprKind::Numeral(Boxed::new(alloc, Number::Whole(value))?)
-        }
+        TokenKind::Whole(value) => { ExprKind::Numeral(Boxed::new(alloc, Number::Whole(value))?) }
         TokenKind::Decimal { top, bottom } => {
             ExprKind::Numeral(Boxed::new(alloc, Number::Decimal { top, bottom })?)
         }
@@ -658,6 +656,7 @@ fn read_ascribed(
     depth: usize,
 ) -> Result<(Expr, usize), Refusal>
     requires within { at < length tokens.now }
+    requires room { length tokens.now < 2 ^ 64 }
     requires shallow { depth ≤ DEPTH_LIMIT }
     ensures { (d : ℕ) → d ≤ DEPTH_LIMIT
         → Answered (λ p. tree p) (ascribed_wants depth d) (tree body ∷ token opener ∷ []) tokens.now 8 (at + 1) result }

@@ -14,7 +14,7 @@ use crate::nodes::group_of;
 use crate::read_items::read_item_list;
 use crate::read_types::read_type;
 use crate::spans::List;
-use ae_lex::{Sign, Token, TokenList, TokenKind};
+use ae_lex::{Sign, Token, TokenKind, TokenList};
 use std::alloc::Global;
 
 // Variables with their sort.

@@ -7,7 +7,7 @@ use crate::cursor::{stands_sign, take};
 use crate::faults::Refusal;
 use crate::nodes::span;
 use crate::spans::{List, Span};
-use ae_lex::{Sign, Token, TokenList, TokenKind};
+use ae_lex::{Sign, Token, TokenKind, TokenList};
 use std::alloc::Global;
 
 /// One or more tokens of a kind, parted by a sign.

@@ -15,7 +15,7 @@ use crate::faults::Refusal;
 use crate::nodes::{named_after, span};
 use crate::spans::List;
 use crate::types::{TypeKind, WrittenType};
-use ae_lex::{Reserved, Sign, Token, TokenList, TokenKind};
+use ae_lex::{Reserved, Sign, Token, TokenKind, TokenList};
 use std::alloc::Global;
 
 // A type that is one token.
