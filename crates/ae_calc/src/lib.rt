@@ -1,4 +1,4 @@
-//! The exact checker of proof lines: each answer is decided as the definitions of `ae_core` say it, in 128 bits, or the first product or
+//! The exact checker of proof lines: each answer is decided as the definitions of `ae_rules` say it, in 128 bits, or the first product or
 //! sum outside the limits is named.
 #![tactic(auto)]
 

@@ -79,25 +79,22 @@ module _ (f : FirstText) where
 
   -- the state of a goal whose sides have different values
   module _ (k : ℕ) (g : Chain) (vs : List Named) (is : IsWellPlaced f) (e : slice_get f.goals k ≡ Some g) (open_values : IsOpen (length f.constants) g.hyps g.last vs) where
-    abbrev n : ℕ
-    n = length f.constants
+    ok : IsGoalOver (length f.constants) g
+    ok = all_at (IsGoalOver (length f.constants)) f.goals k g is.goals e
 
-    ok : IsGoalOver n g
-    ok = all_at (IsGoalOver n) f.goals k g is.goals e
-
-    values : IsValues n (numbers_of vs)
-    values = subst (IsValues n) (sym open_values.numbers) (values_are n g.hyps ok.hyps)
+    values : IsValues (length f.constants) (numbers_of vs)
+    values = subst (IsValues (length f.constants)) (sym open_values.numbers) (values_are (length f.constants) g.hyps ok.hyps)
 
     same : AllByRecursion (Same (numbers_of vs)) g.hyps
-    same = subst (λ z. AllByRecursion (Same z) g.hyps) (sym open_values.numbers) (hypotheses_same n g.hyps ok.hyps)
+    same = subst (λ z. AllByRecursion (Same z) g.hyps) (sym open_values.numbers) (hypotheses_same (length f.constants) g.hyps ok.hyps)
 
-    saturated_here : (bound : ℕ) → IsSaturated (problem f) k (state_of n g.hyps g.last (numbers_of vs)) bound
+    saturated_here : (bound : ℕ) → IsSaturated (problem f) k (state_of (length f.constants) g.hyps g.last (numbers_of vs)) bound
     saturated_here = saturated f k g (numbers_of vs) values (λ b h. body_of k g b e h) ok.hyps ok.last same open_values.apart
 
     false_here : (way : Bool) (b : Formula) → goal_body (problem f) k ≡ Some b
-        → is_true_at (signature f) (constant_system n (numbers_of vs)) way unassigned (state_literals g.hyps g.last) b ≡ false
+        → is_true_at (signature f) (constant_system (length f.constants) (numbers_of vs)) way unassigned (state_literals g.hyps g.last) b ≡ false
     false_here way b h =
-        ap (is_true_at (signature f) (constant_system n (numbers_of vs)) way unassigned (state_literals g.hyps g.last)) (sym (body_of k g b e h))
+        ap (is_true_at (signature f) (constant_system (length f.constants) (numbers_of vs)) way unassigned (state_literals g.hyps g.last)) (sym (body_of k g b e h))
         ∙ goal_is_false f (numbers_of vs) values way (state_literals g.hyps g.last) g.last ok.last open_values.apart g.hyps ok.hyps same
 
     -- these values of constants are as the hypotheses say, and tell the sides of the last equation apart
@@ -108,12 +105,12 @@ module _ (f : FirstText) where
     unknown_part = record {
       name = g.name;
       is_name = name_is k g e;
-      state = state_of n g.hyps g.last (numbers_of vs);
+      state = state_of (length f.constants) g.hyps g.last (numbers_of vs);
       saturated = saturated_here;
       goal_false = false_here;
       none_derives = none_derive;
       text = state_bytes f.constants g.hyps g.last vs;
-      is_text = ap (λ m. state_text m (state_of n g.hyps g.last (numbers_of vs))) (names_are f.constants) ∙ text_state f.constants g.hyps g.last vs ok.hyps ok.last;
+      is_text = ap (λ m. state_text m (state_of (length f.constants) g.hyps g.last (numbers_of vs))) (names_are f.constants) ∙ text_state f.constants g.hyps g.last vs ok.hyps ok.last;
       written = refl;
     }
 

@@ -22,7 +22,7 @@ use crate::state_text::put_unknown;
 use crate::text::put_valid;
 use ae_base::words::Word;
 use ae_io::{ReadEnd, Sink, Source, read_all, write_all};
-use ae_lex::{LexFault, Token, tokens};
+use ae_lex::{LexFault, Token, TokenList, tokens};
 use ae_report::{Refusal, refusal_text};
 use ae_syntax::decls::File;
 use ae_syntax::{SyntaxFault, parse};
@@ -135,7 +135,7 @@ fn answer_no_tokens<K: Sink>(alloc: Global, text: &[u8], fault: LexFault, sink: 
 fn answer_no_file<K: Sink>(
     alloc: Global,
     text: &[u8],
-    tokens: &[Token],
+    tokens: &TokenList,
     fault: SyntaxFault,
     sink: &mut K,
 ) -> Status
@@ -155,13 +155,13 @@ fn answer<K: Sink>(alloc: Global, text: &[u8], sink: &mut K) -> Status
     ensures write_fault { result ≡ WriteFault → Rose (K.faults sink.old) (K.faults sink.new) }
 {
     match tokens(alloc, text) {
-        Ok(tokens) => answer_tokens(alloc, text, tokens.as_slice(), sink),
+        Ok(tokens) => answer_tokens(alloc, text, &tokens, sink),
         Err(fault) => answer_no_tokens(alloc, text, fault, sink),
     }
 }
 
 // Answers a text by its tokens.
-fn answer_tokens<K: Sink>(alloc: Global, text: &[u8], tokens: &[Token], sink: &mut K) -> Status
+fn answer_tokens<K: Sink>(alloc: Global, text: &[u8], tokens: &TokenList, sink: &mut K) -> Status
     requires { IsTokenized text.now tokens.now }
     ensures ends { TextEnds text.now (K.written sink.old) (K.written sink.new) result }
     ensures write_fault { result ≡ WriteFault → Rose (K.faults sink.old) (K.faults sink.new) }

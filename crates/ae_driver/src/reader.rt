@@ -24,7 +24,7 @@ use std::alloc::{AllocError, Global};
 fn str_at(text: &[u8], place: Span) -> Option<&str>
     ensures { MatchOption result ((name : List ℕ) → IsNameAt text.now place name → ⊥) (λ name. IsNameAt text.now place name.now) }
 {
-    let bytes = text.get(place.from..place.to)?;
+    let bytes = text.get(place.from as usize..place.to as usize)?;
     str::from_utf8(bytes).ok()
 }
 

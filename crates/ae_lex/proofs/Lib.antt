@@ -6,5 +6,6 @@ pub mod Comments
 pub mod NumeralFacts
 pub mod Pieces
 pub mod KindLaws
+pub mod KeptTokens
 pub mod Cuts
 pub mod Unique

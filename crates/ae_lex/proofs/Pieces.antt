@@ -190,10 +190,6 @@ decimal_stands text at b mid to v x y k p e d r l g q t h f =
     (pointed_kind_of k (r.0 ++ 46 ∷ q.0) r.0 q.0 i (h (number (r.0 ++ q.0)) (10 ^ length q.0) (back_value text at mid to v x r q) (subst (λ z. IsValue y (10 ^ z)) n t))) f
 
 -- ---- comments
--- the rest of the text, as a slice
-pub rest_of : (text : List ℕ) (at : ℕ) → take (length text - at) (drop at text) ≡ drop at text
-rest_of text at = ap (λ z. take z (drop at text)) (sym (length-drop at text)) ∙ take-length (drop at text)
-
 -- bytes that stand first from a place on
 part_of : (text w rest : List ℕ) (at : ℕ) → at ≤ length text → drop at text ≡ w ++ rest → IsPart text at (at + length w) w
 part_of text w rest at l e =

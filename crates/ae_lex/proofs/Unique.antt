@@ -19,6 +19,7 @@ use Rattle.ae_lex.proofs.Forms.{no_empty_token, numeral_head, sign_head, letter_
 use Rattle.ae_lex.proofs.Tables.{same_word, same_sign, reserved_is_word}
 use Rattle.ae_lex.proofs.KindLaws.{has_form, gap_some, token_some}
 use Rattle.ae_lex.proofs.NumeralFacts.{ten_positive}
+use Rattle.std.proofs.lemmas.Option.{same_Some}
 
 -- ---- the kind of a token
 
@@ -329,11 +330,8 @@ same_cut i x ts us f g (gives at x' w r k ts' f' e t c) (gives at' y w' r' k' us
 pub one_list : (text : List ℕ) (ts us : List Token) → IsTokenized text ts → IsTokenized text us → ts ≡ us
 one_list text ts us c d = (same_cut 0 text ts us None None c d).0
 
-some_fault : (f g : LexFault) → Some f ≡ Some g → f ≡ g
-some_fault f g e = cc
-
 pub one_fault : (text : List ℕ) (f g : LexFault) → IsFault text f → IsFault text g → f ≡ g
-one_fault text f g c d = some_fault f g (same_cut 0 text c.0 d.0 (Some f) (Some g) c.1 d.1).1
+one_fault text f g c d = same_Some f g (same_cut 0 text c.0 d.0 (Some f) (Some g) c.1 d.1).1
 
 pub never_both : (text : List ℕ) (ts : List Token) (f : LexFault) → IsTokenized text ts → IsFault text f → ⊥
 never_both text ts f c d = let e = (same_cut 0 text ts d.0 None (Some f) c d.1).1 in cc

@@ -1,2 +1,3 @@
 -- What the lexer's parts answer.
 pub mod Pieces
+pub mod KeptTokens

@@ -7,12 +7,12 @@ use std::alloc::{AllocError, AllocFailed};
 use thiserror::Error;
 
 /// A token: what it is, and that it is the bytes of the text from `from` up to `to`, without the
-/// byte at `to`.
+/// byte at `to`. Places have 32 bits.
 #[derive(Clone, Copy, Debug, PartialEq, Eq)]
 pub struct Token {
     pub kind: TokenKind,
-    pub from: usize,
-    pub to: usize,
+    pub from: u32,
+    pub to: u32,
 }
 
 /// What a token is, with the value of a numeral.
@@ -145,7 +145,7 @@ pub enum LexFault {
     /// of the bytes `"`, `^` and `@`.
     #[error("outside profile at {at}")]
     OutsideProfile { at: usize },
-    /// There was no memory for the tokens.
+    /// There was no memory for the tokens, or the text has 4 GiB or more, and a token stands beyond them.
     #[error("out of memory")]
     Memory,
 }

@@ -11,6 +11,7 @@ use crate::kinds::{LexFault, Sign, Token, TokenKind};
 use crate::numerals::{decimal_kind, digits, power_of_ten, whole_kind};
 use crate::scans::{comment_end, has_point, is_blank, is_digit, is_letter, next, word_end};
 use crate::spellings::{begins, longest_sign, reserved};
+use crate::token_list::{TokenList, narrow};
 use std::alloc::Global;
 
 /// What stands at a place, and where it ends.
@@ -143,18 +144,23 @@ pub fn first_fault(text: &[u8]) -> Option<LexFault>
     None
 }
 
-/// The tokens of a text in order, with their places, or its leftmost fault.
-pub fn tokens(alloc: Global, text: &[u8]) -> Result<Vec<Token>, LexFault>
-    ensures tokens { IfOk result (λ found. IsTokenized text.now found.items) }
+/// The tokens of a text in order, with their places, or its leftmost fault. `Memory` says that there was
+/// no memory for the tokens; places of 2^32 and more count for that.
+pub fn tokens(alloc: Global, text: &[u8]) -> Result<TokenList, LexFault>
+    ensures tokens { IfOk result (λ found. IsTokenized text.now found) }
     ensures fault { IfErr result (λ f. f ≢ Memory → IsFault text.now f) }
 {
-    let mut found = Vec::new(alloc);
+    let mut found = TokenList::new(alloc);
     let mut at = 0;
     while let Some(byte) = next(text, at) {
         match first(text, at, byte) {
             Piece::Gap(to) => at = to,
             Piece::Token(kind, to) => {
-                found.push(Token { kind, from: at, to })?;
+                found.push(Token {
+                    kind,
+                    from: narrow(at)?,
+                    to: narrow(to)?,
+                })?;
                 at = to;
             }
             Piece::Fault(fault) => return Err(fault),

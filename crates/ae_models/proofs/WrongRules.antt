@@ -50,8 +50,9 @@ use Rattle.ae_models.specs.WrongRules.{Values, Says, LinWithFactorZero, SumWithN
 use Rattle.ae_models.specs.WrongRules.{ExhaustionWithoutTheLast, AcOfAnotherSymbol, AxiomAfterTheGoal}
 use Rattle.ae_rules.proofs.FlatLaws.{flat_apply, flat_fresh}
 use Rattle.ae_models.proofs.ClaimLaws.{value_num, value_fresh, value_bound, value_apply, claim_eq, claim_le, claim_not, claim_ex}
-use Rattle.ae_models.proofs.Example.{no_list, greater}
+use Rattle.ae_models.proofs.Example.{greater}
 use Rattle.ae_models.proofs.ModelTerms.{out_real, out_named, belongs_real, real_belongs, same_is}
+use Rattle.std.proofs.lemmas.List.{nil_from_length}
 
 -- ---- values for the fresh constants: of `count` its own number, of `real` a half
 half : ℚ
@@ -73,9 +74,9 @@ OfLayer n s l = BelongsTo example s l (constant_value n l)
 
 named_value : (n h : ℕ) (ss : List Sort) → type_fits example_signature h (length ss) ≡ true → OfLayer n (Named h ss) (sort_layer.Named h ss)
 unfolding constant_value
-named_value n zero ss e = (Count n, refl, ap (Named 0) (sym (no_list ss (sym (eqb-true 0 (length ss) e)))))
-named_value n (suc zero) ss e = (Red, refl, ap (Named 1) (sym (no_list ss (sym (eqb-true 0 (length ss) e)))))
-named_value n (suc (suc zero)) ss e = (Point zero_ℚ zero_ℚ, refl, ap (Named 2) (sym (no_list ss (sym (eqb-true 0 (length ss) e)))))
+named_value n zero ss e = (Count n, refl, ap (Named 0) (sym (nil_from_length ss (sym (eqb-true 0 (length ss) e)))))
+named_value n (suc zero) ss e = (Red, refl, ap (Named 1) (sym (nil_from_length ss (sym (eqb-true 0 (length ss) e)))))
+named_value n (suc (suc zero)) ss e = (Point zero_ℚ zero_ℚ, refl, ap (Named 2) (sym (nil_from_length ss (sym (eqb-true 0 (length ss) e)))))
 named_value n (suc (suc (suc h))) ss e = absurd (true≢false (sym e))
 
 layer_value : (n : ℕ) (s : Sort) (l : Sort-F Sort) → roll-Sort l ≡ s → is_closed_sort example_signature s ≡ true → OfLayer n s l

@@ -1,3 +1,4 @@
+pub mod TokenAt
 -- Steps, Acts, Levels: what the machine does. GrammarToMachine, Files: it reads what the grammar relates to tokens. Pieces,
 -- ViablePrefix, Continuation, Stops, Whole: what it reads is of the grammar, and where it stops no file goes on.
 -- ParserMeetsMachine: what the parser's functions answer is what the machine does. FileLaws, Places: the laws.

@@ -9,6 +9,7 @@ use Rattle.std.specs.Prelude.{IfSome}
 use Rattle.ae_syntax.specs.declared.faults.SyntaxFault.{SyntaxFault}
 use Rattle.ae_syntax.specs.declared.faults.SyntaxFault.TheVariants as fault
 use Rattle.ae_syntax.specs.Files.{IsSyntaxFault, StopsAt, place, fault_place}
+use Rattle.std.proofs.lemmas.Option.{none-some}
 
 -- no token begins after a place
 abbrev Begin : ℕ → List Token → Type 0
@@ -52,11 +53,8 @@ fault_at (lex_fault.WideLiteral p) at x h = let e = h.0 in omega (arith, e)
 fault_at (lex_fault.OutsideProfile p) at x h = let e = h.0 in omega (arith, e)
 fault_at lex_fault.Memory at x h = absurd h
 
-no_fault : (f : LexFault) → ◌≡◌ {A = Option LexFault} None (Some f) → ⊥
-no_fault f e = cc
-
 cut_within : (at : ℕ) (x : List ℕ) (ts : List Token) (o : Option LexFault) (f : LexFault) → IsCut at x ts o → o ≡ Some f → IfSome (lexis.fault_place f) (λ p. p ≤ at + length x)
-cut_within at x ts o f (ends a) q = absurd (no_fault f q)
+cut_within at x ts o f (ends a) q = absurd (none-some f q)
 cut_within at x ts o f (fails a y g h) q = let e : g ≡ f = cc in subst (λ z. IfSome (lexis.fault_place z) (λ p. p ≤ a + length y)) e (fault_at g a y h)
 cut_within at x ts o f (passes a y w rest us g e p c) q = subst (λ n. IfSome (lexis.fault_place f) (λ p. p ≤ n)) (further a y w rest e) (cut_within (a + length w) rest us g f c q)
 cut_within at x ts o f (gives a y w rest k us g e b c) q = subst (λ n. IfSome (lexis.fault_place f) (λ p. p ≤ n)) (further a y w rest e) (cut_within (a + length w) rest us g f c q)

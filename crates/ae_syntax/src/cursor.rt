@@ -10,19 +10,19 @@ ghost use Rattle.ae_syntax.specs.Inner.SameKinds.{same};
 
 use crate::exprs::{BinaryOp, Quantifier};
 use crate::faults::Refusal;
-use ae_lex::{Reserved, Sign, Token, TokenKind};
+use ae_lex::{Reserved, Sign, Token, TokenKind, TokenList};
 
 /// The greatest depth that a token may have.
 pub const DEPTH_LIMIT: usize = 1000;
 
 /// The token at a place, or none at the end.
-pub fn next(tokens: &[Token], at: usize) -> Option<Token>
+pub fn next(tokens: &TokenList, at: usize) -> Option<Token>
     requires { at ≤ length tokens.now }
     ensures some { IfSome result (λ t. IsAt tokens.now at t) }
     ensures none { IfNone result (drop at tokens.now ≡ []) }
 {
     if at < tokens.len() {
-        Some(tokens[at])
+        tokens.get(at)
     } else {
         None
     }
@@ -42,7 +42,7 @@ pub fn same(a: TokenKind, b: TokenKind) -> bool
 }
 
 /// Whether a token of this kind stands there.
-pub fn stands(tokens: &[Token], at: usize, kind: TokenKind) -> bool
+pub fn stands(tokens: &TokenList, at: usize, kind: TokenKind) -> bool
     requires { at ≤ length tokens.now }
     ensures { MatchBool result (Stands kind tokens.now at) (Lacks kind tokens.now at) }
 {
@@ -53,7 +53,7 @@ pub fn stands(tokens: &[Token], at: usize, kind: TokenKind) -> bool
 }
 
 /// The token of this kind at a place.
-pub fn take(tokens: &[Token], at: usize, kind: TokenKind) -> Result<Token, Refusal>
+pub fn take(tokens: &TokenList, at: usize, kind: TokenKind) -> Result<Token, Refusal>
     requires { at ≤ length tokens.now }
     ensures is { IfOk result (λ t. IsAt tokens.now at t) }
     ensures kind { IfOk result (λ t. same t.kind kind ≡ true) }
@@ -71,7 +71,7 @@ pub fn take(tokens: &[Token], at: usize, kind: TokenKind) -> Result<Token, Refus
 }
 
 /// Whether this word stands there.
-pub fn stands_word(tokens: &[Token], at: usize, word: Reserved) -> bool
+pub fn stands_word(tokens: &TokenList, at: usize, word: Reserved) -> bool
     requires { at ≤ length tokens.now }
     ensures { MatchBool result (Stands (kind.Reserved word) tokens.now at) (Lacks (kind.Reserved word) tokens.now at) }
 {
@@ -79,7 +79,7 @@ pub fn stands_word(tokens: &[Token], at: usize, word: Reserved) -> bool
 }
 
 /// Whether this sign stands there.
-pub fn stands_sign(tokens: &[Token], at: usize, sign: Sign) -> bool
+pub fn stands_sign(tokens: &TokenList, at: usize, sign: Sign) -> bool
     requires { at ≤ length tokens.now }
     ensures { MatchBool result (Stands (kind.Sign sign) tokens.now at) (Lacks (kind.Sign sign) tokens.now at) }
 {
@@ -87,7 +87,7 @@ pub fn stands_sign(tokens: &[Token], at: usize, sign: Sign) -> bool
 }
 
 /// This word, which must stand there.
-pub fn take_word(tokens: &[Token], at: usize, word: Reserved) -> Result<Token, Refusal>
+pub fn take_word(tokens: &TokenList, at: usize, word: Reserved) -> Result<Token, Refusal>
     requires { at ≤ length tokens.now }
     ensures is { IfOk result (λ t. IsAt tokens.now at t) }
     ensures kind { IfOk result (λ t. same t.kind (kind.Reserved word) ≡ true) }
@@ -98,7 +98,7 @@ pub fn take_word(tokens: &[Token], at: usize, word: Reserved) -> Result<Token, R
 }
 
 /// This sign, which must stand there.
-pub fn take_sign(tokens: &[Token], at: usize, sign: Sign) -> Result<Token, Refusal>
+pub fn take_sign(tokens: &TokenList, at: usize, sign: Sign) -> Result<Token, Refusal>
     requires { at ≤ length tokens.now }
     ensures is { IfOk result (λ t. IsAt tokens.now at t) }
     ensures kind { IfOk result (λ t. same t.kind (kind.Sign sign) ≡ true) }

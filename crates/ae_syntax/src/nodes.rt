@@ -75,8 +75,8 @@ pub fn quantified(
     let place = cover(span(word), body.span);
     let kind = ExprKind::Quantified {
         quantifier,
-        groups,
-        triggers,
+        groups: Boxed::new(alloc, groups)?,
+        triggers: Boxed::new(alloc, triggers)?,
         body,
     };
     expression(alloc, place, kind)
@@ -167,6 +167,7 @@ pub fn ascribed(
     ensures { IfOk result (λ e. e ≡ part.ascribed opener body sort close) }
 {
     let place = cover(span(opener), span(close));
+    let sort = Boxed::new(alloc, sort)?;
     expression(alloc, place, ExprKind::Ascribed { body, sort })
 }
 

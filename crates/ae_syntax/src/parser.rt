@@ -11,7 +11,7 @@ use crate::decls::{Decl, File};
 use crate::faults::{Refusal, SyntaxFault};
 use crate::read_decls::read_decl;
 use crate::spans::List;
-use ae_lex::{Reserved, Token, TokenKind};
+use ae_lex::{Reserved, Token, TokenKind, TokenList};
 use std::alloc::Global;
 
 // The words of the language that the profile leaves out.
@@ -37,18 +37,18 @@ fn is_outside(kind: TokenKind) -> bool
 }
 
 // Where the token stands in the text, or the text's end.
-fn place(text: &[u8], tokens: &[Token], at: usize) -> usize
+fn place(text: &[u8], tokens: &TokenList, at: usize) -> usize
     requires within { at ≤ length tokens.now }
     ensures { result ≡ files.place text.now (drop at tokens.now) }
 {
     match next(tokens, at) {
-        Some(token) => token.from,
+        Some(token) => token.from as usize,
         None => text.len(),
     }
 }
 
 // Whether a word that the profile leaves out stands there.
-fn stands_outside(tokens: &[Token], at: usize) -> bool
+fn stands_outside(tokens: &TokenList, at: usize) -> bool
     requires within { at ≤ length tokens.now }
     ensures { result ≡ files.next_is_outside (drop at tokens.now) }
 {
@@ -59,7 +59,7 @@ fn stands_outside(tokens: &[Token], at: usize) -> bool
 }
 
 // The fault that a refusal is.
-fn fault(text: &[u8], tokens: &[Token], refusal: Refusal) -> SyntaxFault
+fn fault(text: &[u8], tokens: &TokenList, refusal: Refusal) -> SyntaxFault
     requires within { IsPlaced tokens.now refusal }
     ensures { FaultOf text.now tokens.now refusal result }
 {
@@ -80,7 +80,7 @@ fn fault(text: &[u8], tokens: &[Token], refusal: Refusal) -> SyntaxFault
 }
 
 // The declarations of all the tokens.
-fn read_file(alloc: Global, tokens: &[Token]) -> Result<List<Decl>, Refusal>
+fn read_file(alloc: Global, tokens: &TokenList) -> Result<List<Decl>, Refusal>
     ensures { FileRead tokens.now result }
 {
     let mut found = List::new(alloc);
@@ -97,7 +97,7 @@ fn read_file(alloc: Global, tokens: &[Token]) -> Result<List<Decl>, Refusal>
 /// no file continues the tokens before it, or at the text's end if no file is these tokens;
 /// `TooDeep` stands at the first token of a depth above 1,000, if it comes earlier. `Memory` says that
 /// there was no memory for the tree. It descends by precedence and never goes back.
-pub fn parse(alloc: Global, text: &[u8], tokens: &[Token]) -> Result<File, SyntaxFault>
+pub fn parse(alloc: Global, text: &[u8], tokens: &TokenList) -> Result<File, SyntaxFault>
     ensures tree { IfOk result (λ f. files.IsParsed tokens.now f) }
     ensures fault { IfErr result (λ e. e ≢ outcome.Memory → files.IsSyntaxFault text.now tokens.now e) }
 {

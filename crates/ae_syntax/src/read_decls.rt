@@ -24,13 +24,13 @@ use crate::read_items::read_item_list;
 use crate::read_types::{more_types, read_type};
 use crate::spans::{List, Span};
 use crate::types::WrittenType;
-use ae_lex::{Reserved, Sign, Token, TokenKind};
+use ae_lex::{Reserved, Sign, Token, TokenKind, TokenList};
 use std::alloc::Global;
 
 // A name with its type.
 fn read_typed(
     alloc: Global,
-    tokens: &[Token],
+    tokens: &TokenList,
     at: usize,
     depth: usize,
 ) -> Result<(TypedName, usize), Refusal>
@@ -47,7 +47,7 @@ fn read_typed(
 // Names with their types, parted by this sign.
 fn read_typeds(
     alloc: Global,
-    tokens: &[Token],
+    tokens: &TokenList,
     at: usize,
     separator: Sign,
 ) -> Result<(List<TypedName>, usize), Refusal>
@@ -67,7 +67,7 @@ fn read_typeds(
 }
 
 // The parameters of a type: one, or two and more in round brackets.
-fn read_params(alloc: Global, tokens: &[Token], at: usize) -> Result<(List<Span>, usize), Refusal>
+fn read_params(alloc: Global, tokens: &TokenList, at: usize) -> Result<(List<Span>, usize), Refusal>
     requires within { at ≤ length tokens.now }
     requires other { Lacks kind.Ident tokens.now at }
     ensures { Turns (machine.type_head ∷ []) [] tokens.now at (machine.keep kind.Ident 0 ∷ machine.type_end ∷ []) (λ ps. part.names ps ∷ []) result }
@@ -93,7 +93,7 @@ fn read_fields(
     first: Token,
     params: List<Span>,
     name: Token,
-    tokens: &[Token],
+    tokens: &TokenList,
     at: usize,
 ) -> Result<(Decl, usize), Refusal>
     requires within { at ≤ length tokens.now }
@@ -109,7 +109,7 @@ fn read_plain_type(
     alloc: Global,
     first: Token,
     name: Token,
-    tokens: &[Token],
+    tokens: &TokenList,
     at: usize,
 ) -> Result<(Decl, usize), Refusal>
     requires within { at ≤ length tokens.now }
@@ -129,7 +129,7 @@ fn read_plain_type(
 fn read_type_decl(
     alloc: Global,
     first: Token,
-    tokens: &[Token],
+    tokens: &TokenList,
     at: usize,
 ) -> Result<(Decl, usize), Refusal>
     requires within { at ≤ length tokens.now }
@@ -148,7 +148,11 @@ fn read_type_decl(
 }
 
 // A type or `prop`.
-fn read_result(alloc: Global, tokens: &[Token], at: usize) -> Result<(SymbolResult, usize), Refusal>
+fn read_result(
+    alloc: Global,
+    tokens: &TokenList,
+    at: usize,
+) -> Result<(SymbolResult, usize), Refusal>
     requires within { at ≤ length tokens.now }
     ensures { Answered (λ r. part.result r) (machine.a_result ∷ []) [] tokens.now 8 at result }
 {
@@ -166,7 +170,7 @@ fn read_range(
     ac: bool,
     names: List<Span>,
     args: List<WrittenType>,
-    tokens: &[Token],
+    tokens: &TokenList,
     at: usize,
 ) -> Result<(Decl, usize), Refusal>
     requires within { at ≤ length tokens.now }
@@ -183,7 +187,7 @@ fn read_arguments(
     ac: bool,
     names: List<Span>,
     args: List<WrittenType>,
-    tokens: &[Token],
+    tokens: &TokenList,
     at: usize,
 ) -> Result<(Decl, usize), Refusal>
     requires within { at ≤ length tokens.now }
@@ -200,7 +204,7 @@ fn read_sorts(
     first: Token,
     ac: bool,
     names: List<Span>,
-    tokens: &[Token],
+    tokens: &TokenList,
     at: usize,
 ) -> Result<(Decl, usize), Refusal>
     requires within { at ≤ length tokens.now }
@@ -227,7 +231,7 @@ fn read_symbols(
     alloc: Global,
     first: Token,
     ac: bool,
-    tokens: &[Token],
+    tokens: &TokenList,
     at: usize,
 ) -> Result<(Decl, usize), Refusal>
     requires within { at ≤ length tokens.now }
@@ -241,7 +245,7 @@ fn read_symbols(
 fn read_logic(
     alloc: Global,
     first: Token,
-    tokens: &[Token],
+    tokens: &TokenList,
     at: usize,
 ) -> Result<(Decl, usize), Refusal>
     requires within { at ≤ length tokens.now }
@@ -256,7 +260,7 @@ fn read_logic(
 // The formals up to their closing bracket, if there are any.
 fn read_formals(
     alloc: Global,
-    tokens: &[Token],
+    tokens: &TokenList,
     at: usize,
 ) -> Result<(List<TypedName>, usize), Refusal>
     requires within { at ≤ length tokens.now }
@@ -274,7 +278,7 @@ fn read_formals(
 fn read_function(
     alloc: Global,
     first: Token,
-    tokens: &[Token],
+    tokens: &TokenList,
     at: usize,
 ) -> Result<(Decl, usize), Refusal>
     requires within { at ≤ length tokens.now }
@@ -293,7 +297,7 @@ fn read_function(
 // The formals in brackets, if there are any, up to the `=`.
 fn read_optional_formals(
     alloc: Global,
-    tokens: &[Token],
+    tokens: &TokenList,
     at: usize,
 ) -> Result<(List<TypedName>, usize), Refusal>
     requires within { at ≤ length tokens.now }
@@ -312,7 +316,7 @@ fn read_optional_formals(
 fn read_predicate(
     alloc: Global,
     first: Token,
-    tokens: &[Token],
+    tokens: &TokenList,
     at: usize,
 ) -> Result<(Decl, usize), Refusal>
     requires within { at ≤ length tokens.now }
@@ -325,7 +329,11 @@ fn read_predicate(
 }
 
 // A name and, after a colon, an expression.
-fn read_named(alloc: Global, tokens: &[Token], at: usize) -> Result<((Token, Expr), usize), Refusal>
+fn read_named(
+    alloc: Global,
+    tokens: &TokenList,
+    at: usize,
+) -> Result<((Token, Expr), usize), Refusal>
     requires within { at ≤ length tokens.now }
     ensures { Turns (machine.keep kind.Ident 0 ∷ machine.past sign.Colon 0 ∷ machine.an_expr 0 ∷ []) [] tokens.now at [] (λ p. part.tree p.1 ∷ part.token p.0 ∷ []) result }
 {
@@ -338,7 +346,7 @@ fn read_named(alloc: Global, tokens: &[Token], at: usize) -> Result<((Token, Exp
 fn read_axiom(
     alloc: Global,
     first: Token,
-    tokens: &[Token],
+    tokens: &TokenList,
     at: usize,
 ) -> Result<(Decl, usize), Refusal>
     requires within { at ≤ length tokens.now }
@@ -351,7 +359,7 @@ fn read_axiom(
 fn read_goal(
     alloc: Global,
     first: Token,
-    tokens: &[Token],
+    tokens: &TokenList,
     at: usize,
 ) -> Result<(Decl, usize), Refusal>
     requires within { at ≤ length tokens.now }
@@ -380,7 +388,7 @@ fn word_of(token: Token) -> Option<Reserved>
 pub fn read_decl(
     alloc: Global,
     first: Token,
-    tokens: &[Token],
+    tokens: &TokenList,
     at: usize,
 ) -> Result<(Decl, usize), Refusal>
     requires here { IsAt tokens.now at first }

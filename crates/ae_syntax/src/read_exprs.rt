@@ -2,7 +2,7 @@
 //! The recursion goes deeper only where the depth of a token does, or from one line of the grammar to
 //! a tighter one.
 
-ghost use Rattle.std.specs.Prelude.{ℕ, ◌≡◌, ◌+◌, ◌≤◌, ◌<◌, ◌∷◌, [], true, length, drop};
+ghost use Rattle.std.specs.Prelude.{ℕ, ◌≡◌, ◌+◌, ◌^◌, ◌≤◌, ◌<◌, ◌∷◌, [], true, length, drop, IfOk};
 ghost use Rattle.std.specs.Bool.{MatchBool};
 ghost use Rattle.ae_lex.specs.declared.kinds.Token.{Token};
 ghost use Rattle.ae_lex.specs.declared.kinds.TokenKind.TheVariants as kind;
@@ -28,15 +28,15 @@ use crate::nodes::{
 };
 use crate::read_groups::read_groups;
 use crate::read_types::read_type;
-use crate::spans::List;
-use ae_lex::{Reserved, Sign, Token, TokenKind};
-use std::alloc::Global;
+use crate::spans::{Boxed, List};
+use ae_lex::{Reserved, Sign, Token, TokenKind, TokenList};
+use std::alloc::{AllocError, Global};
 
 /// An expression.
 #[cycle(expression)]
 pub fn read_expr(
     alloc: Global,
-    tokens: &[Token],
+    tokens: &TokenList,
     at: usize,
     depth: usize,
 ) -> Result<(Expr, usize), Refusal>
@@ -54,7 +54,7 @@ pub fn read_expr(
 fn more_arrow(
     alloc: Global,
     left: Expr,
-    tokens: &[Token],
+    tokens: &TokenList,
     at: usize,
     depth: usize,
 ) -> Result<(Expr, usize), Refusal>
@@ -79,7 +79,7 @@ fn more_arrow(
 fn more_or(
     alloc: Global,
     left: Expr,
-    tokens: &[Token],
+    tokens: &TokenList,
     at: usize,
     depth: usize,
 ) -> Result<(Expr, usize), Refusal>
@@ -100,7 +100,7 @@ fn more_or(
 #[cycle(expression)]
 fn read_and(
     alloc: Global,
-    tokens: &[Token],
+    tokens: &TokenList,
     at: usize,
     depth: usize,
 ) -> Result<(Expr, usize), Refusal>
@@ -116,7 +116,7 @@ fn read_and(
 fn more_and(
     alloc: Global,
     left: Expr,
-    tokens: &[Token],
+    tokens: &TokenList,
     at: usize,
     depth: usize,
 ) -> Result<(Expr, usize), Refusal>
@@ -137,7 +137,7 @@ fn more_and(
 #[cycle(expression)]
 fn read_not(
     alloc: Global,
-    tokens: &[Token],
+    tokens: &TokenList,
     at: usize,
     depth: usize,
 ) -> Result<(Expr, usize), Refusal>
@@ -167,7 +167,7 @@ fn read_not(
 fn read_negation(
     alloc: Global,
     first: Token,
-    tokens: &[Token],
+    tokens: &TokenList,
     at: usize,
     depth: usize,
 ) -> Result<(Expr, usize), Refusal>
@@ -189,7 +189,7 @@ fn read_block(
     alloc: Global,
     first: Token,
     quantifier: Quantifier,
-    tokens: &[Token],
+    tokens: &TokenList,
     at: usize,
     depth: usize,
 ) -> Result<(Expr, usize), Refusal>
@@ -211,7 +211,7 @@ fn read_block(
 #[cycle(expression)]
 fn read_triggers(
     alloc: Global,
-    tokens: &[Token],
+    tokens: &TokenList,
     at: usize,
     depth: usize,
 ) -> Result<(List<Trigger>, usize), Refusal>
@@ -234,7 +234,7 @@ fn read_triggers(
 #[cycle(expression)]
 fn read_trigger_items(
     alloc: Global,
-    tokens: &[Token],
+    tokens: &TokenList,
     at: usize,
     depth: usize,
 ) -> Result<(List<Trigger>, usize), Refusal>
@@ -257,7 +257,7 @@ fn read_trigger_items(
 #[cycle(expression)]
 fn read_trigger(
     alloc: Global,
-    tokens: &[Token],
+    tokens: &TokenList,
     at: usize,
     depth: usize,
 ) -> Result<(Trigger, usize), Refusal>
@@ -273,7 +273,7 @@ fn read_trigger(
 fn read_let(
     alloc: Global,
     first: Token,
-    tokens: &[Token],
+    tokens: &TokenList,
     at: usize,
     depth: usize,
 ) -> Result<(Expr, usize), Refusal>
@@ -297,7 +297,7 @@ fn read_let(
 fn read_if(
     alloc: Global,
     first: Token,
-    tokens: &[Token],
+    tokens: &TokenList,
     at: usize,
     depth: usize,
 ) -> Result<(Expr, usize), Refusal>
@@ -320,7 +320,7 @@ fn read_if(
 #[cycle(expression)]
 fn read_rel(
     alloc: Global,
-    tokens: &[Token],
+    tokens: &TokenList,
     at: usize,
     depth: usize,
 ) -> Result<(Expr, usize), Refusal>
@@ -338,7 +338,7 @@ fn read_rel(
 fn more_rel(
     alloc: Global,
     left: Expr,
-    tokens: &[Token],
+    tokens: &TokenList,
     at: usize,
     depth: usize,
 ) -> Result<(Expr, usize), Refusal>
@@ -361,7 +361,7 @@ fn more_rel(
 #[cycle(expression)]
 fn read_sum(
     alloc: Global,
-    tokens: &[Token],
+    tokens: &TokenList,
     at: usize,
     depth: usize,
 ) -> Result<(Expr, usize), Refusal>
@@ -378,7 +378,7 @@ fn read_sum(
 fn more_sum(
     alloc: Global,
     left: Expr,
-    tokens: &[Token],
+    tokens: &TokenList,
     at: usize,
     depth: usize,
 ) -> Result<(Expr, usize), Refusal>
@@ -402,7 +402,7 @@ fn more_sum(
 #[cycle(expression)]
 fn read_prod(
     alloc: Global,
-    tokens: &[Token],
+    tokens: &TokenList,
     at: usize,
     depth: usize,
 ) -> Result<(Expr, usize), Refusal>
@@ -418,7 +418,7 @@ fn read_prod(
 fn more_prod(
     alloc: Global,
     left: Expr,
-    tokens: &[Token],
+    tokens: &TokenList,
     at: usize,
     depth: usize,
 ) -> Result<(Expr, usize), Refusal>
@@ -442,7 +442,7 @@ fn more_prod(
 #[cycle(expression)]
 fn read_unary(
     alloc: Global,
-    tokens: &[Token],
+    tokens: &TokenList,
     at: usize,
     depth: usize,
 ) -> Result<(Expr, usize), Refusal>
@@ -464,7 +464,7 @@ fn read_unary(
 fn read_negative(
     alloc: Global,
     first: Token,
-    tokens: &[Token],
+    tokens: &TokenList,
     at: usize,
     depth: usize,
 ) -> Result<(Expr, usize), Refusal>
@@ -483,7 +483,7 @@ fn read_negative(
 #[cycle(expression)]
 fn read_post(
     alloc: Global,
-    tokens: &[Token],
+    tokens: &TokenList,
     at: usize,
     depth: usize,
 ) -> Result<(Expr, usize), Refusal>
@@ -499,7 +499,7 @@ fn read_post(
 fn more_post(
     alloc: Global,
     left: Expr,
-    tokens: &[Token],
+    tokens: &TokenList,
     at: usize,
     depth: usize,
 ) -> Result<(Expr, usize), Refusal>
@@ -517,25 +517,26 @@ fn more_post(
 }
 
 // An atom that is one token.
-fn constant(kind: TokenKind) -> Option<ExprKind>
-    ensures { (t : Token) → constant t kind ≡ placed t result }
+fn constant(alloc: Global, kind: TokenKind) -> Result<Option<ExprKind>, AllocError>
+    ensures { IfOk result (λ atom. (t : Token) → constant t kind ≡ placed t atom) }
 {
-    match kind {
-        TokenKind::Whole(value) => Some(ExprKind::Numeral(Number::Whole(value))),
+    let atom = match kind {
+        TokenKind::Whole(value) => { ExprKind::Numeral(Boxed::new(alloc, Number::Whole(value))?) }
         TokenKind::Decimal { top, bottom } => {
-            Some(ExprKind::Numeral(Number::Decimal { top, bottom }))
+            ExprKind::Numeral(Boxed::new(alloc, Number::Decimal { top, bottom })?)
         }
-        TokenKind::Reserved(Reserved::True) => Some(ExprKind::True),
-        TokenKind::Reserved(Reserved::False) => Some(ExprKind::False),
-        TokenKind::Reserved(Reserved::Void) => Some(ExprKind::Void),
-        _ => None,
-    }
+        TokenKind::Reserved(Reserved::True) => ExprKind::True,
+        TokenKind::Reserved(Reserved::False) => ExprKind::False,
+        TokenKind::Reserved(Reserved::Void) => ExprKind::Void,
+        _ => return Ok(None),
+    };
+    Ok(Some(atom))
 }
 
 fn read_constant(alloc: Global, first: Token, at: usize) -> Result<Expr, Refusal>
     ensures { ConstantAnswered first at result }
 {
-    let Some(kind) = constant(first.kind) else {
+    let Some(kind) = constant(alloc, first.kind)? else {
         return Err(Refusal::Wrong { at });
     };
     let atom = expression(alloc, span(first), kind)?;
@@ -545,7 +546,7 @@ fn read_constant(alloc: Global, first: Token, at: usize) -> Result<Expr, Refusal
 #[cycle(expression)]
 fn read_atom(
     alloc: Global,
-    tokens: &[Token],
+    tokens: &TokenList,
     at: usize,
     depth: usize,
 ) -> Result<(Expr, usize), Refusal>
@@ -577,7 +578,7 @@ fn read_atom(
 fn read_call(
     alloc: Global,
     name: Token,
-    tokens: &[Token],
+    tokens: &TokenList,
     at: usize,
     depth: usize,
 ) -> Result<(Expr, usize), Refusal>
@@ -600,7 +601,7 @@ fn read_call(
 #[cycle(expression)]
 fn read_terms(
     alloc: Global,
-    tokens: &[Token],
+    tokens: &TokenList,
     at: usize,
     depth: usize,
 ) -> Result<(List<Expr>, usize), Refusal>
@@ -625,7 +626,7 @@ fn read_terms(
 fn read_brackets(
     alloc: Global,
     opener: Token,
-    tokens: &[Token],
+    tokens: &TokenList,
     at: usize,
     depth: usize,
 ) -> Result<(Expr, usize), Refusal>
@@ -650,11 +651,12 @@ fn read_ascribed(
     alloc: Global,
     opener: Token,
     body: Expr,
-    tokens: &[Token],
+    tokens: &TokenList,
     at: usize,
     depth: usize,
 ) -> Result<(Expr, usize), Refusal>
     requires within { at < length tokens.now }
+    requires room { length tokens.now < 2 ^ 64 }
     requires shallow { depth ≤ DEPTH_LIMIT }
     ensures { (d : ℕ) → d ≤ DEPTH_LIMIT
         → Answered (λ p. tree p) (ascribed_wants depth d) (tree body ∷ token opener ∷ []) tokens.now 8 (at + 1) result }
@@ -669,7 +671,7 @@ fn read_ascribed(
 fn read_distinct(
     alloc: Global,
     first: Token,
-    tokens: &[Token],
+    tokens: &TokenList,
     at: usize,
     depth: usize,
 ) -> Result<(Expr, usize), Refusal>
@@ -690,7 +692,7 @@ fn read_distinct(
 fn read_braces(
     alloc: Global,
     opener: Token,
-    tokens: &[Token],
+    tokens: &TokenList,
     at: usize,
     depth: usize,
 ) -> Result<(Expr, usize), Refusal>
@@ -708,7 +710,7 @@ fn read_braces(
 }
 
 // Whether a name with `=` stands there.
-fn sets(tokens: &[Token], at: usize) -> bool
+fn sets(tokens: &TokenList, at: usize) -> bool
     requires { at ≤ length tokens.now }
     ensures { MatchBool result (Sets tokens.now at) (SetsNone tokens.now at) }
 {
@@ -720,7 +722,7 @@ fn sets(tokens: &[Token], at: usize) -> bool
 fn read_record(
     alloc: Global,
     opener: Token,
-    tokens: &[Token],
+    tokens: &TokenList,
     at: usize,
     depth: usize,
 ) -> Result<(Expr, usize), Refusal>
@@ -739,7 +741,7 @@ fn read_record(
 fn read_update(
     alloc: Global,
     opener: Token,
-    tokens: &[Token],
+    tokens: &TokenList,
     at: usize,
     depth: usize,
 ) -> Result<(Expr, usize), Refusal>
@@ -759,7 +761,7 @@ fn read_update(
 #[cycle(expression)]
 fn read_settings(
     alloc: Global,
-    tokens: &[Token],
+    tokens: &TokenList,
     at: usize,
     depth: usize,
 ) -> Result<(List<Setting>, usize), Refusal>
@@ -782,7 +784,7 @@ fn read_settings(
 #[cycle(expression)]
 fn read_setting(
     alloc: Global,
-    tokens: &[Token],
+    tokens: &TokenList,
     at: usize,
     depth: usize,
 ) -> Result<(Setting, usize), Refusal>

@@ -14,13 +14,13 @@ use crate::nodes::group_of;
 use crate::read_items::read_item_list;
 use crate::read_types::read_type;
 use crate::spans::List;
-use ae_lex::{Sign, Token, TokenKind};
+use ae_lex::{Sign, Token, TokenKind, TokenList};
 use std::alloc::Global;
 
 // Variables with their sort.
 fn read_group(
     alloc: Global,
-    tokens: &[Token],
+    tokens: &TokenList,
     at: usize,
     depth: usize,
 ) -> Result<(Group, usize), Refusal>
@@ -37,7 +37,7 @@ fn read_group(
 /// Groups of variables parted by commas.
 pub fn read_groups(
     alloc: Global,
-    tokens: &[Token],
+    tokens: &TokenList,
     at: usize,
     depth: usize,
 ) -> Result<(List<Group>, usize), Refusal>

@@ -7,13 +7,13 @@ use crate::cursor::{stands_sign, take};
 use crate::faults::Refusal;
 use crate::nodes::span;
 use crate::spans::{List, Span};
-use ae_lex::{Sign, Token, TokenKind};
+use ae_lex::{Sign, Token, TokenKind, TokenList};
 use std::alloc::Global;
 
 /// One or more tokens of a kind, parted by a sign.
 pub fn read_item_list(
     alloc: Global,
-    tokens: &[Token],
+    tokens: &TokenList,
     at: usize,
     kind: TokenKind,
     separator: Sign,

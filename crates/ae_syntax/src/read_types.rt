@@ -15,7 +15,7 @@ use crate::faults::Refusal;
 use crate::nodes::{named_after, span};
 use crate::spans::List;
 use crate::types::{TypeKind, WrittenType};
-use ae_lex::{Reserved, Sign, Token, TokenKind};
+use ae_lex::{Reserved, Sign, Token, TokenKind, TokenList};
 use std::alloc::Global;
 
 // A type that is one token.
@@ -41,7 +41,7 @@ fn base_type(alloc: Global, token: Token) -> Option<WrittenType>
 fn more_type(
     alloc: Global,
     left: WrittenType,
-    tokens: &[Token],
+    tokens: &TokenList,
     at: usize,
     depth: usize,
 ) -> Result<(WrittenType, usize), Refusal>
@@ -63,7 +63,7 @@ fn more_type(
 #[cycle(sort)]
 pub fn read_type(
     alloc: Global,
-    tokens: &[Token],
+    tokens: &TokenList,
     at: usize,
     depth: usize,
 ) -> Result<(WrittenType, usize), Refusal>
@@ -88,7 +88,7 @@ pub fn read_type(
 fn bracket_sorts(
     alloc: Global,
     open: Token,
-    tokens: &[Token],
+    tokens: &TokenList,
     at: usize,
     depth: usize,
 ) -> Result<(WrittenType, usize), Refusal>
@@ -123,7 +123,7 @@ fn bracket_sorts(
 pub fn more_types(
     alloc: Global,
     before: List<WrittenType>,
-    tokens: &[Token],
+    tokens: &TokenList,
     at: usize,
     depth: usize,
 ) -> Result<(List<WrittenType>, usize), Refusal>

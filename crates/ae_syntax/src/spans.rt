@@ -2,9 +2,9 @@
 
 pub use ae_base::lists::{Boxed, List};
 
-/// Bytes of the text: from `from` up to `to`, without the byte at `to`.
+/// Bytes of the text: from `from` up to `to`, without the byte at `to`. Places have 32 bits, as in tokens.
 #[derive(Clone, Copy, Debug, PartialEq, Eq)]
 pub struct Span {
-    pub from: usize,
-    pub to: usize,
+    pub from: u32,
+    pub to: u32,
 }

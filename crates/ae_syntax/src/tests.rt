@@ -10,8 +10,9 @@ use std::alloc::{AllocError, Global};
 use std::test::Fail;
 
 fn bytes_of(text: &[u8], span: Span) -> &[u8] {
-    if span.from <= span.to && span.to <= text.len() {
-        &text[span.from..span.to]
+    let (from, to) = (span.from as usize, span.to as usize);
+    if from <= to && to <= text.len() {
+        &text[from..to]
     } else {
         b"?"
     }
@@ -113,11 +114,11 @@ fn put_expr(text: &[u8], expr: &Expr, out: &mut Vec<u8>) -> Result<(), AllocErro
                     Quantifier::Exists => b"[exists",
                 },
             )?;
-            for group in groups.as_slice() {
+            for group in groups.get().as_slice() {
                 put(out, b" ")?;
                 put(out, bytes_of(text, group.span))?;
             }
-            for trigger in triggers.as_slice() {
+            for trigger in triggers.get().as_slice() {
                 put(out, b" {")?;
                 put(out, bytes_of(text, trigger.span))?;
                 put(out, b"}")?;
@@ -173,7 +174,7 @@ fn put_expr(text: &[u8], expr: &Expr, out: &mut Vec<u8>) -> Result<(), AllocErro
             put(out, b"(")?;
             put_expr(text, body, out)?;
             put(out, b":")?;
-            put_type(text, sort, out)?;
+            put_type(text, sort.get(), out)?;
             put(out, b")")
         }
         ExprKind::Distinct(terms) => {
@@ -223,7 +224,7 @@ fn put_fault(fault: SyntaxFault, alloc: Global, out: &mut Vec<u8>) -> Result<(),
 fn grouped(alloc: Global, text: &[u8]) -> Result<Vec<u8>, Fail> {
     let tokens = ae_lex::tokens(alloc, text)?;
     let mut out = Vec::new(alloc);
-    match parse(alloc, text, tokens.as_slice()) {
+    match parse(alloc, text, &tokens) {
         Ok(file) => match file.decls.as_slice() {
             [
                 Decl {
@@ -492,7 +493,7 @@ fn depth(rt: HostRuntime) -> Result<(), Fail> {
         assert!(rt; found.as_slice() == wanted, "{:?} {:?}", before, found);
         let text = nested(rt.alloc(), declared, before, 1000, middle, after)?;
         let tokens = ae_lex::tokens(rt.alloc(), text.as_slice())?;
-        let ok = parse(rt.alloc(), text.as_slice(), tokens.as_slice()).is_ok();
+        let ok = parse(rt.alloc(), text.as_slice(), &tokens).is_ok();
         assert!(rt; ok, "{:?}", before);
     }
     // After 1,000 brackets: an impossible token comes before the depth that it would have.

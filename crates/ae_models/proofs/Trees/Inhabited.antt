@@ -4,7 +4,7 @@ use Rattle.std.specs.Prelude.{Option, Some, None}
 use Rattle.std.specs.List.{AllByRecursion, list_all, list_any}
 use Rattle.std.proofs.Common.{refl, sym, ap, ◌∙◌, subst, true≢false, arith}
 use Rattle.std.proofs.lemmas.Bool.{and_parts, eqb-true, ltb-true}
-use Rattle.std.proofs.lemmas.List.{length-map}
+use Rattle.std.proofs.lemmas.List.{length-map, nil_from_length}
 use Rattle.std.proofs.lemmas.List.Folds.{list_all-map}
 use Rattle.ae_math.specs.Fractions.{ℚ, zero_ℚ, whole}
 use Rattle.ae_core.specs.Inner.Induction.{by_sorts}
@@ -34,10 +34,6 @@ use Rattle.ae_models.proofs.ModelRules.{KindSays}
 use Rattle.ae_models.proofs.Trees.Wholes.{whole_or_not}
 use Rattle.ae_models.proofs.Trees.Shapes.{tuple, layer_fits, fits, no_sorts, nowhere, kind_takes, layer_takes, kind_fields, record_fields, is_record}
 use Rattle.ae_models.proofs.Trees.Shapes.{measured, tree_sort, sorted_value, all_fit, all_fit_more}
-
-pub no_sorts_left : (ss : List Sort) → length ss ≡ 0 → ss ≡ []
-no_sorts_left [] e = refl
-no_sorts_left (s ∷ ss) e = absurd (omega (arith, e))
 
 or_true : (b : Bool) → b || true ≡ true
 or_true true = refl
@@ -155,7 +151,7 @@ module _ (sig : Signature) (lawful : HasLawfulEntries sig) where
     kind_inhabited e Abstract g l is law = (Element (Atom 0 (Named n ss)), thing_fits n ss (Atom 0 (Named n ss)) (atom_sort 0 n ss e Abstract g is refl))
     kind_inhabited e (Choices []) g l is law = absurd (law.some refl)
     kind_inhabited e (Choices (c ∷ cs)) g l is law =
-        let none : ss ≡ [] = no_sorts_left ss (l ∙ law.no_parameters) in
+        let none : ss ≡ [] = nil_from_length ss (l ∙ law.no_parameters) in
         let takes : kind_takes sig c ss (Choices (c ∷ cs)) ≡ true = ap (λ xs. no_sorts xs && list_any (nat_eq c) (c ∷ cs)) none ∙ is_among (c ∷ cs) 0 c refl in
         (Element (Atom c (Named n ss)), thing_fits n ss (Atom c (Named n ss)) (atom_sort c n ss e (Choices (c ∷ cs)) g is takes))
     kind_inhabited e (Fields fs) g l is law =

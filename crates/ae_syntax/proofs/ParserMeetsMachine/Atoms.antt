@@ -99,10 +99,10 @@ pub call_ends : (T : List Token) (at d : ℕ) (n : Token) (whole : Expr) → at 
 call_ends T at d n whole w l e = subst (λ z. Done (call d ∷ []) (token n ∷ []) T 8 at at (tree z)) (sym e) (done (then_skips (tree (bare n) ∷ []) (start T (call d ∷ []) (token n ∷ []) at w) (λ v. record { here = λ t ts q. ap (λ b. cond b (take (suc d) (items_wants of_exprs (suc d) ++ kept sign.CloseParen d ∷ make call_it ∷ []) (token n ∷ v)) (skip (tree (bare n) ∷ v))) (l.none t ts q); end = refl })) (small_grip (drop at T)))
 
 pub call_deep : (T : List Token) (at d : ℕ) (n : Token) (e : Refusal) → at ≤ length T → Stands (the_sign sign.OpenParen) T at → DEPTH_LIMIT < suc d → e ≡ Deep at → Answered (λ p. tree p) (call d ∷ []) (token n ∷ []) T 8 at (Err e)
-call_deep T at d n e w s l h = sinking (λ p. tree p) 8 (suc d) (items_wants of_exprs (suc d) ++ kept sign.CloseParen d ∷ make call_it ∷ []) (λ v. token n ∷ v) s.token e (start T (call d ∷ []) (token n ∷ []) at w) (record { next = s.next; within = s.within }) l (λ v. ap (λ b. cond b (take (suc d) (items_wants of_exprs (suc d) ++ kept sign.CloseParen d ∷ make call_it ∷ []) (token n ∷ v)) (skip (tree (bare n) ∷ v))) s.is) h
+call_deep T at d n e w s l h = sinking (λ p. tree p) 8 (suc d) (items_wants of_exprs (suc d) ++ kept sign.CloseParen d ∷ make call_it ∷ []) (λ v. token n ∷ v) s.token e (start T (call d ∷ []) (token n ∷ []) at w) (record { next = s.next; within = s.within; room = s.room }) l (λ v. ap (λ b. cond b (take (suc d) (items_wants of_exprs (suc d) ++ kept sign.CloseParen d ∷ make call_it ∷ []) (token n ∷ v)) (skip (tree (bare n) ∷ v))) s.is) h
 
 pub call_1 : (T : List Token) (at d m : ℕ) (n : Token) → at ≤ length T → Stands (the_sign sign.OpenParen) T at → m ≡ suc d → m ≤ DEPTH_LIMIT → Reaches T (call d ∷ []) (token n ∷ []) at (items_wants of_exprs m ++ kept sign.CloseParen d ∷ make call_it ∷ []) (token n ∷ []) (at + 1)
-call_1 T at d m n w s e l = subst (λ m. Reaches T (call d ∷ []) (token n ∷ []) at (items_wants of_exprs m ++ kept sign.CloseParen d ∷ make call_it ∷ []) (token n ∷ []) (at + 1)) (sym e) (then_takes (suc d) (items_wants of_exprs (suc d) ++ kept sign.CloseParen d ∷ make call_it ∷ []) (token n ∷ []) s.token (start T (call d ∷ []) (token n ∷ []) at w) (record { next = s.next; within = s.within }) (omega (arith, e, l)) (λ v. ap (λ b. cond b (take (suc d) (items_wants of_exprs (suc d) ++ kept sign.CloseParen d ∷ make call_it ∷ []) (token n ∷ v)) (skip (tree (bare n) ∷ v))) s.is))
+call_1 T at d m n w s e l = subst (λ m. Reaches T (call d ∷ []) (token n ∷ []) at (items_wants of_exprs m ++ kept sign.CloseParen d ∷ make call_it ∷ []) (token n ∷ []) (at + 1)) (sym e) (then_takes (suc d) (items_wants of_exprs (suc d) ++ kept sign.CloseParen d ∷ make call_it ∷ []) (token n ∷ []) s.token (start T (call d ∷ []) (token n ∷ []) at w) (record { next = s.next; within = s.within; room = s.room }) (omega (arith, e, l)) (λ v. ap (λ b. cond b (take (suc d) (items_wants of_exprs (suc d) ++ kept sign.CloseParen d ∷ make call_it ∷ []) (token n ∷ v)) (skip (tree (bare n) ∷ v))) s.is))
 
 -- ---- `distinct` and its bracket
 pub distinct_deep : (T : List Token) (at d : ℕ) (f t : Token) (e : Refusal) → at ≤ length T → IsAt T at t → same t.kind (the_sign sign.OpenParen) ≡ true → DEPTH_LIMIT < suc d → e ≡ Deep at → Answered (λ p. tree p) (distinct_wants d) (token f ∷ []) T 8 at (Err e)
@@ -118,7 +118,7 @@ act_colon d v t (kind.Sign sign.Arrow) h = absurd (false≢true h)
 act_colon d v t k h = absurd (false≢true h)
 
 pub then_colon : (T : List Token) (W : List Want) (G G' : List Part) (at to d m : ℕ) → Reaches T W G at (bracket_end d ∷ []) G' to → Stands (the_sign sign.Colon) T to → m ≡ suc d → m ≤ DEPTH_LIMIT → Reaches T W G at (ascribed_wants m d) G' (to + 1)
-then_colon T W G G' at to d m r s e l = subst (λ m. Reaches T W G at (ascribed_wants m d) G' (to + 1)) (sym e) (then_takes (suc d) (ascribed_wants (suc d) d) G' s.token r (record { next = s.next; within = s.within }) (omega (arith, e, l)) (λ v. act_colon d (G' ++ v) s.token (let t = s.token in t.kind) s.is))
+then_colon T W G G' at to d m r s e l = subst (λ m. Reaches T W G at (ascribed_wants m d) G' (to + 1)) (sym e) (then_takes (suc d) (ascribed_wants (suc d) d) G' s.token r (record { next = s.next; within = s.within; room = s.room }) (omega (arith, e, l)) (λ v. act_colon d (G' ++ v) s.token (let t = s.token in t.kind) s.is))
 
 pub then_closes : (T : List Token) (W : List Want) (G G' : List Part) (at to d : ℕ) (t : Token) → Reaches T W G at (bracket_end d ∷ []) G' to → IsAt T to t → same t.kind (the_sign sign.CloseParen) ≡ true → d ≤ DEPTH_LIMIT → Reaches T W G at (make enclose ∷ []) (token t ∷ G') (to + 1)
 then_closes T W G G' at to d t r i h l = then_takes d (make enclose ∷ []) (token t ∷ G') t r i l (λ v. ap (λ b. cond b (take d (make enclose ∷ []) (token t ∷ G' ++ v)) (cond (same t.kind (the_sign sign.Colon)) (take (suc d) (ascribed_wants (suc d) d) (G' ++ v)) refuse)) h)

@@ -25,9 +25,9 @@ record_steps : (T : List Token) (at d : ℕ) (o : Token) → at ≤ length T →
 record_steps T at d o w l s = let i = s.name in let e = s.equals in
     back
     (then_takes (suc d) (an_expr (suc d) ∷ make set ∷ make begin ∷ more of_settings (suc d) ∷ kept sign.CloseBrace d ∷ make build ∷ []) (token i.token ∷ token o ∷ []) e.token
-    (then_takes (suc d) (brace_name d ∷ []) (token i.token ∷ token o ∷ []) i.token (start T (brace d ∷ []) (token o ∷ []) at w) (record { next = i.next; within = i.within }) l (λ v. act_name v i.token (let t = i.token in t.kind) i.is))
-    (record { next = e.next; within = e.within }) l (λ v. act_equal (token i.token ∷ token o ∷ v) e.token (let t = e.token in t.kind) e.is))
-    (then_passes e.token (then_keeps i.token (start T (record_wants (suc d) d) (token o ∷ []) at w) (record { next = i.next; within = i.within }) i.is l) (record { next = e.next; within = e.within }) e.is l)
+    (then_takes (suc d) (brace_name d ∷ []) (token i.token ∷ token o ∷ []) i.token (start T (brace d ∷ []) (token o ∷ []) at w) (record { next = i.next; within = i.within; room = i.room }) l (λ v. act_name v i.token (let t = i.token in t.kind) i.is))
+    (record { next = e.next; within = e.within; room = e.room }) l (λ v. act_equal (token i.token ∷ token o ∷ v) e.token (let t = e.token in t.kind) e.is))
+    (then_passes e.token (then_keeps i.token (start T (record_wants (suc d) d) (token o ∷ []) at w) (record { next = i.next; within = i.within; room = i.room }) i.is l) (record { next = e.next; within = e.within; room = e.room }) e.is l)
     (omega arith)
   where
     act_name : (v : List Part) (t : Token) (k : TokenKind) → same k kind.Ident ≡ true → act (brace d) (token o ∷ v) t k ≡ take (suc d) (brace_name d ∷ []) (token t ∷ token o ∷ v)
@@ -65,7 +65,7 @@ other_steps d (t ∷ ts) ss v n = judge_is t ts (brace d) ss v ∙ ap (λ b. wen
 change_steps : (T : List Token) (at d : ℕ) (o : Token) → at ≤ length T → suc d ≤ DEPTH_LIMIT → SetsNone T at → Reaches T (brace d ∷ []) (token o ∷ []) at (change_wants (suc d) d) (token o ∷ []) at
 change_steps T at d o w l (inl n) = record { runs = λ ss v. other_steps d (drop at T) ss (token o ∷ v) n.none; further = omega arith; within = w }
 change_steps T at d o w l (inr p) = let s = p.0 in let n = p.1 in record {
-  runs = λ ss v. judge_at T at s.token (brace d) ss (token o ∷ v) _ (record { next = s.next; within = s.within }) (act_name (token o ∷ v) s.token (let t = s.token in t.kind) s.is) ∙ went_take (suc d) (brace_name d ∷ []) (token s.token ∷ token o ∷ v) ss s.token (drop (at + 1) T) l ∙ name_steps d s.token (drop (at + 1) T) ss (token o ∷ v) n.none ∙ sym (judge_at T at s.token (a_post (suc d)) (update_wants d ++ ss) (token o ∷ v) _ (record { next = s.next; within = s.within }) (act_post (token o ∷ v) s.token (let t = s.token in t.kind) s.is) ∙ went_take (suc d) (call (suc d) ∷ more_post (suc d) ∷ []) (token s.token ∷ token o ∷ v) (update_wants d ++ ss) s.token (drop (at + 1) T) l);
+  runs = λ ss v. judge_at T at s.token (brace d) ss (token o ∷ v) _ (record { next = s.next; within = s.within; room = s.room }) (act_name (token o ∷ v) s.token (let t = s.token in t.kind) s.is) ∙ went_take (suc d) (brace_name d ∷ []) (token s.token ∷ token o ∷ v) ss s.token (drop (at + 1) T) l ∙ name_steps d s.token (drop (at + 1) T) ss (token o ∷ v) n.none ∙ sym (judge_at T at s.token (a_post (suc d)) (update_wants d ++ ss) (token o ∷ v) _ (record { next = s.next; within = s.within; room = s.room }) (act_post (token o ∷ v) s.token (let t = s.token in t.kind) s.is) ∙ went_take (suc d) (call (suc d) ∷ more_post (suc d) ∷ []) (token s.token ∷ token o ∷ v) (update_wants d ++ ss) s.token (drop (at + 1) T) l);
   further = omega arith;
   within = w;
 }

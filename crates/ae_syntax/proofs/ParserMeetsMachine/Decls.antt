@@ -1,6 +1,6 @@
 -- What the parts of the functions for types and declarations answer, put together.
 use Rattle.std.proofs.Common.{ℕ, suc, ◌+◌, ◌-◌, ◌≤◌, ◌<◌, Bool, true, false, List, [], ◌∷◌, ◌++◌, ◌≡◌, Option, Some, None, Result, Ok, Err, length, drop, refl, sym, ap, ◌∙◌, subst, arith, append_assoc, append-nil, cond, slice_index_or, inl, inr}
-use Rattle.std.proofs.lemmas.Bool.{cases_lt}
+use Rattle.std.proofs.lemmas.Bool.{cases_lt, cond-false, cond-true}
 use Rattle.ae_lex.specs.declared.kinds.Token.{Token}
 use Rattle.ae_lex.specs.declared.kinds.TokenKind.{TokenKind}
 use Rattle.ae_lex.specs.declared.kinds.TokenKind.TheVariants as kind
@@ -179,10 +179,10 @@ items_ends r s d W G {T} {at} l n e = passes W G G l (λ v. record { here = λ t
 
 -- ---- more types
 pub one_more_sort : (T : List Token) (at to d : ℕ) (s : WrittenType) (xs : List WrittenType) → Stands (kind.Sign sign.Comma) T at → d ≤ DEPTH_LIMIT → Done (a_type d ∷ []) [] T 8 (at + 1) to (sort s) → Leads (more of_types d ∷ []) (sorts xs ∷ []) T at (more of_types d ∷ []) (sorts (xs ++ s ∷ []) ∷ []) to
-one_more_sort T at to d s xs c l a = leads_on (items_goes_on of_types sign.Comma d [] (sorts xs ∷ []) {T = T} {at = at} {t = c.token} (record { next = c.next; within = c.within }) c.is refl l) (leads_on (leads_done_first (make add ∷ more of_types d ∷ []) (sorts xs ∷ []) a) (makes (more of_types d ∷ []) (sort s ∷ sorts xs ∷ []) (sorts (xs ++ s ∷ []) ∷ []) a.within (λ v. refl)))
+one_more_sort T at to d s xs c l a = leads_on (items_goes_on of_types sign.Comma d [] (sorts xs ∷ []) {T = T} {at = at} {t = c.token} (record { next = c.next; within = c.within; room = c.room }) c.is refl l) (leads_on (leads_done_first (make add ∷ more of_types d ∷ []) (sorts xs ∷ []) a) (makes (more of_types d ∷ []) (sort s ∷ sorts xs ∷ []) (sorts (xs ++ s ∷ []) ∷ []) a.within (λ v. refl)))
 
 pub sort_fails : (T : List Token) (at d : ℕ) (xs : List WrittenType) (e : Refusal) → Stands (kind.Sign sign.Comma) T at → d ≤ DEPTH_LIMIT → SortAnswered (a_type d ∷ []) [] T (at + 1) (Err e) → Halts (more of_types d ∷ []) (sorts xs ∷ []) T at e
-sort_fails T at d xs e c l a = halts_on (items_goes_on of_types sign.Comma d [] (sorts xs ∷ []) {T = T} {at = at} {t = c.token} (record { next = c.next; within = c.within }) c.is refl l) (halts_first (λ s. sort s) (a_type d) (make add ∷ more of_types d ∷ []) (sorts xs ∷ []) T 8 (at + 1) e a)
+sort_fails T at d xs e c l a = halts_on (items_goes_on of_types sign.Comma d [] (sorts xs ∷ []) {T = T} {at = at} {t = c.token} (record { next = c.next; within = c.within; room = c.room }) c.is refl l) (halts_first (λ s. sort s) (a_type d) (make add ∷ more of_types d ∷ []) (sorts xs ∷ []) T 8 (at + 1) e a)
 
 -- ---- a path, step by step
 pub start : (W : List Want) (G : List Part) (T : List Token) (at : ℕ) → at ≤ length T → Leads W G T at W G at
@@ -258,7 +258,7 @@ pub items_first_fails : {T : List Token} {at : ℕ} {e : Refusal} (w : Items) (d
 items_first_fails w d h = halts_before (make begin ∷ more w d ∷ []) [] h
 
 items_comma : {T : List Token} {at mid : ℕ} {W : List Want} {q : Part} (w : Items) (s : Sign) (d : ℕ) → Leads W [] T at (more w d ∷ []) (q ∷ []) mid → Stands (kind.Sign s) T mid → separator w ≡ s → d ≤ DEPTH_LIMIT → Leads W [] T at (element_wants w d ++ make add ∷ more w d ∷ []) (q ∷ []) (mid + 1)
-items_comma {T} {at} {mid} {W} {q} w s d l c e b = subst (λ z. Leads W [] T at z (q ∷ []) (mid + 1)) (append-nil (element_wants w d ++ make add ∷ more w d ∷ [])) (leads_on l (items_goes_on w s d [] (q ∷ []) {T = T} {at = mid} {t = c.token} (record { next = c.next; within = c.within }) c.is e b))
+items_comma {T} {at} {mid} {W} {q} w s d l c e b = subst (λ z. Leads W [] T at z (q ∷ []) (mid + 1)) (append-nil (element_wants w d ++ make add ∷ more w d ∷ [])) (leads_on l (items_goes_on w s d [] (q ∷ []) {T = T} {at = mid} {t = c.token} (record { next = c.next; within = c.within; room = c.room }) c.is e b))
 
 pub items_next : {T : List Token} {at mid to : ℕ} {W : List Want} (w : Items) (s : Sign) (d : ℕ) (p q q' : Part) → Leads W [] T at (more w d ∷ []) (q ∷ []) mid → Stands (kind.Sign s) T mid → separator w ≡ s → d ≤ DEPTH_LIMIT → Leads (element_wants w d) [] T (mid + 1) [] (p ∷ []) to → and_then q p ≡ q' → Leads W [] T at (more w d ∷ []) (q' ∷ []) to
 items_next w s d p q q' l c e b x h = then_make (q' ∷ []) (leads_on (items_comma w s d l c e b) (leads_first (make add ∷ more w d ∷ []) (q ∷ []) x)) (λ v. ap (λ z. z ∷ v) h)
@@ -385,101 +385,94 @@ types_alike {s} {T} {at} d new W G l a i = record { runs = λ ss v. go ss v (dro
     go ss v [] e = refused T at s (W ++ ss) (G ++ v) (record { here = λ t ts q. absurd (let z : 0 ≡ suc (length ts) = sym (ap length e) ∙ ap length q in omega arith); end = i v }) ∙ sym (refused T at (a_type d) ((new ++ W) ++ ss) (G ++ v) (record { here = λ t ts q. absurd (let z : 0 ≡ suc (length ts) = sym (ap length e) ∙ ap length q in omega arith); end = refl }))
     go ss v (t ∷ ts) e = ap (λ z. judge z (s ∷ W ++ ss) (G ++ v)) e ∙ judge_act t ts s (W ++ ss) (G ++ v) (then_wants (on_type d (G ++ v) t t.kind) new) (a v t ts e) ∙ went_type d new (W ++ ss) (G ++ v) t ts (base_type t t.kind) (same t.kind (the_sign sign.OpenParen)) ∙ ap (λ z. went (on_type d (G ++ v) t t.kind) z t ts) (sym (append_assoc new W ss)) ∙ sym (judge_act t ts (a_type d) ((new ++ W) ++ ss) (G ++ v) (on_type d (G ++ v) t t.kind) refl) ∙ ap (λ z. judge z (a_type d ∷ (new ++ W) ++ ss) (G ++ v)) (sym e)
 
--- the first test of an act fails
-fails_1 : {b : Bool} (x y : Act) → b ≡ false → cond b x y ≡ y
-fails_1 x y e = ap (λ b. cond b x y) e
-
-holds_1 : {b : Bool} (x y : Act) → b ≡ true → cond b x y ≡ x
-holds_1 x y e = ap (λ b. cond b x y) e
-
 -- the same where the token stands as a fact of its kind
 takes_at : {s : Want} {T : List Token} {at : ℕ} {k : TokenKind} (W : List Want) (G : List Part) (d : ℕ) (new : List Want) (G' : List Part) (c : Stands k T at) → ((v : List Part) → act s (G ++ v) c.token c.token.kind ≡ take d new (G' ++ v)) → d ≤ DEPTH_LIMIT → Leads (s ∷ W) G T at (new ++ W) G' (at + 1)
-takes_at {s} {T} {at} W G d new G' c a l = let i : IsAt T at c.token = record { next = c.next; within = c.within } in takes W G d new G' i a l
+takes_at {s} {T} {at} W G d new G' c a l = let i : IsAt T at c.token = record { next = c.next; within = c.within; room = c.room } in takes W G d new G' i a l
 
 -- ---- type declarations
 abbrev pub vars_wants : List Want
 vars_wants = keep kind.TypeVar 1 ∷ past sign.Comma 1 ∷ items_wants of_vars 1 ++ past sign.CloseParen 0 ∷ make more_params ∷ keep kind.Ident 0 ∷ type_end ∷ []
 
 pub one_param : {T : List Token} {at : ℕ} {t : Token} → Lacks kind.Ident T at → IsAt T at t → same t.kind kind.TypeVar ≡ true → Leads (type_head ∷ []) [] T at (keep kind.Ident 0 ∷ type_end ∷ []) (names (span t ∷ []) ∷ []) (at + 1)
-one_param {T} {at} {t} n i k = takes [] [] 0 (keep kind.Ident 0 ∷ type_end ∷ []) (names (span t ∷ []) ∷ []) i (λ v. fails_1 _ _ (n.none t (drop (at + 1) T) i.next) ∙ holds_1 _ _ k) (omega arith)
+one_param {T} {at} {t} n i k = takes [] [] 0 (keep kind.Ident 0 ∷ type_end ∷ []) (names (span t ∷ []) ∷ []) i (λ v. cond-false _ _ _ (n.none t (drop (at + 1) T) i.next) ∙ cond-true _ _ _ k) (omega arith)
 
 pub open_params : {T : List Token} {at : ℕ} {t : Token} → Lacks kind.Ident T at → Lacks kind.TypeVar T at → IsAt T at t → same t.kind (kind.Sign sign.OpenParen) ≡ true → Leads (type_head ∷ []) [] T at vars_wants [] (at + 1)
-open_params {T} {at} {t} n m i k = takes [] [] 1 vars_wants [] i (λ v. fails_1 _ _ (n.none t (drop (at + 1) T) i.next) ∙ fails_1 _ _ (m.none t (drop (at + 1) T) i.next) ∙ holds_1 _ _ k) (omega arith)
+open_params {T} {at} {t} n m i k = takes [] [] 1 vars_wants [] i (λ v. cond-false _ _ _ (n.none t (drop (at + 1) T) i.next) ∙ cond-false _ _ _ (m.none t (drop (at + 1) T) i.next) ∙ cond-true _ _ _ k) (omega arith)
 
 pub no_params : {T : List Token} {at : ℕ} {e : Refusal} → at ≤ length T → Lacks kind.Ident T at → Lacks kind.TypeVar T at → Lacks (kind.Sign sign.OpenParen) T at → e ≡ Wrong at → Halts (type_head ∷ []) [] T at e
-no_params l n m o h = stops_here [] [] l (λ v. record { here = λ t ts q. fails_1 _ _ (n.none t ts q) ∙ fails_1 _ _ (m.none t ts q) ∙ fails_1 _ _ (o.none t ts q); end = refl }) h
+no_params l n m o h = stops_here [] [] l (λ v. record { here = λ t ts q. cond-false _ _ _ (n.none t ts q) ∙ cond-false _ _ _ (m.none t ts q) ∙ cond-false _ _ _ (o.none t ts q); end = refl }) h
 
 pub plain_head : {T : List Token} {at : ℕ} {t : Token} (f : Token) → IsAt T at t → same t.kind kind.Ident ≡ true → Leads (type_head ∷ []) (token f ∷ []) T at (type_body ∷ []) (token t ∷ names [] ∷ token f ∷ []) (at + 1)
-plain_head {t = t} f i k = takes [] (token f ∷ []) 0 (type_body ∷ []) (token t ∷ names [] ∷ token f ∷ []) i (λ v. holds_1 _ _ k) (omega arith)
+plain_head {t = t} f i k = takes [] (token f ∷ []) 0 (type_body ∷ []) (token t ∷ names [] ∷ token f ∷ []) i (λ v. cond-true _ _ _ k) (omega arith)
 
 pub body_ends : {T : List Token} {at : ℕ} (f n : Token) (ps : List Span) → at ≤ length T → Lacks (kind.Sign sign.Equal) T at → Leads (type_body ∷ []) (token n ∷ names ps ∷ token f ∷ []) T at [] (decl (abstract_type f ps n) ∷ []) at
-body_ends f n ps l m = passes [] (token n ∷ names ps ∷ token f ∷ []) (decl (abstract_type f ps n) ∷ []) l (λ v. record { here = λ t ts q. fails_1 _ _ (m.none t ts q); end = refl })
+body_ends f n ps l m = passes [] (token n ∷ names ps ∷ token f ∷ []) (decl (abstract_type f ps n) ∷ []) l (λ v. record { here = λ t ts q. cond-false _ _ _ (m.none t ts q); end = refl })
 
 pub end_ends : {W : List Want} {G : List Part} {T : List Token} {at mid : ℕ} (f n : Token) (ps : List Span) → Leads W G T at (type_end ∷ []) (token n ∷ names ps ∷ token f ∷ []) mid → Lacks (kind.Sign sign.Equal) T mid → Leads W G T at [] (decl (abstract_type f ps n) ∷ []) mid
-end_ends f n ps p m = leads_on p (passes [] (token n ∷ names ps ∷ token f ∷ []) (decl (abstract_type f ps n) ∷ []) p.within (λ v. record { here = λ t ts q. fails_1 _ _ (m.none t ts q); end = refl }))
+end_ends f n ps p m = leads_on p (passes [] (token n ∷ names ps ∷ token f ∷ []) (decl (abstract_type f ps n) ∷ []) p.within (λ v. record { here = λ t ts q. cond-false _ _ _ (m.none t ts q); end = refl }))
 
 pub body_goes_on : {T : List Token} {at : ℕ} (G : List Part) → Stands (kind.Sign sign.Equal) T at → Leads (type_body ∷ []) G T at (type_definition ∷ []) G (at + 1)
-body_goes_on {T} {at} G c = takes_at [] G 0 (type_definition ∷ []) G c (λ v. holds_1 _ _ c.is) (omega arith)
+body_goes_on {T} {at} G c = takes_at [] G 0 (type_definition ∷ []) G c (λ v. cond-true _ _ _ c.is) (omega arith)
 
 pub end_goes_on : {W : List Want} {G G' : List Part} {T : List Token} {at mid : ℕ} → Leads W G T at (type_end ∷ []) G' mid → Stands (kind.Sign sign.Equal) T mid → Leads W G T at (past sign.OpenBrace 1 ∷ record_wants) G' (mid + 1)
-end_goes_on {G' = G'} {T = T} {mid = mid} p c = leads_on p (takes_at [] G' 0 (past sign.OpenBrace 1 ∷ record_wants) G' c (λ v. holds_1 _ _ c.is) (omega arith))
+end_goes_on {G' = G'} {T = T} {mid = mid} p c = leads_on p (takes_at [] G' 0 (past sign.OpenBrace 1 ∷ record_wants) G' c (λ v. cond-true _ _ _ c.is) (omega arith))
 
 pub form_fields : {W : List Want} {G G' : List Part} {T : List Token} {at mid : ℕ} {t : Token} → Leads W G T at (type_definition ∷ []) G' mid → IsAt T mid t → same t.kind (kind.Sign sign.OpenBrace) ≡ true → Leads W G T at record_wants G' (mid + 1)
-form_fields {G' = G'} p i k = leads_on p (takes [] G' 1 record_wants G' i (λ v. holds_1 _ _ k) (omega arith))
+form_fields {G' = G'} p i k = leads_on p (takes [] G' 1 record_wants G' i (λ v. cond-true _ _ _ k) (omega arith))
 
 pub form_choices : {W : List Want} {G G' : List Part} {T : List Token} {at mid : ℕ} → Leads W G T at (type_definition ∷ []) G' mid → Lacks (kind.Sign sign.OpenBrace) T mid → Leads W G T at (items_wants of_constructors 0 ++ make be_choice ∷ []) G' mid
-form_choices {G' = G'} p n = leads_on p (keeps_alike kind.Ident 0 (make begin ∷ more of_constructors 0 ∷ make be_choice ∷ []) [] G' G' p.within (omega arith) (λ v t ts q. fails_1 _ _ (n.none t ts q)) (λ v. refl))
+form_choices {G' = G'} p n = leads_on p (keeps_alike kind.Ident 0 (make begin ∷ more of_constructors 0 ∷ make be_choice ∷ []) [] G' G' p.within (omega arith) (λ v t ts q. cond-false _ _ _ (n.none t ts q)) (λ v. refl))
 
 -- ---- symbols
 pub ac_stands : {T : List Token} {at : ℕ} (f : Token) → Stands (kind.Reserved word.Ac) T at → Leads (logic_head ∷ []) (token f ∷ []) T at (items_wants of_names 0 ++ past sign.Colon 0 ∷ logic_sorts ∷ []) (flag true ∷ token f ∷ []) (at + 1)
-ac_stands {T} {at} f c = takes_at [] (token f ∷ []) 0 (items_wants of_names 0 ++ past sign.Colon 0 ∷ logic_sorts ∷ []) (flag true ∷ token f ∷ []) c (λ v. holds_1 _ _ c.is) (omega arith)
+ac_stands {T} {at} f c = takes_at [] (token f ∷ []) 0 (items_wants of_names 0 ++ past sign.Colon 0 ∷ logic_sorts ∷ []) (flag true ∷ token f ∷ []) c (λ v. cond-true _ _ _ c.is) (omega arith)
 
 pub ac_lacks : {T : List Token} {at : ℕ} (f : Token) → at ≤ length T → Lacks (kind.Reserved word.Ac) T at → Leads (logic_head ∷ []) (token f ∷ []) T at (items_wants of_names 0 ++ past sign.Colon 0 ∷ logic_sorts ∷ []) (flag false ∷ token f ∷ []) at
-ac_lacks f l n = keeps_alike kind.Ident 0 (make begin ∷ more of_names 0 ∷ past sign.Colon 0 ∷ logic_sorts ∷ []) [] (token f ∷ []) (flag false ∷ token f ∷ []) l (omega arith) (λ v t ts q. fails_1 _ _ (n.none t ts q)) (λ v. refl)
+ac_lacks f l n = keeps_alike kind.Ident 0 (make begin ∷ more of_names 0 ∷ past sign.Colon 0 ∷ logic_sorts ∷ []) [] (token f ∷ []) (flag false ∷ token f ∷ []) l (omega arith) (λ v t ts q. cond-false _ _ _ (n.none t ts q)) (λ v. refl)
 
 pub prop_sorts : {T : List Token} {at : ℕ} {t : Token} (f : Token) (a : Bool) (ns : List Span) → IsAt T at t → same t.kind (kind.Reserved word.Prop) ≡ true → Leads (logic_sorts ∷ []) (names ns ∷ flag a ∷ token f ∷ []) T at [] (decl (logic_of f a ns [] (prop_at t)) ∷ []) (at + 1)
-prop_sorts {t = t} f a ns i k = then_make (decl (logic_of f a ns [] (prop_at t)) ∷ []) (takes [] (names ns ∷ flag a ∷ token f ∷ []) 0 (make be_symbols ∷ []) (result (prop_at t) ∷ sorts [] ∷ names ns ∷ flag a ∷ token f ∷ []) i (λ v. holds_1 _ _ k) (omega arith)) (λ v. refl)
+prop_sorts {t = t} f a ns i k = then_make (decl (logic_of f a ns [] (prop_at t)) ∷ []) (takes [] (names ns ∷ flag a ∷ token f ∷ []) 0 (make be_symbols ∷ []) (result (prop_at t) ∷ sorts [] ∷ names ns ∷ flag a ∷ token f ∷ []) i (λ v. cond-true _ _ _ k) (omega arith)) (λ v. refl)
 
 pub type_sorts : {T : List Token} {at : ℕ} (G : List Part) → at ≤ length T → Lacks (kind.Reserved word.Prop) T at → Leads (logic_sorts ∷ []) G T at (a_type 0 ∷ after_sort ∷ []) G at
-type_sorts G l n = types_alike 0 (after_sort ∷ []) [] G l (λ v t ts q. fails_1 _ _ (n.none t ts q)) (λ v. refl)
+type_sorts G l n = types_alike 0 (after_sort ∷ []) [] G l (λ v t ts q. cond-false _ _ _ (n.none t ts q)) (λ v. refl)
 
 pub lone_sort : {W : List Want} {G : List Part} {T : List Token} {at mid : ℕ} (f : Token) (a : Bool) (ns : List Span) (s : WrittenType) → Leads W G T at (after_sort ∷ []) (sort s ∷ names ns ∷ flag a ∷ token f ∷ []) mid → Lacks (kind.Sign sign.Arrow) T mid → Lacks (kind.Sign sign.Comma) T mid → Leads W G T at [] (decl (logic_of f a ns [] (a_sort s)) ∷ []) mid
-lone_sort f a ns s p n m = leads_on p (passes [] (sort s ∷ names ns ∷ flag a ∷ token f ∷ []) (decl (logic_of f a ns [] (a_sort s)) ∷ []) p.within (λ v. record { here = λ t ts q. fails_1 _ _ (n.none t ts q) ∙ fails_1 _ _ (m.none t ts q); end = refl }))
+lone_sort f a ns s p n m = leads_on p (passes [] (sort s ∷ names ns ∷ flag a ∷ token f ∷ []) (decl (logic_of f a ns [] (a_sort s)) ∷ []) p.within (λ v. record { here = λ t ts q. cond-false _ _ _ (n.none t ts q) ∙ cond-false _ _ _ (m.none t ts q); end = refl }))
 
 pub one_argument : {W : List Want} {G G' : List Part} {T : List Token} {at mid : ℕ} (s : WrittenType) → Leads W G T at (after_sort ∷ []) (sort s ∷ G') mid → Stands (kind.Sign sign.Arrow) T mid → Leads W G T at (a_result ∷ make be_symbols ∷ []) (sorts (s ∷ []) ∷ G') (mid + 1)
-one_argument {G' = G'} {T = T} {mid = mid} s p c = leads_on p (takes_at [] (sort s ∷ G') 0 (a_result ∷ make be_symbols ∷ []) (sorts (s ∷ []) ∷ G') c (λ v. holds_1 _ _ c.is) (omega arith))
+one_argument {G' = G'} {T = T} {mid = mid} s p c = leads_on p (takes_at [] (sort s ∷ G') 0 (a_result ∷ make be_symbols ∷ []) (sorts (s ∷ []) ∷ G') c (λ v. cond-true _ _ _ c.is) (omega arith))
 
 abbrev pub range_wants : List Want
 range_wants = past sign.Arrow 0 ∷ a_result ∷ make be_symbols ∷ []
 
 pub more_arguments : {W : List Want} {G G' : List Part} {T : List Token} {at mid : ℕ} (s : WrittenType) → Leads W G T at (after_sort ∷ []) (sort s ∷ G') mid → Lacks (kind.Sign sign.Arrow) T mid → Stands (kind.Sign sign.Comma) T mid → Leads W G T at (more of_types 0 ∷ range_wants) (sorts (s ∷ []) ∷ G') mid
 more_arguments {G' = G'} {T = T} {mid = mid} s p n c = leads_on p (
-    let i : IsAt T mid c.token = record { next = c.next; within = c.within } in
-    let x : Leads (after_sort ∷ []) (sort s ∷ G') T mid (a_type 0 ∷ make add ∷ more of_types 0 ∷ range_wants) (sorts (s ∷ []) ∷ G') (mid + 1) = takes [] (sort s ∷ G') 0 (a_type 0 ∷ make add ∷ more of_types 0 ∷ range_wants) (sorts (s ∷ []) ∷ G') i (λ v. fails_1 _ _ (n.none c.token (drop (mid + 1) T) c.next) ∙ holds_1 _ _ c.is) (omega arith) in
-    let y : Leads (more of_types 0 ∷ range_wants) (sorts (s ∷ []) ∷ G') T mid (a_type 0 ∷ make add ∷ more of_types 0 ∷ range_wants) (sorts (s ∷ []) ∷ G') (mid + 1) = takes range_wants (sorts (s ∷ []) ∷ G') 0 (a_type 0 ∷ make add ∷ more of_types 0 ∷ []) (sorts (s ∷ []) ∷ G') i (λ v. holds_1 _ _ c.is) (omega arith) in
+    let i : IsAt T mid c.token = record { next = c.next; within = c.within; room = c.room } in
+    let x : Leads (after_sort ∷ []) (sort s ∷ G') T mid (a_type 0 ∷ make add ∷ more of_types 0 ∷ range_wants) (sorts (s ∷ []) ∷ G') (mid + 1) = takes [] (sort s ∷ G') 0 (a_type 0 ∷ make add ∷ more of_types 0 ∷ range_wants) (sorts (s ∷ []) ∷ G') i (λ v. cond-false _ _ _ (n.none c.token (drop (mid + 1) T) c.next) ∙ cond-true _ _ _ c.is) (omega arith) in
+    let y : Leads (more of_types 0 ∷ range_wants) (sorts (s ∷ []) ∷ G') T mid (a_type 0 ∷ make add ∷ more of_types 0 ∷ range_wants) (sorts (s ∷ []) ∷ G') (mid + 1) = takes range_wants (sorts (s ∷ []) ∷ G') 0 (a_type 0 ∷ make add ∷ more of_types 0 ∷ []) (sorts (s ∷ []) ∷ G') i (λ v. cond-true _ _ _ c.is) (omega arith) in
     record { runs = λ ss v. x.runs ss v ∙ sym (y.runs ss v); further = omega arith; within = p.within })
 
 pub prop_result : {T : List Token} {at : ℕ} {t : Token} → IsAt T at t → same t.kind (kind.Reserved word.Prop) ≡ true → Leads (a_result ∷ []) [] T at [] (result (prop_at t) ∷ []) (at + 1)
-prop_result {t = t} i k = takes [] [] 0 [] (result (prop_at t) ∷ []) i (λ v. holds_1 _ _ k) (omega arith)
+prop_result {t = t} i k = takes [] [] 0 [] (result (prop_at t) ∷ []) i (λ v. cond-true _ _ _ k) (omega arith)
 
 pub type_result : {T : List Token} {at : ℕ} → at ≤ length T → Lacks (kind.Reserved word.Prop) T at → Leads (a_result ∷ []) [] T at (a_type 0 ∷ make sort_result ∷ []) [] at
-type_result l n = types_alike 0 (make sort_result ∷ []) [] [] l (λ v t ts q. fails_1 _ _ (n.none t ts q)) (λ v. refl)
+type_result l n = types_alike 0 (make sort_result ∷ []) [] [] l (λ v t ts q. cond-false _ _ _ (n.none t ts q)) (λ v. refl)
 
 -- ---- formals
 pub no_formals : {T : List Token} {at : ℕ} → Stands (kind.Sign sign.CloseParen) T at → Leads (formals_end ∷ []) [] T at [] (typeds [] ∷ []) (at + 1)
-no_formals {T} {at} c = takes_at [] [] 0 [] (typeds [] ∷ []) c (λ v. holds_1 _ _ c.is) (omega arith)
+no_formals {T} {at} c = takes_at [] [] 0 [] (typeds [] ∷ []) c (λ v. cond-true _ _ _ c.is) (omega arith)
 
 pub some_formals : {T : List Token} {at : ℕ} → at ≤ length T → Lacks (kind.Sign sign.CloseParen) T at → Leads (formals_end ∷ []) [] T at (items_wants of_formals 1 ++ past sign.CloseParen 0 ∷ []) [] at
-some_formals l n = keeps_alike kind.Ident 1 (past sign.Colon 1 ∷ a_type 1 ∷ make give_type ∷ make begin ∷ more of_formals 1 ∷ past sign.CloseParen 0 ∷ []) [] [] [] l (omega arith) (λ v t ts q. fails_1 _ _ (n.none t ts q)) (λ v. refl)
+some_formals l n = keeps_alike kind.Ident 1 (past sign.Colon 1 ∷ a_type 1 ∷ make give_type ∷ make begin ∷ more of_formals 1 ∷ past sign.CloseParen 0 ∷ []) [] [] [] l (omega arith) (λ v t ts q. cond-false _ _ _ (n.none t ts q)) (λ v. refl)
 
 pub bare_head : {T : List Token} {at : ℕ} → Stands (kind.Sign sign.Equal) T at → Leads (predicate_head ∷ []) [] T at [] (typeds [] ∷ []) (at + 1)
-bare_head {T} {at} c = takes_at [] [] 0 [] (typeds [] ∷ []) c (λ v. holds_1 _ _ c.is) (omega arith)
+bare_head {T} {at} c = takes_at [] [] 0 [] (typeds [] ∷ []) c (λ v. cond-true _ _ _ c.is) (omega arith)
 
 pub open_head : {T : List Token} {at : ℕ} {t : Token} → Lacks (kind.Sign sign.Equal) T at → IsAt T at t → same t.kind (kind.Sign sign.OpenParen) ≡ true → Leads (predicate_head ∷ []) [] T at (formals_end ∷ past sign.Equal 0 ∷ []) [] (at + 1)
-open_head {T} {at} {t} n i k = takes [] [] 1 (formals_end ∷ past sign.Equal 0 ∷ []) [] i (λ v. fails_1 _ _ (n.none t (drop (at + 1) T) i.next) ∙ holds_1 _ _ k) (omega arith)
+open_head {T} {at} {t} n i k = takes [] [] 1 (formals_end ∷ past sign.Equal 0 ∷ []) [] i (λ v. cond-false _ _ _ (n.none t (drop (at + 1) T) i.next) ∙ cond-true _ _ _ k) (omega arith)
 
 pub no_head : {T : List Token} {at : ℕ} {e : Refusal} → at ≤ length T → Lacks (kind.Sign sign.Equal) T at → Lacks (kind.Sign sign.OpenParen) T at → e ≡ Wrong at → Halts (predicate_head ∷ []) [] T at e
-no_head l n o h = stops_here [] [] l (λ v. record { here = λ t ts q. fails_1 _ _ (n.none t ts q) ∙ fails_1 _ _ (o.none t ts q); end = refl }) h
+no_head l n o h = stops_here [] [] l (λ v. record { here = λ t ts q. cond-false _ _ _ (n.none t ts q) ∙ cond-false _ _ _ (o.none t ts q); end = refl }) h
 
 -- ---- a declaration in a file
 grouped_end : (w : List Token) (X Y : List Want) (v : List Part) → judge w ((X ++ Y) ++ []) (v ++ []) ≡ judge w (X ++ Y) v

@@ -48,14 +48,14 @@ pub record Takes (s : Want) (d : ℕ) (new : List Want) (T : List Token) (at : �
 pub takes_or : (T : List Token) (at d n : ℕ) → Stands (kind.Reserved word.Or) T at → n ≡ suc d → Takes (more_or d) n (an_and n ∷ make (join op.Or) ∷ more_or n ∷ []) T at
 takes_or T at d n s e = subst (λ n. Takes (more_or d) n (an_and n ∷ make (join op.Or) ∷ more_or n ∷ []) T at) (sym e) (record {
   t = s.token;
-  here = record { next = s.next; within = s.within };
+  here = record { next = s.next; within = s.within; room = s.room };
   acts = λ v. ap (λ b. cond b (take (suc d) (an_and (suc d) ∷ make (join op.Or) ∷ more_or (suc d) ∷ []) v) (skip v)) s.is;
 })
 
 pub takes_and : (T : List Token) (at d n : ℕ) → Stands (kind.Reserved word.And) T at → n ≡ suc d → Takes (more_and d) n (an_not n ∷ make (join op.And) ∷ more_and n ∷ []) T at
 takes_and T at d n s e = subst (λ n. Takes (more_and d) n (an_not n ∷ make (join op.And) ∷ more_and n ∷ []) T at) (sym e) (record {
   t = s.token;
-  here = record { next = s.next; within = s.within };
+  here = record { next = s.next; within = s.within; room = s.room };
   acts = λ v. ap (λ b. cond b (take (suc d) (an_not (suc d) ∷ make (join op.And) ∷ more_and (suc d) ∷ []) v) (skip v)) s.is;
 })
 

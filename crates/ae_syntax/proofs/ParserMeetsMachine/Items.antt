@@ -23,7 +23,7 @@ use Rattle.ae_syntax.specs.declared.cursor.TheConstants.{DEPTH_LIMIT}
 pub takes_post : (T : List Token) (at d n : ℕ) → Stands (the_sign sign.Dot) T at → n ≡ suc d → Takes (more_post d) n (keep kind.Ident n ∷ make take_field ∷ more_post n ∷ []) T at
 takes_post T at d n s e = subst (λ n. Takes (more_post d) n (keep kind.Ident n ∷ make take_field ∷ more_post n ∷ []) T at) (sym e) (record {
   t = s.token;
-  here = record { next = s.next; within = s.within };
+  here = record { next = s.next; within = s.within; room = s.room };
   acts = λ v. ap (λ b. cond b (take (suc d) (keep kind.Ident (suc d) ∷ make take_field ∷ more_post (suc d) ∷ []) v) (skip v)) s.is;
 })
 
@@ -38,7 +38,7 @@ post_2 T at d n left whole t s e l i h g = subst (λ w. Reaches T (more_post d �
 
 -- ---- triggers, or none, with the point after them
 pub dot_done : (T : List Token) (at d : ℕ) (found : List Trigger) → at ≤ length T → d ≤ DEPTH_LIMIT → Stands (the_sign sign.Dot) T at → found ≡ [] → Done (triggers_or_dot d ∷ []) [] T 8 at (at + 1) (triggers found)
-dot_done T at d found w l s e = subst (λ z. Done (triggers_or_dot d ∷ []) [] T 8 at (at + 1) (triggers z)) (sym e) (done (then_takes d [] (triggers [] ∷ []) s.token (start T (triggers_or_dot d ∷ []) [] at w) (record { next = s.next; within = s.within }) l (λ v. ap (λ b. cond b (take d [] (triggers [] ∷ v)) (cond (same (let t = s.token in t.kind) (the_sign sign.OpenBracket)) (take (suc d) (items_wants of_triggers (suc d) ++ past sign.CloseBracket d ∷ past sign.Dot d ∷ []) v) refuse)) s.is)) (small_grip (drop (at + 1) T)))
+dot_done T at d found w l s e = subst (λ z. Done (triggers_or_dot d ∷ []) [] T 8 at (at + 1) (triggers z)) (sym e) (done (then_takes d [] (triggers [] ∷ []) s.token (start T (triggers_or_dot d ∷ []) [] at w) (record { next = s.next; within = s.within; room = s.room }) l (λ v. ap (λ b. cond b (take d [] (triggers [] ∷ v)) (cond (same (let t = s.token in t.kind) (the_sign sign.OpenBracket)) (take (suc d) (items_wants of_triggers (suc d) ++ past sign.CloseBracket d ∷ past sign.Dot d ∷ []) v) refuse)) s.is)) (small_grip (drop (at + 1) T)))
 
 pub no_squares : {A : Type 0} (part : A → Part) (T : List Token) (at d bound : ℕ) (e : Refusal) → at ≤ length T → Lacks (the_sign sign.Dot) T at → Lacks (the_sign sign.OpenBracket) T at → e ≡ Wrong at → Answered part (triggers_or_dot d ∷ []) [] T bound at (Err e)
 no_squares part T at d bound e w n m h = refusing part bound e (start T (triggers_or_dot d ∷ []) [] at w) (λ v. record { here = λ t ts q. ap (λ b. cond b (take d [] (triggers [] ∷ v)) (cond (same t.kind (the_sign sign.OpenBracket)) (take (suc d) (items_wants of_triggers (suc d) ++ past sign.CloseBracket d ∷ past sign.Dot d ∷ []) v) refuse)) (n.none t ts q) ∙ ap (λ b. cond b (take (suc d) (items_wants of_triggers (suc d) ++ past sign.CloseBracket d ∷ past sign.Dot d ∷ []) v) refuse) (m.none t ts q); end = refl }) h

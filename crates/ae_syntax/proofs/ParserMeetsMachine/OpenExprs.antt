@@ -18,6 +18,7 @@ use Rattle.ae_syntax.specs.Inner.Machine.{Want, Rule, an_expr, an_not, a_unary, 
 use Rattle.ae_syntax.specs.Inner.Reading.{Done, Answered, IsAt, Stands, Lacks, grip, distinct_wants}
 use Rattle.ae_syntax.proofs.ParserMeetsMachine.Steps.{Reaches, start, then_takes, then_makes, then_skips, then_reads, done, fails_on, sinking}
 use Rattle.ae_syntax.specs.declared.cursor.TheConstants.{DEPTH_LIMIT}
+use Rattle.std.proofs.lemmas.Option.{none-some}
 
 -- ---- a token that begins something
 pub record Begins (s : Want) (n : ℕ) (new : List Want) (T : List Token) (at : ℕ) (t : Token) : Type 0 where
@@ -101,13 +102,10 @@ act_if d v t (kind.Reserved word.If) h = refl
 act_if d v t (kind.Reserved word.Xor) h = absurd (false≢true h)
 act_if d v t k h = absurd (false≢true h)
 
-none_some : (q : Quantifier) → ◌≡◌ {A = Option Quantifier} None (Some q) → ⊥
-none_some q e = cc
-
 act_quantifies : (d : ℕ) (v : List Part) (t : Token) (k : TokenKind) (q : Quantifier) → quantifies k ≡ Some q → on_not d v t k ≡ opens (suc d) (block_wants (suc d)) (token t ∷ v)
 act_quantifies d v t (kind.Reserved word.Forall) q h = refl
 act_quantifies d v t (kind.Reserved word.Exists) q h = refl
-act_quantifies d v t k q h = absurd (none_some q h)
+act_quantifies d v t k q h = absurd (none-some q h)
 
 pub opens_let : (d n : ℕ) (t : Token) → same t.kind (kind.Reserved word.Let) ≡ true → n ≡ suc d → (v : List Part) → act (an_not d) v t t.kind ≡ opens n (let_wants n) (token t ∷ v)
 opens_let d n t h e v = subst (λ n. act (an_not d) v t t.kind ≡ opens n (let_wants n) (token t ∷ v)) (sym e) (act_let d v t t.kind h)
@@ -129,7 +127,7 @@ go_more : (r : Items) (d : ℕ) (v : List Part) (t : Token) (k : TokenKind) → 
 go_more r d v t k h = ap (λ b. cond b (take d (element_wants r d ++ make add ∷ more r d ∷ []) v) (skip v)) h
 
 items_next : (r : Items) (T : List Token) (from at d : ℕ) (q : Part) → Reaches T (items_wants r d) [] from (more r d ∷ []) (q ∷ []) at → Stands (the_sign (separator r)) T at → d ≤ DEPTH_LIMIT → Reaches T (items_wants r d) [] from ((element_wants r d ++ make add ∷ more r d ∷ []) ++ []) (q ∷ []) (at + 1)
-items_next r T from at d q p s l = then_takes d (element_wants r d ++ make add ∷ more r d ∷ []) (q ∷ []) s.token p (record { next = s.next; within = s.within }) l (λ v. go_more r d (q ∷ v) s.token (let t = s.token in t.kind) s.is)
+items_next r T from at d q p s l = then_takes d (element_wants r d ++ make add ∷ more r d ∷ []) (q ∷ []) s.token p (record { next = s.next; within = s.within; room = s.room }) l (λ v. go_more r d (q ∷ v) s.token (let t = s.token in t.kind) s.is)
 
 append_none : (xs : List Want) → xs ++ [] ≡ xs
 append_none [] = refl

@@ -1,5 +1,5 @@
 -- What the parser's functions answer, by the machine alone.
-use Rattle.std.specs.Prelude.{ℕ, suc, ◌+◌, ◌-◌, ◌≤◌, ◌<◌, List, [], ◌∷◌, ◌++◌, ◌≡◌, ◌⊎◌, true, false, length, drop, Option, Some, None, Result, Ok, Err}
+use Rattle.std.specs.Prelude.{ℕ, suc, ◌+◌, ◌-◌, ◌^◌, ◌≤◌, ◌<◌, List, [], ◌∷◌, ◌++◌, ◌≡◌, ◌⊎◌, true, false, length, drop, Option, Some, None, Result, Ok, Err}
 use Rattle.ae_lex.specs.declared.kinds.Token.{Token}
 use Rattle.ae_lex.specs.declared.kinds.TokenKind.{TokenKind}
 use Rattle.ae_lex.specs.declared.kinds.TokenKind.TheVariants as kind
@@ -61,10 +61,11 @@ Answered part wants given tokens bound at (Err Memory) = Unit {0}
 abbrev pub ExprAnswered : List Want → List Part → List Token → ℕ → ℕ → Result (Expr × ℕ) Refusal → Type 0
 ExprAnswered wants given tokens bound at r = Answered (λ e. tree e) wants given tokens bound at r
 
--- a token stands at a place
+-- a token stands at a place; `room` is the machine's: there are fewer tokens than numbers in 64 bits
 pub record IsAt (tokens : List Token) (at : ℕ) (t : Token) : Type 0 where
   pub next : drop at tokens ≡ t ∷ drop (at + 1) tokens
   pub within : at < length tokens
+  pub room : length tokens < 2 ^ 64
 
 -- a token of this kind stands there
 pub record Stands (kind : TokenKind) (tokens : List Token) (at : ℕ) : Type 0 where
@@ -72,6 +73,7 @@ pub record Stands (kind : TokenKind) (tokens : List Token) (at : ℕ) : Type 0 w
   pub is : same token.kind kind ≡ true
   pub next : drop at tokens ≡ token ∷ drop (at + 1) tokens
   pub within : at < length tokens
+  pub room : length tokens < 2 ^ 64
 
 -- no token of this kind stands there
 pub record Lacks (kind : TokenKind) (tokens : List Token) (at : ℕ) : Type 0 where
