@@ -1,0 +1,9 @@
+mod Entries
+mod Facts
+mod Symbols
+mod Rules
+mod Pairs
+mod Completed
+mod Others
+mod Lawful
+mod Equated
