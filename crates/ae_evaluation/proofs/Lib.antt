@@ -17,7 +17,7 @@ mod Depth
 pub mod SortFacts
 mod Constructors
 mod Shape
-mod Rules
+pub mod Rules
 mod Main
 mod Evaluates
 mod Exhausted

@@ -52,12 +52,12 @@ pub repetition_is_refused : RepetitionIsRefused
 repetition_is_refused bound a = repeated_rule_is_refused bound (a.0).fresh (a.0).lines
 
 -- ---- the width
+no_block : NoBlock sum_goal
+unfolding sum_goal
+no_block = equation (Apply (head.Int op.Add) [] (numeral ∷ numeral ∷ [])) (Num (pos 0) (pos 1) false)
+
 no_block_in_goal : (f : Formula) → goal_body sum_problem 0 ≡ Some f → NoBlock f
 no_block_in_goal f e = subst NoBlock (same_Some sum_goal f e) no_block
-  where
-    no_block : NoBlock sum_goal
-    unfolding sum_goal
-    no_block = equation (Apply (head.Int op.Add) [] (numeral ∷ numeral ∷ [])) (Num (pos 0) (pos 1) false)
 
 legal : (bound : ℕ) → IsLegalJournal sum_problem 0 bound empty_story
 legal bound = record {
@@ -111,6 +111,7 @@ licensed = record {
 }
 
 pub width_answers : WidthAnswers
+unfolding legal
 width_answers bound = record { legal = legal bound; within = omega arith; licensed = licensed }
 
 pub no_width_is_refused : NoWidthIsRefused

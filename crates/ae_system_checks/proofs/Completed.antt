@@ -48,7 +48,7 @@ completed_of sig y c = record {
   joins = c joins;
 }
 
-clauses_of : (sig : Signature) (y : System) → IsCompleted sig y → (part : Part) → Clause sig y part
+pub clauses_of : (sig : Signature) (y : System) → IsCompleted sig y → (part : Part) → Clause sig y part
 clauses_of sig y c terms =
     record { values = c.values; sorted = c.sorted; apart = c.apart; subterms = c.subterms; field_names = c.field_names }
 clauses_of sig y c leaves = record { normal = c.normal; over = c.over; predicate_value = c.predicate_value }

@@ -7,3 +7,6 @@ mod Completed
 mod Others
 mod Lawful
 mod Equated
+mod Decide
+mod Tests
+mod Overlaps

@@ -6,6 +6,7 @@ ghost use Rattle.ae_system_checks.specs.Clauses.{FailsAlone};
 ghost use Rattle.ae_system_checks.specs.Clauses.Part.{terms, leaves, computing, records, congruence, rules, reduction, overlaps, joins};
 ghost use Rattle.ae_system_checks.specs.Examples.{signature, overlapping, second_leaf, equated, equation};
 ghost use Rattle.ae_system_checks.specs.Examples.{named_twice, crossed, opaque_numeral, other_field, incongruent, single_left, reducible, apart, without_rule};
+ghost use Rattle.ae_system_checks.specs.Tests.{HasTest, ClauseHasTest, OverlapsHaveTest, JoinsHaveTest};
 ghost use Rattle.ae_system_checks.specs.Laws.{NineClauses, LeafOfOther, EquationsFollowPlainly, EquationsFollow};
 
 /// A system is completed exactly where each of the nine clauses holds of it.
@@ -45,4 +46,18 @@ pub fn laws_on_equal_names_apply()
     ensures plain { NamesArePlain signature equated }
     ensures follow_plainly { EquationsFollowPlainly }
     ensures follow { EquationsFollow }
+{}
+
+/// Whether a system is completed can be tested, clause by clause.
+pub fn completed_can_be_tested()
+    ensures terms { ClauseHasTest terms }
+    ensures leaves { ClauseHasTest leaves }
+    ensures computing { ClauseHasTest computing }
+    ensures records { ClauseHasTest records }
+    ensures congruence { ClauseHasTest congruence }
+    ensures rules { ClauseHasTest rules }
+    ensures reduction { ClauseHasTest reduction }
+    ensures overlaps { OverlapsHaveTest }
+    ensures joins { JoinsHaveTest }
+    ensures all { HasTest IsCompleted }
 {}
