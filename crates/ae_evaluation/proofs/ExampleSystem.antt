@@ -132,7 +132,7 @@ once_sum : (k : ℕ) → sum_of_lin (itself k) ≡ record { parts = (k, one_ℚ)
 unfolding one_ℚ zero_ℚ
 once_sum k = ap (λ b. record { parts = cond b [] ((k, frac (pos 1) 0) ∷ []); constant = frac (pos 0) 0 }) one_counts
 
-number_at : (k : ℕ) → meaning (Number (itself k)) ≡ once k
+pub number_at : (k : ℕ) → meaning (Number (itself k)) ≡ once k
 unfolding meaning
 number_at k =
     ap meaning (sym (rolls-Number (itself k))) ∙ fold-roll-Value Val meaning_step (value_layer.Number (itself k)) ∙ ap number (once_sum k)
@@ -159,7 +159,7 @@ r_value = ap (λ v. Some v) record_at
 pub field_value : value_at system 4 ≡ Some (once 4)
 field_value = ap (λ v. Some v) (number_at 4)
 
-leaf_at : (k : ℕ) → meaning (Leaf k) ≡ leaf k
+pub leaf_at : (k : ℕ) → meaning (Leaf k) ≡ leaf k
 unfolding meaning
 leaf_at k = ap meaning (sym (rolls-Leaf k)) ∙ fold-roll-Value Val meaning_step (value_layer.Leaf k)
 
@@ -239,7 +239,7 @@ r_field_terms : field_terms R r 1 ≡ field ∷ []
 r_field_terms = ap (λ f. field_terms_of f r 1) (outs-Named 0 [])
 
 -- ---- names of `real` that are their own values
-own_real : (k : ℕ) → own Real k ≡ once k
+pub own_real : (k : ℕ) → own Real k ≡ once k
 own_real k = ap (λ b. cond b (once k) (leaf k)) (of_numeric Real (inr refl))
 
 real_leaf : (k : ℕ) (t : Term) → IsName system k t → sort_of signature t ≡ Some Real → value_at system k ≡ Some (once k)
@@ -373,10 +373,10 @@ normal_once k = record {
     one_is_not : pos 1 ≡ pos 0 → ⊥
     one_is_not e = cc
 
-normal_number : (k : ℕ) → IsNormalValue (Number (itself k))
+pub normal_number : (k : ℕ) → IsNormalValue (Number (itself k))
 normal_number k = subst (AllByRecursion IsNormal) (sym (forms-Number (itself k))) (normal_once k, tt)
 
-forms-Fields : (v : Value) → forms_in (FieldValues (v ∷ [])) ≡ forms_in v ++ []
+pub forms-Fields : (v : Value) → forms_in (FieldValues (v ∷ [])) ≡ forms_in v ++ []
 unfolding forms_in
 forms-Fields v = ap forms_in (sym (rolls-Fields (v ∷ []))) ∙ fold-roll-Value (List Lin) forms_step (value_layer.Fields (v ∷ []))
 
@@ -385,12 +385,12 @@ normal_record =
     subst (AllByRecursion IsNormal) (sym (forms-Fields (Number (itself 4)) ∙ ap (λ fs. fs ++ []) (forms-Number (itself 4))))
     (normal_once 4, tt)
 
-leaf_forms : (k : ℕ) → forms_in (Leaf k) ≡ []
+pub leaf_forms : (k : ℕ) → forms_in (Leaf k) ≡ []
 unfolding forms_in
 leaf_forms k = ap forms_in (sym (rolls-Leaf k)) ∙ fold-roll-Value (List Lin) forms_step (value_layer.Leaf k)
 
-normal_leaf : IsNormalValue (Leaf 5)
-normal_leaf = subst (AllByRecursion IsNormal) (sym (leaf_forms 5)) tt
+pub normal_leaf : (k : ℕ) → IsNormalValue (Leaf k)
+normal_leaf k = subst (AllByRecursion IsNormal) (sym (leaf_forms k)) tt
 
 normal : (n : ℕ) (v : Value) → slice_get system.values n ≡ Some v → IsNormalValue v
 normal zero v e = subst IsNormalValue (same_Some (Number (itself 0)) v e) (normal_number 0)
@@ -398,8 +398,8 @@ normal (suc zero) v e = subst IsNormalValue (same_Some (Number (itself 0)) v e) 
 normal (suc (suc zero)) v e = subst IsNormalValue (same_Some (Number (itself 2)) v e) (normal_number 2)
 normal (suc (suc (suc zero))) v e = subst IsNormalValue (same_Some (FieldValues (Number (itself 4) ∷ [])) v e) normal_record
 normal (suc (suc (suc (suc zero)))) v e = subst IsNormalValue (same_Some (Number (itself 4)) v e) (normal_number 4)
-normal (suc (suc (suc (suc (suc zero))))) v e = subst IsNormalValue (same_Some (Leaf 5) v e) normal_leaf
-normal (suc (suc (suc (suc (suc (suc zero)))))) v e = subst IsNormalValue (same_Some (Leaf 5) v e) normal_leaf
+normal (suc (suc (suc (suc (suc zero))))) v e = subst IsNormalValue (same_Some (Leaf 5) v e) (normal_leaf 5)
+normal (suc (suc (suc (suc (suc (suc zero)))))) v e = subst IsNormalValue (same_Some (Leaf 5) v e) (normal_leaf 5)
 normal (suc (suc (suc (suc (suc (suc (suc n))))))) v e = absurd (no_entry n v e)
 
 -- ---- nothing is computed: neither factor of the product is constant

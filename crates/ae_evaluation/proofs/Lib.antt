@@ -1,9 +1,9 @@
 mod Facts
-mod Decisions
+pub mod Decisions
 mod Sums
 mod Linear
 mod Congruence
-mod Plainness
+pub mod Plainness
 mod Folds
 mod Joins
 mod Products
@@ -11,13 +11,13 @@ mod Reductions
 mod Records
 mod Found
 mod Sane
-mod Names
+pub mod Names
 mod Respect
 mod Depth
-mod SortFacts
+pub mod SortFacts
 mod Constructors
 mod Shape
-mod Rules
+pub mod Rules
 mod Main
 mod Evaluates
 mod Exhausted
@@ -31,7 +31,7 @@ mod FreshValues
 mod KeptTerms
 mod ClosedItems
 mod GroundProofs
-mod Exact
-mod ExampleSystem
+pub mod Exact
+pub mod ExampleSystem
 mod ExampleState
 mod Constructed

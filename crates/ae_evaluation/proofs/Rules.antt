@@ -9,6 +9,7 @@ use Rattle.ae_core.specs.Sorts.{same_sorts}
 use Rattle.ae_core.specs.declared.terms.Sort.{Sort}
 use Rattle.ae_core.specs.declared.terms.Head.{Head}
 use Rattle.ae_core.specs.declared.problems.Signature.{Signature}
+use Rattle.ae_multiset.specs.Multisets.{IsLess}
 use Rattle.ae_multiset.specs.Rewriting.{ReducesTo}
 use Rattle.ae_multiset.specs.Rewriting.ReducesTo.{done, more}
 use Rattle.ae_multiset.specs.Normal as normal
@@ -84,13 +85,16 @@ module _ (R S : List ℕ → List ℕ → Type 0) (to : (l r : List ℕ) → R l
       more (record { left = s.left; right = s.right; rule = to s.left s.right s.rule; rest = s.rest; before = s.before; after = s.after })
       (follows_by f)
 
+-- the normal forms of rules that fall
+pub reduction_of : (y : System) → ((k : ℕ) (e : RuleEntry) → slice_get y.rules k ≡ Some e → IsLess e.right e.left) → Reduction y (reduced_by y)
+reduction_of y falls h ss =
+    let nf = is_normal_form (sides_at h ss y.rules) (λ l r i. let q = from_sides y.rules h ss l r i in falls q.0 _ q.1) in
+    record {
+      follows = λ a. follows_by (normal.IsRule (sides_at h ss y.rules)) (IsRule y h ss) (from_sides y.rules h ss) (nf.follows a);
+      reduced = λ a l r i p. nf.reduced a l r (to_sides y.rules h ss l r i) p;
+      rises = nf.rises;
+    }
+
 module _ (sig : Signature) (y : System) (completed : IsCompleted sig y) where
   pub reduction : Reduction y (reduced_by y)
-  reduction h ss =
-      let nf =
-      is_normal_form (sides_at h ss y.rules) (λ l r i. let q = from_sides y.rules h ss l r i in (completed.rules_fit q.0 _ q.1).falls) in
-      record {
-        follows = λ a. follows_by (normal.IsRule (sides_at h ss y.rules)) (IsRule y h ss) (from_sides y.rules h ss) (nf.follows a);
-        reduced = λ a l r i p. nf.reduced a l r (to_sides y.rules h ss l r i) p;
-        rises = nf.rises;
-      }
+  reduction = reduction_of y (λ k e i. (completed.rules_fit k e i).falls)

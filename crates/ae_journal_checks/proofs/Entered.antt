@@ -20,7 +20,7 @@ use Rattle.ae_journal.specs.declared.lines.Line.{Line}
 use Rattle.ae_journal_checks.specs.Examples.{problem, story, constant, u, goal, first_equation, others}
 use Rattle.ae_journal_checks.proofs.Terms.{a, b, ab, d, ad, c}
 
-outside_eq : (s t : Term) → outside (Eq s t) ≡ s ∷ t ∷ []
+pub outside_eq : (s t : Term) → outside (Eq s t) ≡ s ∷ t ∷ []
 unfolding outside
 outside_eq s t = fold_eq (List Term) (Unit {0}) outside_step (λ q. tt) s t
 

@@ -6,3 +6,4 @@ pub mod DecisionJournal
 pub mod InstanceLine
 pub mod LearntJournal
 pub mod BackJournal
+mod AnswerExamples

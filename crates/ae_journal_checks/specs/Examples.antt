@@ -1,7 +1,8 @@
 -- The goal `u(a, b) = c -> u(a, d) = e -> u(c, d) = u(e, b)` for an associative and commutative u over an abstract type, and two journals for it, of one line and of four.
-use Rattle.std.specs.Prelude.{ℕ, List, [], ◌∷◌, Some}
+use Rattle.std.specs.Prelude.{ℕ, ℤ, pos, false, List, [], ◌∷◌, Some, None}
 use Rattle.ae_core.specs.declared.terms.Sort.{Sort, Named}
-use Rattle.ae_core.specs.declared.terms.Term.{Term, Bound, Apply}
+use Rattle.ae_core.specs.declared.terms.Term.{Term, Bound, Num, Apply}
+use Rattle.ae_core.specs.declared.terms.Op.TheVariants as op
 use Rattle.ae_core.specs.declared.terms.Head.TheVariants as head
 use Rattle.ae_core.specs.declared.formulas.Formula.{Formula, True, Eq, Not, Or, Ex}
 use Rattle.ae_core.specs.declared.formulas.Quant.{Quant}
@@ -13,7 +14,11 @@ use Rattle.ae_core.specs.declared.problems.Problem.{Problem}
 use Rattle.ae_core.specs.declared.problems.Item.TheVariants.{Goal}
 use Rattle.ae_core.specs.declared.problems.AcSymbol.{AcSymbol}
 use Rattle.ae_rules.specs.Clauses.{is_true}
+use Rattle.ae_num.specs.declared.forms.Lin.{Lin}
 use Rattle.ae_num.specs.declared.forms.Value.{Leaf}
+use Rattle.ae_num.specs.declared.numbers.NumOp.TheVariants as num_op
+use Rattle.ae_journal.specs.declared.answers.NumStep.TheVariants as step
+use Rattle.ae_journal.specs.declared.answers.WideAt.{WideAt}
 use Rattle.ae_journal.specs.declared.lines.Oriented.TheVariants as oriented
 use Rattle.ae_journal.specs.declared.lines.Line.{Line}
 use Rattle.ae_journal.specs.declared.lines.Line.TheVariants as line
@@ -154,3 +159,30 @@ back_problem = record { signature = function_signature; items = Goal (103 ∷ []
 
 abbrev pub back_story : Story
 back_story = record { names = []; lines = line.Decide (is_true first_choice) ∷ instance_line ∷ line.Back 0 ∷ [] }
+
+-- ---- the goal `n + n = 0` for the greatest numeral n, whose sum leaves the limits, and a journal without lines
+abbrev pub greatest : ℤ
+greatest = pos 170141183460469231731687303715884105727
+
+unfoldable pub numeral : Term
+numeral = Num greatest (pos 1) false
+
+unfoldable pub sum_goal : Formula
+sum_goal = Eq (Apply (head.Int op.Add) [] (numeral ∷ numeral ∷ [])) (Num (pos 0) (pos 1) false)
+
+abbrev pub sum_problem : Problem
+sum_problem = record { signature = signature; items = Goal (103 ∷ []) 0 sum_goal ∷ [] }
+
+abbrev pub empty_story : Story
+empty_story = record { names = []; lines = [] }
+
+abbrev pub whole : ℤ → Lin
+whole z = record { den = pos 1; parts = []; constant = z }
+
+-- the sum of two numbers as a step that leaves the limits
+abbrev pub sum_of : ℤ → WideAt
+sum_of z = record { step = step.Plus; left = whole z; key = None; right = whole z; wide = record { op = num_op.Add; left = z; right = z } }
+
+-- ---- the first journal with its line twice
+abbrev pub repeated_story : Story
+repeated_story = record { names = names; lines = rule_line ∷ rule_line ∷ [] }

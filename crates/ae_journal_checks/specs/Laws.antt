@@ -1,9 +1,13 @@
 -- The laws, as statements.
-use Rattle.std.specs.Prelude.{ℕ, ◌<◌, [], ◌∷◌, ◌≡◌, ◌≢◌}
+use Rattle.std.specs.Prelude.{ℕ, pos, ◌<◌, [], ◌∷◌, ◌≡◌, ◌≢◌}
+use Rattle.ae_core.specs.declared.problems.Problem.{Problem}
 use Rattle.ae_core.specs.declared.formulas.Formula.{Formula}
 use Rattle.ae_journal.specs.Journals.{counted_in}
+use Rattle.ae_journal.specs.Answers.{IsAnswer}
+use Rattle.ae_journal.specs.declared.answers.Answer.TheVariants.{Valid, Steps, Number}
+use Rattle.ae_journal.specs.declared.lines.Story.{Story}
 use Rattle.ae_journal.specs.Legal.{IsLegalLine, AreLegal, IsLegalJournal, setting}
-use Rattle.ae_journal_checks.specs.Examples.{problem, story, longer_story, choice_problem, choice_story, true_problem, true_story, back_problem, back_story, instance_problem, instance_story, instance_line, rule_line}
+use Rattle.ae_journal_checks.specs.Examples.{problem, story, longer_story, choice_problem, choice_story, true_problem, true_story, back_problem, back_story, instance_problem, instance_story, instance_line, rule_line, repeated_story, sum_problem, empty_story, sum_of, greatest}
 
 -- the journal is legal for each bound, with exactly one counted line
 abbrev pub OneRuleIsLegal : Type 0
@@ -35,3 +39,25 @@ OneLearntClauseIsLegal = (bound : ℕ) → IsLegalJournal true_problem 0 bound t
 -- a decision, an instance and going back behind the decision are legal lines
 abbrev pub GoingBackIsLegal : Type 0
 GoingBackIsLegal = (bound : ℕ) (fresh : Formula → ℕ) → 0 < bound → AreLegal (setting back_problem 0 back_story fresh) bound [] back_story.lines
+
+-- ---- answers
+-- a journal answers where it is legal and has as many counted lines as the limit says
+abbrev pub StepsAnswer : Type 0
+StepsAnswer = (bound : ℕ) → IsAnswer problem 0 1 bound (Steps story)
+
+abbrev pub OtherLimitIsRefused : Type 0
+OtherLimitIsRefused = (bound : ℕ) → ¬ IsAnswer problem 0 2 bound (Steps story)
+
+abbrev pub RepetitionIsRefused : Type 0
+RepetitionIsRefused = (bound : ℕ) → ¬ IsAnswer problem 0 2 bound (Steps repeated_story)
+
+-- a sum of a named sum's operands that leaves the limits is an answer, and one that doesn't leave them is none, whatever the journal
+abbrev pub WidthAnswers : Type 0
+WidthAnswers = (bound : ℕ) → IsAnswer sum_problem 0 0 bound (Number empty_story (sum_of greatest))
+
+abbrev pub NoWidthIsRefused : Type 0
+NoWidthIsRefused = (p : Problem) (g limit bound : ℕ) (journal : Story) → ¬ IsAnswer p g limit bound (Number journal (sum_of (pos 1)))
+
+-- no list of lines without one is a derivation
+abbrev pub EmptyProofIsRefused : Type 0
+EmptyProofIsRefused = (p : Problem) (g limit bound : ℕ) → ¬ IsAnswer p g limit bound (Valid (record { lines = [] }))

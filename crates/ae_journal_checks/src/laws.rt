@@ -1,5 +1,6 @@
 //! Laws of examples.
 ghost use Rattle.ae_journal_checks.specs.Laws.{OneRuleIsLegal, RepeatedRuleIsRefused, NothingIsCounted, FourLinesAreLegal, OneDecisionIsLegal, OneInstanceMayCome, OneLearntClauseIsLegal, GoingBackIsLegal};
+ghost use Rattle.ae_journal_checks.specs.Laws.{StepsAnswer, OtherLimitIsRefused, RepetitionIsRefused, WidthAnswers, NoWidthIsRefused, EmptyProofIsRefused};
 
 /// A journal of one rule is legal, with one counted line.
 pub fn one_rule_is_legal()
@@ -39,4 +40,22 @@ pub fn one_learnt_clause_is_legal()
 /// A decision, an instance and going back behind the decision are legal lines.
 pub fn going_back_is_legal()
     ensures { GoingBackIsLegal }
+{}
+
+/// A journal is an answer with the limit that it reaches, and with no other; a journal that isn't legal is none.
+pub fn journals_answer()
+    ensures accepted { StepsAnswer }
+    ensures other_limit { OtherLimitIsRefused }
+    ensures repetition { RepetitionIsRefused }
+{}
+
+/// A sum of the operands of a named sum is an answer where it leaves the limits, and only there.
+pub fn widths_answer()
+    ensures accepted { WidthAnswers }
+    ensures within { NoWidthIsRefused }
+{}
+
+/// A proof without lines is no answer.
+pub fn empty_proofs_do_not_answer()
+    ensures { EmptyProofIsRefused }
 {}

@@ -1,0 +1,8 @@
+use Rattle.ae_journal_checks.proofs.AnswerExamples.{width_answers, no_width_is_refused}
+use Rattle.ae_journal_checks.proofs.laws.widths_answer.Goals as goal
+
+pub returns-clause-accepted : goal.returns-clause-accepted
+returns-clause-accepted c = width_answers
+
+pub returns-clause-within : goal.returns-clause-within
+returns-clause-within c = no_width_is_refused

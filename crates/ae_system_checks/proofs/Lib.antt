@@ -1,0 +1,12 @@
+mod Entries
+mod Facts
+mod Symbols
+mod Rules
+mod Pairs
+mod Completed
+mod Others
+mod Lawful
+mod Equated
+mod Decide
+mod Tests
+mod Overlaps

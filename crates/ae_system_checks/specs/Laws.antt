@@ -1,0 +1,26 @@
+-- The laws, as statements.
+use Rattle.std.specs.Prelude.{ℕ, ◌<◌, ◌≡◌, ◌↔◌, Some}
+use Rattle.ae_core.specs.declared.problems.Signature.{Signature}
+use Rattle.ae_core.specs.declared.terms.Term.{Term}
+use Rattle.ae_rules.specs.Lines.{PlainConseq, Conseq}
+use Rattle.ae_journal.specs.Values.{leaf}
+use Rattle.ae_journal.specs.Systems.{IsCompleted, IsEquation, IsLeaf, Represents}
+use Rattle.ae_journal.specs.declared.systems.System.{System}
+use Rattle.ae_evaluation.specs.Consequences.{Stated}
+use Rattle.ae_system_checks.specs.Clauses.{Part, Clause}
+use Rattle.ae_system_checks.specs.Examples.{signature, T, second_leaf, equated, equation}
+
+-- a system is completed exactly where each of the nine clauses holds
+abbrev pub NineClauses : Type 0
+NineClauses = (sig : Signature) (y : System) → IsCompleted sig y ↔ ((part : Part) → Clause sig y part)
+
+-- a leaf that a smaller name represents
+abbrev pub LeafOfOther : Type 0
+LeafOfOther = IsLeaf signature second_leaf T 1 × Represents signature second_leaf T (leaf 1) 0
+
+-- the system's equations follow from the stated one, within the plain terms and in general
+abbrev pub EquationsFollowPlainly : Type 0
+EquationsFollowPlainly = (s t : Term) → IsEquation signature equated s t → PlainConseq signature (Stated equation) s t
+
+abbrev pub EquationsFollow : Type 0
+EquationsFollow = (s t : Term) → IsEquation signature equated s t → Conseq signature (Stated equation) s t
