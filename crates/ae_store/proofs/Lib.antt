@@ -10,4 +10,5 @@ pub mod FieldLaws
 pub mod NodeSortLaws
 pub mod PartLaws
 pub mod AgeLaws
+pub mod NestLaws
 pub mod SortedLaws

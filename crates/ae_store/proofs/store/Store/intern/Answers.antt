@@ -8,7 +8,9 @@ use Rattle.ae_store.specs.Terms.{IsSound, HasOneName, AreSorted}
 use Rattle.ae_store.specs.Fields.{HasFields, News}
 use Rattle.ae_store.specs.Parts.{Added, HasAges}
 use Rattle.ae_store.proofs.FieldLaws.{fields_more}
+use Rattle.ae_store.specs.Parts.{AreNested}
 use Rattle.ae_store.proofs.AgeLaws.{shapes_aged_all, ages}
+use Rattle.ae_store.proofs.NestLaws.{nested}
 use Rattle.ae_store.proofs.store.Store.intern.Goals as goal
 
 pub returns-in-Ok-clause-keeps : goal.returns-in-Ok-clause-keeps
