@@ -9,7 +9,6 @@ use Rattle.ae_store.specs.declared.nodes.Node.{Node}
 use Rattle.ae_store.specs.declared.nodes.Shape.{Shape}
 use Rattle.ae_store.specs.Shapes.{shape_of, shapes, aged, aged_at, aged_all}
 use Rattle.ae_store.specs.Terms.{terms, term_of, IsSound}
-use Rattle.std.specs.List.{AllByRecursion}
 use Rattle.ae_store.specs.Names.{AreWithin}
 use Rattle.ae_store.specs.Growing.{IsFront}
 use Rattle.ae_store.specs.Parts.{IsIn, IsPart, root, argument, field, HasAges, IsTouched, Added}

@@ -1,6 +1,6 @@
 -- A part of a name keeps at most the name's generation when a term is entered.
-use Rattle.std.specs.Prelude.{ℕ, min, ◌<◌, ◌≤◌, ◌⊎◌, List, [], ◌∷◌, ◌≡◌, length, slice_get, Option, Some}
-use Rattle.std.proofs.Common.{refl, sym, ap, ◌∙◌, subst, arith, inl, inr}
+use Rattle.std.specs.Prelude.{ℕ, min, ◌<◌, ◌≤◌, List, [], ◌∷◌, ◌≡◌, length, slice_get, Option, Some}
+use Rattle.std.proofs.Common.{sym, ap, ◌∙◌, subst, arith, inl, inr}
 use Rattle.std.proofs.lemmas.Bool.{cases_lt}
 use Rattle.std.proofs.lemmas.List.{length-map}
 use Rattle.std.proofs.lemmas.Option.{slice_get_within}
@@ -13,7 +13,7 @@ use Rattle.ae_store.specs.Shapes.{shape_of, shapes, aged}
 use Rattle.ae_store.specs.Terms.{terms, term_of, applied, IsSound}
 use Rattle.ae_store.specs.Growing.{IsFront}
 use Rattle.ae_store.specs.Fields.{field_head, sort_args, HasFields}
-use Rattle.ae_store.specs.Parts.{IsIn, IsPart, root, argument, field, HasAges, AreNested}
+use Rattle.ae_store.specs.Parts.{IsPart, root, argument, field, HasAges, AreNested}
 use Rattle.ae_store.proofs.TermLaws.{term_at}
 use Rattle.ae_store.proofs.FieldLaws.{shape_kept}
 use Rattle.ae_store.proofs.PartLaws.{is_one, shape_back, part_under}

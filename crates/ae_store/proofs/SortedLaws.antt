@@ -1,35 +1,29 @@
 -- Terms that may be entered are of the sorts of their nodes, and so are their fields.
-use Rattle.std.specs.Prelude.{ℕ, ℤ, ◌<◌, ◌⊎◌, Bool, true, false, cond, ◌&&◌, ◌||◌, nat_eq, List, [], ◌∷◌, ◌≡◌, map, length, slice_get, Option, Some, None}
+use Rattle.std.specs.Prelude.{ℕ, ℤ, ◌<◌, Bool, true, false, cond, ◌||◌, List, [], ◌∷◌, ◌≡◌, map, length, slice_get, Option, Some, None}
 use Rattle.std.specs.List.{list_all}
 use Rattle.std.proofs.Common.{refl, sym, ap, ◌∙◌, subst, arith, inl, inr}
 use Rattle.std.proofs.lemmas.Bool.{and_parts, or_cases}
 use Rattle.ae_base.proofs.Tests.{false_true}
 use Rattle.ae_base.proofs.Options.{known_some}
 use Rattle.ae_core.proofs.ClosedSorts.{applied_is, field_sorted}
-use Rattle.std.proofs.lemmas.Bool.Decides.{nat_tests}
 use Rattle.std.proofs.lemmas.List.{length-map}
 use Rattle.std.proofs.lemmas.Option.{slice_get_within}
-use Rattle.ae_base.specs.Decided.{decided}
-use Rattle.ae_core.specs.Decided.{Sorts_discrete}
-use Rattle.ae_base.specs.Options.{or_else, ◌>>=◌, only, when, all_known, known}
+use Rattle.ae_base.specs.Options.{or_else, ◌>>=◌, when, all_known, known}
 use Rattle.ae_core.specs.Putting.{put_sort}
-use Rattle.ae_core.specs.Sorts.{type_fits, is_closed_sort, head_sort, field_sort, field_at, same_sorts, sort_of, numeral_ok, applied_ok, predicate_ok, predicate_fits}
+use Rattle.ae_core.specs.Sorts.{is_closed_sort, sort_of, numeral_ok, applied_ok, predicate_ok, predicate_fits}
 use Rattle.ae_core.specs.Signatures.{fields_of, IsLawful}
-use Rattle.ae_core.proofs.SortLaws.{ok_named, ok_int, ok_real, sort_in_bound, sort_in_num, sort_in_fresh, sort_in_apply}
+use Rattle.ae_core.proofs.SortLaws.{sort_in_num, sort_in_fresh}
 use Rattle.ae_core.specs.declared.terms.Sort.{Sort, Sort-F, Int, Real, Bool as BoolSort, Named, out-Sort}
 use Rattle.ae_core.specs.declared.terms.Sort.TheOpen as sort_layer
 use Rattle.ae_core.specs.declared.terms.Sort.TheVariants.{outs-Named, outs-Bool}
 use Rattle.ae_core.specs.declared.terms.Head.{Head}
 use Rattle.ae_core.specs.declared.terms.Head.TheVariants as head
-use Rattle.ae_core.specs.declared.terms.Term.{Term, Term-F, Bound, Num, Fresh, Apply, out-Term, roll-Term, roll-out-Term}
+use Rattle.ae_core.specs.declared.terms.Term.{Term, Bound, Num, Fresh, Apply, out-Term}
 use Rattle.ae_core.specs.declared.terms.Term.TheOpen as layer
-use Rattle.ae_core.specs.declared.terms.Term.TheVariants.{outs-Apply, outs-Num, outs-Fresh, rolls-Bound, rolls-Num, rolls-Fresh, rolls-Apply}
+use Rattle.ae_core.specs.declared.terms.Term.TheVariants.{outs-Apply, outs-Num, outs-Fresh}
 use Rattle.ae_core.specs.declared.problems.Signature.{Signature}
 use Rattle.ae_core.specs.declared.problems.SymbolEntry.{SymbolEntry}
 use Rattle.ae_core.specs.declared.problems.TypeEntry.{TypeEntry}
-use Rattle.ae_core.specs.declared.problems.FieldEntry.{FieldEntry}
-use Rattle.ae_core.specs.declared.problems.Kind.{Kind}
-use Rattle.ae_core.specs.declared.problems.Kind.TheVariants.{Abstract, Choices, Fields}
 use Rattle.ae_store.specs.declared.nodes.Node.{Node}
 use Rattle.ae_store.specs.declared.nodes.Shape.{Shape}
 use Rattle.ae_store.specs.Shapes.{shape_of, shapes}

@@ -1,12 +1,11 @@
 -- The terms of shapes: one more at the end, each by its own shape, and different ones of different shapes.
-use Rattle.std.specs.Prelude.{ℕ, ℤ, zero, suc, ◌+◌, ◌<◌, ◌≤◌, ◌⊎◌, Bool, true, false, List, [], ◌∷◌, ◌++◌, ◌≡◌, ◌≢◌, map, length, slice_get, Option, Some}
+use Rattle.std.specs.Prelude.{ℕ, ℤ, zero, suc, ◌+◌, ◌<◌, ◌≤◌, ◌⊎◌, Bool, List, [], ◌∷◌, ◌++◌, ◌≡◌, ◌≢◌, map, length, slice_get, Option, Some}
 use Rattle.std.specs.List.{AllByRecursion}
 use Rattle.std.proofs.Common.{refl, sym, ap, ◌∙◌, inl, inr, arith, subst, length-append}
 use Rattle.ae_base.proofs.Decided.{decided_yes, decided_of}
 use Rattle.std.proofs.lemmas.Option.{slice_get_within}
 use Rattle.ae_base.specs.Options.{or_else}
 use Rattle.ae_core.specs.Sorts.{same_sort}
-use Rattle.ae_base.specs.Decided.{decided}
 use Rattle.ae_core.specs.Decided.{Sort_discrete}
 use Rattle.ae_core.specs.declared.terms.Sort.{Sort, Int, Real}
 use Rattle.ae_core.specs.declared.terms.Sort.TheOpen as sort_layer

@@ -8,7 +8,6 @@ use Rattle.ae_store.specs.Terms.{IsSound, HasOneName, AreSorted}
 use Rattle.ae_store.specs.Fields.{HasFields, News}
 use Rattle.ae_store.specs.Parts.{Added, HasAges}
 use Rattle.ae_store.proofs.FieldLaws.{fields_more}
-use Rattle.ae_store.specs.Parts.{AreNested}
 use Rattle.ae_store.proofs.AgeLaws.{shapes_aged_all, ages}
 use Rattle.ae_store.proofs.NestLaws.{nested}
 use Rattle.ae_store.proofs.store.Store.intern.Goals as goal
@@ -28,13 +27,26 @@ returns-in-Ok-clause-fields c =
 pub invariant_of-self : goal.invariant_of-self
 invariant_of-self c =
     let S = c.self.inside.signature in
+    let ns = c.self.inside.nodes in
+    let ms = c.enter_term.new.nodes in
+    let g = c.args.generation in
+    let n = c.in-Ok.name in
     let same : c.args.signature.now ≡ S = c.requires.same ∙ sym (ap (λ s. s.signature) c.self.view_is) in
     let news : News S c.self.inside.nodes c.enter_term.new.nodes = subst (λ (g : Signature). News g c.self.inside.nodes c.enter_term.new.nodes) same c.in-Ok.ensures.news in
-    let sound : IsSound S (shapes c.enter_term.new.nodes) = subst (λ (g : Signature). IsSound g (shapes c.enter_term.new.nodes)) same c.in-Ok.ensures.sound in (
+    let sound : IsSound S (shapes ms) = subst (λ (h : Signature). IsSound h (shapes ms)) same c.in-Ok.ensures.sound in
+    let T = c.enter_term.new.touched in
+    let added : Added S g ns ms [] T (n ∷ []) =
+        subst (λ l. Added S g ns ms l T (n ∷ [])) c.new-touched.ensures (subst (λ (h : Signature). Added h g ns ms c.new-touched.result T (n ∷ [])) same c.in-Ok.ensures.added) in
+    let aged = ages S g ns ms T n sound c.in-Ok.ensures.front added c.in-Ok.ensures.among c.age_all.new.nodes (c.age_all.ensures ∙ ap (λ l. aged_all g l ms) c.as_slice.ensures) in
+    let alike = ap shapes c.age_all.ensures ∙ shapes_aged_all g c.as_slice.result.now ms in (
       subst (IsSound S) (sym (ap shapes c.age_all.ensures ∙ shapes_aged_all c.args.generation c.as_slice.result.now c.enter_term.new.nodes)) sound,
       c.self.invariant.1,
       subst (HasFields S) (sym (ap shapes c.age_all.ensures ∙ shapes_aged_all c.args.generation c.as_slice.result.now c.enter_term.new.nodes)) (fields_more S c.self.inside.nodes c.enter_term.new.nodes c.in-Ok.ensures.front c.self.invariant.2 news),
+      nested S ns ms c.in-Ok.ensures.front c.self.invariant.0 sound c.self.invariant.2 g n c.age_all.new.nodes alike aged c.self.invariant.3,
     )
+
+pub returns-in-Ok-clause-nested : goal.returns-in-Ok-clause-nested
+returns-in-Ok-clause-nested c = (invariant_of-self c).3
 
 pub returns-in-Ok-clause-ages : goal.returns-in-Ok-clause-ages
 returns-in-Ok-clause-ages c =
