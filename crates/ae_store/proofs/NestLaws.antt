@@ -39,9 +39,10 @@ module _ (sig : Signature) (ns ms : List Node) (front : IsFront ns ms) (old : Is
       let o : slice_get (shapes ns) j ≡ Some x = shape_back ns ms front j x q.0 e in
       let f = (full.each j q.0).fields x c o d in
       let same : f.name ≡ m = same_name f.name m _ (shape_kept ns ms front f.name _ f.at) h in
-      let low : f.name < length (shapes ns) = slice_get_within (shapes ns) f.name _ f.at in
-      (subst (λ r. r < length (shapes ns)) same low,
-       field j x c m q.1 o d (subst (λ r. slice_get (shapes ns) r ≡ Some (applied sig (field_head x.sort c) (sort_args x.sort) (j ∷ []))) same f.at))
+      let low : f.name < length (shapes ns) = slice_get_within (shapes ns) f.name _ f.at in (
+        subst (λ r. r < length (shapes ns)) same low,
+        field j x c m q.1 o d (subst (λ r. slice_get (shapes ns) r ≡ Some (applied sig (field_head x.sort c) (sort_args x.sort) (j ∷ []))) same f.at),
+      )
 
   module _ (g n : ℕ) (zs : List Node) (sh : shapes zs ≡ shapes ms) (ages : HasAges sig g ns zs n) (was : AreNested sig ns) where
     -- a part of the term that is entered, which was there

@@ -36,7 +36,7 @@ invariant_of-self c =
     let sound : IsSound S (shapes ms) = subst (λ (h : Signature). IsSound h (shapes ms)) same c.in-Ok.ensures.sound in
     let T = c.enter_term.new.touched in
     let added : Added S g ns ms [] T (n ∷ []) =
-        subst (λ l. Added S g ns ms l T (n ∷ [])) c.new-touched.ensures (subst (λ (h : Signature). Added h g ns ms c.new-touched.result T (n ∷ [])) same c.in-Ok.ensures.added) in
+    subst (λ l. Added S g ns ms l T (n ∷ [])) c.new-touched.ensures (subst (λ (h : Signature). Added h g ns ms c.new-touched.result T (n ∷ [])) same c.in-Ok.ensures.added) in
     let aged = ages S g ns ms T n sound c.in-Ok.ensures.front added c.in-Ok.ensures.among c.age_all.new.nodes (c.age_all.ensures ∙ ap (λ l. aged_all g l ms) c.as_slice.ensures) in
     let alike = ap shapes c.age_all.ensures ∙ shapes_aged_all g c.as_slice.result.now ms in (
       subst (IsSound S) (sym (ap shapes c.age_all.ensures ∙ shapes_aged_all c.args.generation c.as_slice.result.now c.enter_term.new.nodes)) sound,
