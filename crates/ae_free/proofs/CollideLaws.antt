@@ -138,7 +138,7 @@ module _ (nodes : List Node) (pairs : List (ℕ × List ℕ)) (name : ℕ) (args
   collision_test n x =
       let d : nat_eq n name ≡ false = differs x.is_other in
       let h : both_alike (slice_get nodes name) (slice_get nodes n) ≡ true =
-          (λ i. both_alike (x.at i) (x.other_at i)) ∙ (λ i. shown (NodeHead_discrete x.node.head x.other_node.head) x.heads i && shown (Sorts_discrete x.node.sorts x.other_node.sorts) x.sorts i) in
+      (λ i. both_alike (x.at i) (x.other_at i)) ∙ (λ i. shown (NodeHead_discrete x.node.head x.other_node.head) x.heads i && shown (Sorts_discrete x.node.sorts x.other_node.sorts) x.sorts i) in
       λ i. not (d i) && h i && shown (Names_discrete args args) refl i
     where
       differs : n ≢ name → nat_eq n name ≡ false

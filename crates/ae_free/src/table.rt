@@ -6,8 +6,8 @@ ghost use Rattle.ae_store.specs.declared.nodes.Node.{Node};
 ghost use Rattle.ae_free.specs.Collisions as spec;
 ghost use Rattle.ae_free.specs.Collisions.{AreEntered, IsLeastCollision, IsCollision};
 
-use ae_core::lists::List;
 use ae_core::equality::same_sorts;
+use ae_core::lists::List;
 use ae_pmap::{Pmap, Version};
 use ae_steps::Steps;
 use ae_store::nodes::Node;

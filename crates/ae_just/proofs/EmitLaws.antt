@@ -1,13 +1,16 @@
 -- One line more.
-use Rattle.std.specs.Prelude.{ℕ, zero, suc, ◌+◌, ◌<◌, ◌≤◌, ◌⊎◌, Bool, true, false, cond, List, [], ◌∷◌, ◌++◌, ◌≡◌, map, take, length, slice_get, get_or, Option, Some, None}
+use Rattle.std.specs.Prelude.{ℕ, zero, suc, ◌+◌, ◌<◌, ◌≤◌, ◌⊎◌, Bool, true, false, cond, nat_eq, List, [], ◌∷◌, ◌++◌, ◌≡◌, map, take, length, slice_get, get_or, Option, Some, None}
 use Rattle.std.specs.List.{AllByRecursion}
 use Rattle.std.proofs.Common.{refl, sym, ap, ◌∙◌, subst, arith, inl, inr, append_assoc, append-nil, length-append}
-use Rattle.std.proofs.lemmas.List.{length-map, length-take-le, take-append-le, take_at}
-use Rattle.std.proofs.lemmas.Option.{slice_get_within, slice_get_read}
+use Rattle.std.proofs.lemmas.Bool.{cases_lt, eqb-true, eq-eqb}
+use Rattle.std.proofs.lemmas.List.{length-map, length-take-le, take_more}
+use Rattle.std.proofs.lemmas.Option.{slice_get_within, slice_get_read, slice_get-get_or}
 use Rattle.ae_base.specs.Options.{or_else, ◌>>=◌}
-use Rattle.ae_rules.specs.Lines.{Fact, equal, states, Stated, Given, Allowed, AllAllowed, fact_ok}
+use Rattle.ae_base.proofs.AllOf.{all_at, all_from_places}
+use Rattle.ae_base.proofs.ListFacts.{get_seam, value_at}
+use Rattle.ae_rules.specs.Lines.{Fact, states, Stated, Allowed, AllAllowed, fact_ok}
+use Rattle.ae_rules.proofs.Written.{all_append}
 use Rattle.ae_core.specs.declared.terms.Term.{Term}
-use Rattle.ae_core.specs.declared.formulas.Formula.{Eq}
 use Rattle.ae_core.specs.declared.formulas.Lit.{Lit}
 use Rattle.ae_core.specs.declared.problems.Signature.{Signature}
 use Rattle.ae_core.specs.declared.proofs.EqLine.{EqLine}
@@ -15,27 +18,19 @@ use Rattle.ae_core.specs.declared.proofs.Deriv.{Deriv}
 use Rattle.ae_store.specs.declared.nodes.Node.{Node}
 use Rattle.ae_store.specs.Shapes.{shape_of, shapes}
 use Rattle.ae_store.specs.Terms.{terms}
+use Rattle.ae_store.specs.Parts.{IsIn}
 use Rattle.ae_store.proofs.TermLaws.{length_terms}
-use Rattle.ae_rules.proofs.Written.{all_append}
-use Rattle.ae_base.proofs.ListFacts.{get_append, value_at}
 use Rattle.ae_store.proofs.Gets.{get_last, get_pushed}
 use Rattle.ae_just.specs.declared.steps.Step.{Step}
 use Rattle.ae_just.specs.declared.steps.Rule.{Rule}
 use Rattle.ae_just.specs.declared.steps.Rule.TheVariants as rule
 use Rattle.ae_just.specs.Sides.{side_term}
-use Rattle.ae_just.specs.Steps.{fact_of, literal, assumed, tag_of, literals, renamed_rule, line_by, line_of, own_line, premises, RuleAllowed, IsAllowedStep, AreAllowed, IsStepWithin, AreWithin, Fits, tags}
-use Rattle.ae_just.specs.Marks.{marked, IsClosed, needed, Derives}
-use Rattle.ae_just.specs.Emitting.{numbered, EndsWith, IsEmitted}
-use Rattle.ae_just.proofs.MarkLaws.{RestOnEarlier, marked_at, needed_closed, needed_length, needed_itself}
+use Rattle.ae_just.specs.Steps.{fact_of, literal, assumed, tag_of, line_of, own_line, premises, IsAllowedStep, AreAllowed, Fits}
+use Rattle.ae_just.specs.Needed.{itself, premise, AreNeeded, literals, tags, Derives}
+use Rattle.ae_just.specs.Inner.Pending.{RestOnEarlier}
+use Rattle.ae_just.specs.Inner.Emitting.{place, IsEmitted}
 use Rattle.ae_just.proofs.LineLaws.{Carries, rule_carried, premises_within, states_line, own_stated}
-
--- ---- the first i ones of a list
-get_take : {A : Type 0} (xs : List A) (i k : ℕ) → k < i → slice_get (take i xs) k ≡ slice_get xs k
-get_take [] zero k h = refl
-get_take [] (suc i) k h = refl
-get_take (x ∷ xs) zero k h = absurd (omega (arith, h))
-get_take (x ∷ xs) (suc i) zero h = refl
-get_take (x ∷ xs) (suc i) (suc k) h = get_take xs i k (omega (arith, h))
+use Rattle.ae_just.proofs.NeededLaws.{last_needed}
 
 -- steps that are allowed rest on earlier ones
 pub rest_on_earlier : (sig : Signature) (ts : List Term) (steps : List Step) → AreAllowed sig ts steps → RestOnEarlier steps
@@ -48,39 +43,72 @@ rest_on_earlier sig ts steps a = record { each = each }
         subst (λ n. AllByRecursion (λ p. p < n) (premises s.rule)) len
         (premises_within sig (map (own_line ts) (take k steps)) (side_term ts s.left) (side_term ts s.right) s.rule ((a.each k s e).allowed))
 
+pub rest_push : (sig : Signature) (ts : List Term) (steps steps' : List Step) (s : Step) → RestOnEarlier steps → IsAllowedStep sig ts steps s → steps' ≡ steps ++ s ∷ [] → RestOnEarlier steps'
+rest_push sig ts steps steps' s r a e = subst RestOnEarlier (sym e) (record { each = each })
+  where
+    each : (k : ℕ) (t : Step) → slice_get (steps ++ s ∷ []) k ≡ Some t → AllByRecursion (λ p. p < k) (premises t.rule)
+    each k t q = elim (get_pushed steps s k t q) [
+      | inl h ↦ r.each k t h
+      | inr h ↦
+          let p = premises_within sig (map (own_line ts) steps) (side_term ts s.left) (side_term ts s.right) s.rule a.allowed in
+          let n : length (map (own_line ts) steps) ≡ k = length-map steps (own_line ts) ∙ sym h.0 in
+          subst (λ (z : Step). AllByRecursion (λ p. p < k) (premises z.rule)) h.1 (subst (λ n. AllByRecursion (λ p. p < n) (premises s.rule)) n p)
+    ]
+
+pub rest_none : (steps : List Step) → steps ≡ [] → RestOnEarlier steps
+rest_none steps e = subst RestOnEarlier (sym e) (record { each = λ k s q. cc q })
+
+-- ---- places
+here_or : (b : Bool) (n k : ℕ) (ns : List ℕ) → nat_eq n k ≡ b → (IsIn k ns → slice_get ns (place ns k) ≡ Some k) → (n ≡ k) ⊎ IsIn k ns → slice_get (n ∷ ns) (cond b 0 (suc (place ns k))) ≡ Some k
+here_or true n k ns e f h = ap Some (eqb-true n k e)
+here_or false n k ns e f (inl h) = (let w : ◌≡◌ {A = Bool} false true = sym e ∙ eq-eqb n k h in cc w)
+here_or false n k ns e f (inr h) = f h
+
+first_or : (k n i : ℕ) (ns : List ℕ) → slice_get (n ∷ ns) i ≡ Some k → (n ≡ k) ⊎ IsIn k ns
+first_or k n zero ns e = inl (cc e)
+first_or k n (suc i) ns e = inr (record { place = i; is = e })
+
+pub place_is : (ns : List ℕ) (k : ℕ) → IsIn k ns → slice_get ns (place ns k) ≡ Some k
+place_is [] k h = cc h.is
+place_is (n ∷ ns) k h = here_or (nat_eq n k) n k ns refl (place_is ns k) (first_or k n h.place ns h.is)
+
 -- ---- literals of the first steps
-get_past : {A : Type 0} (pre xs : List A) (k : ℕ) → slice_get (pre ++ xs) (length pre + k) ≡ slice_get xs k
-get_past [] xs k = ap (slice_get xs) (let e : 0 + k ≡ k = omega arith in e)
-get_past (p ∷ pre) xs k = ap (slice_get (p ∷ pre ++ xs)) (let e : suc (length pre) + k ≡ suc (length pre + k) = omega arith in e) ∙ get_past pre xs k
+assumed_at : List Term → List Step → ℕ → List Lit
+assumed_at ts steps k = or_else (slice_get steps k >>= λ s. Some (assumed (literal ts s) s.rule)) []
 
-module _ (ts : List Term) where
-  of_step : Bool → Step → List Lit
-  of_step b s = cond b (assumed (literal ts s) s.rule) []
+literals_pushed : (ts : List Term) (steps : List Step) (ks : List ℕ) (k : ℕ) (s : Step) → slice_get steps k ≡ Some s → literals ts steps (ks ++ k ∷ []) ≡ literals ts steps ks ++ assumed (literal ts s) s.rule
+literals_pushed ts steps [] k s e = append-nil _ ∙ ap (λ o. or_else (o >>= λ (s : Step). Some (assumed (literal ts s) s.rule)) []) e
+literals_pushed ts steps (j ∷ ks) k s e =
+    ap (λ l. or_else (slice_get steps j >>= λ s. Some (assumed (literal ts s) s.rule)) [] ++ l) (literals_pushed ts steps ks k s e)
+    ∙ sym (append_assoc (or_else (slice_get steps j >>= λ s. Some (assumed (literal ts s) s.rule)) []) (literals ts steps ks) (assumed (literal ts s) s.rule))
 
-  pub literals_more : (steps : List Step) (m : List Bool) (i : ℕ) (s : Step) → slice_get steps i ≡ Some s → i < length m
-      → literals ts (take (suc i) steps) (take (suc i) m) ≡ literals ts (take i steps) (take i m) ++ cond (marked m i) (assumed (literal ts s) s.rule) []
-  literals_more [] m i s e h = cc e
-  literals_more (x ∷ ss) [] i s e h = absurd (omega (arith, h))
-  literals_more (x ∷ ss) (b ∷ bs) zero s e h =
-      let e' : x ≡ s = cc e in
-      append-nil (cond b (assumed (literal ts x) x.rule) []) ∙ ap (λ (y : Step). cond b (assumed (literal ts y) y.rule) []) e'
-  literals_more (x ∷ ss) (b ∷ bs) (suc i) s e h =
-      let r = literals_more ss bs i s e (omega (arith, h)) in
-      ap (λ l. cond b (assumed (literal ts x) x.rule) [] ++ l) r
-      ∙ sym (append_assoc (cond b (assumed (literal ts x) x.rule) []) (literals ts (take i ss) (take i bs)) (cond (marked bs i) (assumed (literal ts s) s.rule) []))
+tags_pushed : (steps : List Step) (ks : List ℕ) (k : ℕ) (s : Step) → slice_get steps k ≡ Some s → tags steps (ks ++ k ∷ []) ≡ tags steps ks ++ tag_of s.rule
+tags_pushed steps [] k s e = append-nil _ ∙ ap (λ o. or_else (o >>= λ (s : Step). Some (tag_of s.rule)) []) e
+tags_pushed steps (j ∷ ks) k s e =
+    ap (λ l. or_else (slice_get steps j >>= λ s. Some (tag_of s.rule)) [] ++ l) (tags_pushed steps ks k s e)
+    ∙ sym (append_assoc (or_else (slice_get steps j >>= λ s. Some (tag_of s.rule)) []) (tags steps ks) (tag_of s.rule))
 
-  pub literal_at : (steps : List Step) (m : List Bool) (i : ℕ) (s : Step) (tag : ℕ) → slice_get steps i ≡ Some s → marked m i ≡ true → s.rule ≡ rule.Hyp tag
-      → slice_get (literals ts steps m) (length (literals ts (take i steps) (take i m))) ≡ Some (literal ts s)
-  literal_at [] m i s tag e h r = cc e
-  literal_at (x ∷ ss) [] i s tag e h r = let w : ◌≡◌ {A = Bool} false true = h in cc w
-  literal_at (x ∷ ss) (b ∷ bs) zero s tag e h r =
-      let e' : x ≡ s = cc e in
-      let q : cond b (assumed (literal ts x) x.rule) [] ≡ literal ts s ∷ [] = (λ k. cond (h k) (assumed (literal ts (e' k)) ((ap (λ (y : Step). y.rule) e' ∙ r) k)) []) in
-      ap (λ l. slice_get (l ++ literals ts ss bs) 0) q
-  literal_at (x ∷ ss) (b ∷ bs) (suc i) s tag e h r =
-      let A = cond b (assumed (literal ts x) x.rule) [] in
-      ap (slice_get (A ++ literals ts ss bs)) (length-append A (literals ts (take i ss) (take i bs)))
-      ∙ get_past A (literals ts ss bs) (length (literals ts (take i ss) (take i bs))) ∙ literal_at ss bs i s tag e h r
+literals_append : (ts : List Term) (steps : List Step) (xs ys : List ℕ) → literals ts steps (xs ++ ys) ≡ literals ts steps xs ++ literals ts steps ys
+literals_append ts steps [] ys = refl
+literals_append ts steps (x ∷ xs) ys =
+    ap (λ l. or_else (slice_get steps x >>= λ s. Some (assumed (literal ts s) s.rule)) [] ++ l) (literals_append ts steps xs ys)
+    ∙ sym (append_assoc (or_else (slice_get steps x >>= λ s. Some (assumed (literal ts s) s.rule)) []) (literals ts steps xs) (literals ts steps ys))
+
+split_at : (ks : List ℕ) (i k : ℕ) → slice_get ks i ≡ Some k → (rest : List ℕ) × (ks ≡ take i ks ++ k ∷ rest)
+split_at [] i k e = cc e
+split_at (n ∷ ks) zero k e = let q : n ≡ k = cc e in (ks, ap (λ m. m ∷ ks) q)
+split_at (n ∷ ks) (suc i) k e = let r = split_at ks i k e in (r.0, ap (λ l. n ∷ l) r.1)
+
+literal_at : (ts : List Term) (steps : List Step) (ks : List ℕ) (i k : ℕ) (s : Step) (tag : ℕ) → slice_get ks i ≡ Some k → slice_get steps k ≡ Some s → s.rule ≡ rule.Hyp tag
+    → slice_get (literals ts steps ks) (length (literals ts steps (take i ks))) ≡ Some (literal ts s)
+literal_at ts steps ks i k s tag e at r =
+    let w = split_at ks i k e in
+    let front = literals ts steps (take i ks) in
+    let q : or_else (slice_get steps k >>= λ s. Some (assumed (literal ts s) s.rule)) [] ≡ literal ts s ∷ [] =
+    ap (λ o. or_else (o >>= λ (s : Step). Some (assumed (literal ts s) s.rule)) []) at ∙ ap (assumed (literal ts s)) r in
+    let all : literals ts steps ks ≡ front ++ literal ts s ∷ literals ts steps w.0 =
+    ap (literals ts steps) w.1 ∙ literals_append ts steps (take i ks) (k ∷ w.0) ∙ ap (λ l. front ++ (l ++ literals ts steps w.0)) q in
+    ap (λ l. slice_get l (length front)) all ∙ get_seam front (literals ts steps w.0) (literal ts s)
 
 assumed_length : (l : Lit) (u : Rule) → length (assumed l u) ≡ length (tag_of u)
 assumed_length l (rule.Hyp tag) = refl
@@ -93,228 +121,185 @@ assumed_length l (rule.Lin d ps) = refl
 assumed_length l rule.Field = refl
 assumed_length l (rule.Fields ks) = refl
 
--- ---- numbers
-numbered_front : (vs : List ℕ) (n k : ℕ) → k < length vs → numbered (vs ++ n ∷ []) k ≡ numbered vs k
-numbered_front vs n k h = let g = value_at vs k h in ap (λ o. or_else o 0) (get_append vs (n ∷ []) k g.0 g.1 ∙ sym g.1)
+few : (l : Lit) (u : Rule) → length (assumed l u) ≤ 1
+few l (rule.Hyp tag) = omega arith
+few l rule.Refl = omega arith
+few l (rule.Sym k) = omega arith
+few l (rule.Trans j k) = omega arith
+few l (rule.Cong ks) = omega arith
+few l rule.Ac = omega arith
+few l (rule.Lin d ps) = omega arith
+few l rule.Field = omega arith
+few l (rule.Fields ks) = omega arith
 
-numbered_last : (vs : List ℕ) (n : ℕ) → numbered (vs ++ n ∷ []) (length vs) ≡ n
-numbered_last vs n = ap (λ o. or_else o 0) (get_last vs n)
+few_by : (ts : List Term) (o : Option Step) → length (or_else (o >>= λ (s : Step). Some (assumed (literal ts s) s.rule)) []) ≤ 1
+few_by ts None = omega arith
+few_by ts (Some s) = few (literal ts s) s.rule
+
+literals_few : (ts : List Term) (steps : List Step) (ks : List ℕ) → length (literals ts steps ks) ≤ length ks
+literals_few ts steps [] = omega arith
+literals_few ts steps (k ∷ ks) =
+    let h = literals_few ts steps ks in
+    let g = few_by ts (slice_get steps k) in
+    let e = length-append (or_else (slice_get steps k >>= λ s. Some (assumed (literal ts s) s.rule)) []) (literals ts steps ks) in
+    omega (arith, h, g, e)
 
 stated_front : (xs ys : List EqLine) (k : ℕ) (f : Fact) → Stated xs k f → Stated (xs ++ ys) k f
 stated_front [] ys k f e = absurd (let w : ◌≡◌ {A = Option Fact} None (Some f) = e in cc w)
 stated_front (x ∷ xs) ys zero f e = e
 stated_front (x ∷ xs) ys (suc k) f e = stated_front xs ys k f e
 
-below_or_at : (k i : ℕ) → k < i + 1 → (k < i) ⊎ (k ≡ i)
-below_or_at zero zero h = inr refl
-below_or_at zero (suc i) h = inl (omega arith)
-below_or_at (suc k) zero h = absurd (omega (arith, h))
-below_or_at (suc k) (suc i) h = elim (below_or_at k i (omega (arith, h))) [ inl l ↦ inl (omega (arith, l)) | inr e ↦ inr (ap suc e) ]
+get_take : {A : Type 0} (xs : List A) (i k : ℕ) → k < i → slice_get (take i xs) k ≡ slice_get xs k
+get_take [] zero k h = refl
+get_take [] (suc i) k h = refl
+get_take (x ∷ xs) zero k h = absurd (omega (arith, h))
+get_take (x ∷ xs) (suc i) zero h = refl
+get_take (x ∷ xs) (suc i) (suc k) h = get_take xs i k (omega (arith, h))
 
-both : {P Q R : ℕ → Type 0} → ((k : ℕ) → P k → Q k → R k) → (ks : List ℕ) → AllByRecursion P ks → AllByRecursion Q ks → AllByRecursion R ks
-both f [] a b = tt
-both f (k ∷ ks) a b = (f k a.0 b.0, both f ks a.1 b.1)
+-- ---- one line more
+module _ (sig : Signature) (ts : List Term) (steps : List Step) (id : ℕ) (ks : List ℕ) (fits : Fits sig ts steps) (needed : AreNeeded steps id ks) where
+  hyps : List Lit
+  hyps = literals ts steps ks
 
-module _ (sig : Signature) (ts : List Term) (steps : List Step) (m : List Bool) (hyps : List Lit) where
-  pub emitted_none : IsEmitted sig ts steps m hyps 0 [] [] 0
-  emitted_none = record {
-    numbers_are = refl;
-    count_is = refl;
-    allowed = tt;
-    stated = λ k s h g e. absurd (omega (arith, h));
-    ends = λ j s p g e. absurd (omega (arith, p));
-  }
+  pub emitted_none : IsEmitted sig ts steps ks (literals ts steps ks) 0 [] 0
+  emitted_none = record { long = refl; count_is = refl; allowed = tt; stated = λ j k s l e at. absurd (omega (arith, l)) }
 
-  pub emitted_skip : (i : ℕ) (lines : List EqLine) (vs : List ℕ) (c n : ℕ) (s : Step) → marked m i ≡ false → slice_get steps i ≡ Some s → i < length m
-      → IsEmitted sig ts steps m hyps i lines vs c → IsEmitted sig ts steps m hyps (i + 1) lines (vs ++ n ∷ []) c
-  emitted_skip i lines vs c n s f e h a =
-      let one : i + 1 ≡ suc i = omega arith in
-      record {
-        numbers_are = length-append vs (n ∷ []) ∙ (let q = a.numbers_are in omega (arith, q));
-        count_is = a.count_is ∙ ap length (sym (append-nil (literals ts (take i steps) (take i m)))) ∙ ap (λ b. length (literals ts (take i steps) (take i m) ++ cond b (assumed (literal ts s) s.rule) [])) (sym f)
-            ∙ ap length (sym (literals_more ts steps m i s e h)) ∙ ap (λ k. length (literals ts (take k steps) (take k m))) (sym one);
-        allowed = a.allowed;
-        stated = λ k t l g d. elim (below_or_at k i l) [
-          | inl q ↦ subst (λ v. Stated lines v (fact_of ts t)) (sym (numbered_front vs n k (let r = a.numbers_are in omega (arith, q, r)))) (a.stated k t q g d)
-          | inr q ↦ (let w : ◌≡◌ {A = Bool} false true = sym f ∙ ap (marked m) (sym q) ∙ g in cc w)
-        ];
-        ends = λ j t p g d. (let q : i ≡ j = omega (arith, p) in let w : ◌≡◌ {A = Bool} false true = sym f ∙ ap (marked m) q ∙ g in cc w);
-      }
+  module _ (i k c : ℕ) (lines : List EqLine) (s : Step) (is : slice_get ks i ≡ Some k) (at : slice_get steps k ≡ Some s) (a : IsEmitted sig ts steps ks (literals ts steps ks) i lines c) where
+    -- a premise has an earlier line
+    premise_place : (p : ℕ) → IsIn p (premises s.rule) → (slice_get ks (place ks p) ≡ Some p) × (place ks p < i)
+    premise_place p m =
+        let here : IsIn p ks = needed.all p (premise k p s (needed.sound k (record { place = i; is = is })) at m) in
+        let q = place_is ks p here in
+        let low : p < k = all_at (λ p. p < k) (premises s.rule) m.place p ((rest_on_earlier sig ts steps fits.allowed).each k s at) m.is in (
+          q,
+          elim (cases_lt (place ks p) i) [
+            | inl b ↦ b
+            | inr b ↦ elim (cases_lt i (place ks p)) [
+              | inl d ↦ absurd (let w : k < p = needed.rising.each i (place ks p) k p d is q in omega (arith, w, low))
+              | inr d ↦ absurd (let e : place ks p ≡ i = omega (arith, b, d) in let u : ◌≡◌ {A = Option ℕ} (Some p) (Some k) = sym q ∙ ap (slice_get ks) e ∙ is in let v : p ≡ k = cc u in omega (arith, v, low))
+            ]
+          ],
+        )
 
-  module _ (fits : AreAllowed sig ts steps) (closed : IsClosed steps m) (hyps_are : hyps ≡ literals ts steps m) where
-    carried : (i : ℕ) (lines : List EqLine) (vs : List ℕ) (c : ℕ) → IsEmitted sig ts steps m hyps i lines vs c → (k : ℕ) → k < i → marked m k ≡ true → Carries (map (own_line ts) (take i steps)) lines (numbered vs) k
-    carried i lines vs c a k h g f e =
-        let o = own_stated ts (take i steps) k f e in
-        subst (Stated lines (numbered vs k)) o.2 (a.stated k o.0 h g (sym (get_take steps i k h) ∙ o.1))
+    carries : (p : ℕ) → IsIn p (premises s.rule) → Carries (map (own_line ts) (take k steps)) lines (place ks) p
+    carries p m f e =
+        let q = premise_place p m in
+        let o = own_stated ts (take k steps) p f e in
+        let low : p < k = all_at (λ p. p < k) (premises s.rule) m.place p ((rest_on_earlier sig ts steps fits.allowed).each k s at) m.is in
+        subst (Stated lines (place ks p)) o.2 (a.stated (place ks p) p o.0 q.1 q.0 (sym (get_take steps k p low) ∙ o.1))
 
-    pub emitted_line : (i : ℕ) (lines : List EqLine) (vs : List ℕ) (c : ℕ) (s : Step) → marked m i ≡ true → slice_get steps i ≡ Some s → IsEmitted sig ts steps m hyps i lines vs c
-        → Allowed sig hyps lines (line_of ts (numbered vs) c s)
-    emitted_line i lines vs c s g e a =
-        let rest = rest_on_earlier sig ts steps fits in
-        let own = fits.each i s e in
-        rule_carried (map (own_line ts) (take i steps)) lines (numbered vs) sig hyps c (side_term ts s.left) (side_term ts s.right) s.rule
-        (both (λ k p q. carried i lines vs c a k p q) (premises s.rule) (rest.each i s e) (closed.each i s g e)) own.allowed
-        (λ tag r. ap (λ hs. slice_get hs c) hyps_are ∙ ap (slice_get (literals ts steps m)) a.count_is ∙ literal_at ts steps m i s tag e g r)
+    next : EqLine
+    next = line_of ts (place ks) c s
 
-    pub emitted_step : (i : ℕ) (lines : List EqLine) (vs : List ℕ) (c : ℕ) (s : Step) → marked m i ≡ true → slice_get steps i ≡ Some s → i < length m → IsEmitted sig ts steps m hyps i lines vs c
-        → IsEmitted sig ts steps m hyps (i + 1) (lines ++ line_of ts (numbered vs) c s ∷ []) (vs ++ length lines ∷ []) (c + length (tag_of s.rule))
-    emitted_step i lines vs c s g e h a =
-        let one : i + 1 ≡ suc i = omega arith in
-        let l = line_of ts (numbered vs) c s in
-        let says : states l ≡ fact_of ts s = states_line (numbered vs) c (side_term ts s.left) (side_term ts s.right) s.rule in
-        let own = fits.each i s e in
-        let len = a.numbers_are in
+    says : states (line_of ts (place ks) c s) ≡ fact_of ts s
+    says = states_line (place ks) c (side_term ts s.left) (side_term ts s.right) s.rule
+
+    next_allowed : Allowed sig (literals ts steps ks) lines (line_of ts (place ks) c s)
+    next_allowed =
+        rule_carried (map (own_line ts) (take k steps)) lines (place ks) sig (literals ts steps ks) c (side_term ts s.left) (side_term ts s.right) s.rule
+        (all_from_places (Carries (map (own_line ts) (take k steps)) lines (place ks)) (premises s.rule) (λ n p e. carries p (record { place = n; is = e })))
+        (fits.allowed.each k s at).allowed
+        (λ tag r. ap (slice_get (literals ts steps ks)) a.count_is ∙ literal_at ts steps ks i k s tag is at r)
+
+    front_is : take (i + 1) ks ≡ take i ks ++ k ∷ []
+    front_is =
+        let l : i < length ks = slice_get_within ks i k is in
+        let u : ◌≡◌ {A = Option ℕ} (Some (get_or ks i k)) (Some k) = sym (slice_get-get_or ks i k l) ∙ is in
+        let v : get_or ks i k ≡ k = cc u in
+        take_more ks i k l ∙ ap (λ n. take i ks ++ n ∷ []) v
+
+    pub emitted_step : IsEmitted sig ts steps ks (literals ts steps ks) (i + 1) (lines ++ line_of ts (place ks) c s ∷ []) (c + length (tag_of s.rule))
+    emitted_step =
+        let l = line_of ts (place ks) c s in
         record {
-          numbers_are = length-append vs (length lines ∷ []) ∙ omega (arith, len);
-          count_is = (λ k. a.count_is k + sym (assumed_length (literal ts s) s.rule) k) ∙ sym (length-append (literals ts (take i steps) (take i m)) (assumed (literal ts s) s.rule))
-              ∙ ap (λ b. length (literals ts (take i steps) (take i m) ++ cond b (assumed (literal ts s) s.rule) [])) (sym g)
-              ∙ ap length (sym (literals_more ts steps m i s e h)) ∙ ap (λ k. length (literals ts (take k steps) (take k m))) (sym one);
-          allowed = all_append sig (fact_ok sig) hyps [] lines (l ∷ []) a.allowed ((ap (fact_ok sig) says ∙ own.sorted, emitted_line i lines vs c s g e a), tt);
-          stated = λ k t d b p. elim (below_or_at k i d) [
-            | inl q ↦ subst (λ v. Stated (lines ++ l ∷ []) v (fact_of ts t)) (sym (numbered_front vs (length lines) k (omega (arith, q, len)))) (stated_front lines (l ∷ []) (numbered vs k) (fact_of ts t) (a.stated k t q b p))
-            | inr q ↦
-                let same : s ≡ t = cc (e, p, q) in
-                let v : numbered (vs ++ length lines ∷ []) k ≡ length lines = ap (numbered (vs ++ length lines ∷ [])) (q ∙ sym len) ∙ numbered_last vs (length lines) in
-                ap (λ n. slice_get (lines ++ l ∷ []) n >>= λ x. Some (states x)) v ∙ ap (λ o. o >>= λ x. Some (states x)) (get_last lines l) ∙ ap Some (says ∙ ap (fact_of ts) same)
-          ];
-          ends = λ j t p b d.
-              let q : i ≡ j = omega (arith, p) in
-              let same : s ≡ t = cc (e, d, q) in
-              record { front = lines; last = l; lines_are = refl; states_it = says ∙ ap (fact_of ts) same };
+          long = length-append lines (l ∷ []) ∙ (let w = a.long in omega (arith, w));
+          count_is = (λ n. a.count_is n + sym (assumed_length (literal ts s) s.rule) n) ∙ sym (length-append (literals ts steps (take i ks)) (assumed (literal ts s) s.rule))
+              ∙ ap length (sym (literals_pushed ts steps (take i ks) k s at)) ∙ ap (λ xs. length (literals ts steps xs)) (sym front_is);
+          allowed = all_append sig (fact_ok sig) (literals ts steps ks) [] lines (l ∷ []) a.allowed ((ap (fact_ok sig) says ∙ (fits.allowed.each k s at).sorted, next_allowed), tt);
+          stated = λ j n t d e q. stated j n t d e q;
         }
+      where
+        stated : (j n : ℕ) (t : Step) → j < i + 1 → slice_get ks j ≡ Some n → slice_get steps n ≡ Some t → Stated (lines ++ line_of ts (place ks) c s ∷ []) j (fact_of ts t)
+        stated j n t d e q = elim (cases_lt j i) [
+          | inl b ↦ stated_front lines (line_of ts (place ks) c s ∷ []) j (fact_of ts t) (a.stated j n t b e q)
+          | inr b ↦
+              let same : j ≡ i = omega (arith, b, d) in
+              let u : ◌≡◌ {A = Option ℕ} (Some n) (Some k) = sym e ∙ ap (slice_get ks) same ∙ is in
+              let v : n ≡ k = cc u in
+              let w : ◌≡◌ {A = Option Step} (Some s) (Some t) = sym at ∙ ap (slice_get steps) (sym v) ∙ q in
+              let x : s ≡ t = cc w in
+              let p : j ≡ length lines = (let z = a.long in omega (arith, z, same)) in
+              ap (λ m. slice_get (lines ++ line_of ts (place ks) c s ∷ []) m >>= λ x. Some (states x)) p
+              ∙ ap (λ o. o >>= λ x. Some (states x)) (get_last lines (line_of ts (place ks) c s)) ∙ ap Some (says ∙ ap (fact_of ts) x)
+        ]
 
--- ---- one turn of the code
-module _ (sig : Signature) (ts : List Term) (steps : List Step) (m : List Bool) (fits : AreAllowed sig ts steps) (closed : IsClosed steps m) (i : ℕ) (lines lines' : List EqLine) (vs vs' : List ℕ) (c c' n : ℕ) (s : Step) (d : Bool)
-    (h : i < length m) (l : i < length steps) (at : s ≡ get_or steps i s) (a : IsEmitted sig ts steps m (literals ts steps m) i lines vs c) (numbers : vs' ≡ vs ++ n ∷ []) (number : n ≡ length lines) where
-  pub emitted_true : (next : EqLine) (vs0 : List ℕ) → get_or m i d ≡ true → lines' ≡ lines ++ next ∷ [] → next ≡ line_of ts (numbered vs0) c s → vs0 ≡ vs → c' ≡ c + length (tag_of s.rule) → IsEmitted sig ts steps m (literals ts steps m) (i + 1) lines' vs' c'
-  emitted_true next vs0 g p q v r =
-      let e : slice_get steps i ≡ Some s = slice_get_read steps (length steps) i s refl l at in
-      let done = emitted_step sig ts steps m (literals ts steps m) fits closed refl i lines vs c s (marked_at m i true d h g) e h a in
-      let lines_are : lines' ≡ lines ++ line_of ts (numbered vs) c s ∷ [] = p ∙ (λ k. lines ++ (q ∙ (λ j. line_of ts (numbered (v j)) c s)) k ∷ []) in
-      let vs_are : vs' ≡ vs ++ length lines ∷ [] = numbers ∙ (λ k. vs ++ number k ∷ []) in
-      subst (λ x. IsEmitted sig ts steps m (literals ts steps m) (i + 1) lines' vs' x) (sym r)
-        (subst (λ x. IsEmitted sig ts steps m (literals ts steps m) (i + 1) lines' x (c + length (tag_of s.rule))) (sym vs_are)
-          (subst (λ x. IsEmitted sig ts steps m (literals ts steps m) (i + 1) x (vs ++ length lines ∷ []) (c + length (tag_of s.rule))) (sym lines_are) done))
+  -- how many assumptions there were
+  pub count_few : (i c : ℕ) (lines : List EqLine) → i ≤ length ks → IsEmitted sig ts steps ks (literals ts steps ks) i lines c → c ≤ i
+  count_few i c lines l a = let e = a.count_is in let h = literals_few ts steps (take i ks) in let n = length-take-le i ks l in omega (arith, e, h, n)
 
-  pub emitted_false : get_or m i d ≡ false → lines' ≡ lines → c' ≡ c → IsEmitted sig ts steps m (literals ts steps m) (i + 1) lines' vs' c'
-  emitted_false g p r =
-      let e : slice_get steps i ≡ Some s = slice_get_read steps (length steps) i s refl l at in
-      let done = emitted_skip sig ts steps m (literals ts steps m) i lines vs c n s (marked_at m i false d h g) e h a in
-      subst (λ x. IsEmitted sig ts steps m (literals ts steps m) (i + 1) lines' vs' x) (sym r)
-        (subst (λ x. IsEmitted sig ts steps m (literals ts steps m) (i + 1) lines' x c) (sym numbers)
-          (subst (λ x. IsEmitted sig ts steps m (literals ts steps m) (i + 1) x (vs ++ n ∷ []) c) (sym p) done))
-
--- ---- the literals of all marked steps, and how many there are
-literals_all : (ts : List Term) (steps : List Step) (m : List Bool) → length m ≤ length steps → literals ts (take (length m) steps) (take (length m) m) ≡ literals ts steps m
-literals_all ts [] [] h = refl
-literals_all ts [] (b ∷ bs) h = absurd (omega (arith, h))
-literals_all ts (x ∷ ss) [] h = refl
-literals_all ts (x ∷ ss) (b ∷ bs) h = ap (λ l. cond b (assumed (literal ts x) x.rule) [] ++ l) (literals_all ts ss bs (omega (arith, h)))
-
-pub literals_end : (ts : List Term) (steps : List Step) (m : List Bool) (n : ℕ) → length m ≤ length steps → length m ≤ n → n ≤ length m → literals ts (take n steps) (take n m) ≡ literals ts steps m
-literals_end ts steps m n h l g = let e : n ≡ length m = omega (arith, l, g) in ap (λ k. literals ts (take k steps) (take k m)) e ∙ literals_all ts steps m h
-
-few : (l : Lit) (u : Rule) (b : Bool) → length (cond b (assumed l u) []) ≤ 1
-few l u false = omega arith
-few l (rule.Hyp tag) true = omega arith
-few l rule.Refl true = omega arith
-few l (rule.Sym k) true = omega arith
-few l (rule.Trans j k) true = omega arith
-few l (rule.Cong ks) true = omega arith
-few l rule.Ac true = omega arith
-few l (rule.Lin d ps) true = omega arith
-few l rule.Field true = omega arith
-few l (rule.Fields ks) true = omega arith
-
-literals_few : (ts : List Term) (steps : List Step) (m : List Bool) (i : ℕ) → length (literals ts (take i steps) (take i m)) ≤ i
-literals_few ts steps m zero = omega arith
-literals_few ts [] m (suc i) = omega arith
-literals_few ts (x ∷ ss) [] (suc i) = omega arith
-literals_few ts (x ∷ ss) (b ∷ bs) (suc i) =
-    let h = literals_few ts ss bs i in
-    let g = few (literal ts x) x.rule b in
-    let e = length-append (cond b (assumed (literal ts x) x.rule) []) (literals ts (take i ss) (take i bs)) in
-    omega (arith, h, g, e)
-
-pub count_few : (sig : Signature) (ts : List Term) (steps : List Step) (m : List Bool) (hyps : List Lit) (i : ℕ) (lines : List EqLine) (vs : List ℕ) (c : ℕ) → IsEmitted sig ts steps m hyps i lines vs c → c ≤ i
-count_few sig ts steps m hyps i lines vs c a = let e = a.count_is in let h = literals_few ts steps m i in omega (arith, e, h)
+  -- one turn of the code
+  pub emitted_turn : (i c c' d : ℕ) (lines lines' : List EqLine) (s : Step) (l : EqLine) (given : List ℕ) → i < length ks → IsEmitted sig ts steps ks (literals ts steps ks) i lines c → s ≡ get_or steps (get_or ks i d) s → get_or ks i d < length steps
+      → given ≡ ks → l ≡ line_of ts (place given) c s → lines' ≡ lines ++ l ∷ [] → c' ≡ c + length (tag_of s.rule) → IsEmitted sig ts steps ks (literals ts steps ks) (i + 1) lines' c'
+  emitted_turn i c c' d lines lines' s l given low a at w g e p q =
+      let is : slice_get ks i ≡ Some (get_or ks i d) = slice_get-get_or ks i d low in
+      let at' : slice_get steps (get_or ks i d) ≡ Some s = slice_get_read steps (length steps) (get_or ks i d) s refl w at in
+      let done = emitted_step i (get_or ks i d) c lines s is at' a in
+      let same : lines' ≡ lines ++ line_of ts (place ks) c s ∷ [] = p ∙ (λ n. lines ++ (e ∙ (λ m. line_of ts (place (g m)) c s)) n ∷ []) in
+      subst (λ x. IsEmitted sig ts steps ks (literals ts steps ks) (i + 1) lines' x) (sym q) (subst (λ x. IsEmitted sig ts steps ks (literals ts steps ks) (i + 1) x (c + length (tag_of s.rule))) (sym same) done)
 
 -- ---- one turn of the loops that collect
-pub literals_turn : (ts : List Term) (steps : List Step) (m : List Bool) (i : ℕ) (s : Step) (b d : Bool) (hs hs' : List Lit) → i < length m → i < length steps → s ≡ get_or steps i s → get_or m i d ≡ b
-    → hs ≡ literals ts (take i steps) (take i m) → hs' ≡ hs ++ cond b (assumed (literal ts s) s.rule) [] → hs' ≡ literals ts (take (i + 1) steps) (take (i + 1) m)
-literals_turn ts steps m i s b d hs hs' h l e g p q =
-    let at : slice_get steps i ≡ Some s = slice_get_read steps (length steps) i s refl l e in
-    let one : i + 1 ≡ suc i = omega arith in
-    q ∙ (λ k. p k ++ cond (sym (marked_at m i b d h g) k) (assumed (literal ts s) s.rule) []) ∙ sym (literals_more ts steps m i s at h) ∙ ap (λ k. literals ts (take k steps) (take k m)) (sym one)
+front_more : (ks : List ℕ) (i d : ℕ) → i < length ks → take (i + 1) ks ≡ take i ks ++ get_or ks i d ∷ []
+front_more ks i d l = take_more ks i d l
 
-tags_more : (steps : List Step) (m : List Bool) (i : ℕ) (s : Step) → slice_get steps i ≡ Some s → i < length m
-    → tags (take (suc i) steps) (take (suc i) m) ≡ tags (take i steps) (take i m) ++ cond (marked m i) (tag_of s.rule) []
-tags_more [] m i s e h = cc e
-tags_more (x ∷ ss) [] i s e h = absurd (omega (arith, h))
-tags_more (x ∷ ss) (b ∷ bs) zero s e h =
-    let e' : x ≡ s = cc e in
-    append-nil (cond b (tag_of x.rule) []) ∙ ap (λ (y : Step). cond b (tag_of y.rule) []) e'
-tags_more (x ∷ ss) (b ∷ bs) (suc i) s e h =
-    ap (λ l. cond b (tag_of x.rule) [] ++ l) (tags_more ss bs i s e (omega (arith, h)))
-    ∙ sym (append_assoc (cond b (tag_of x.rule) []) (tags (take i ss) (take i bs)) (cond (marked bs i) (tag_of s.rule) []))
+pub literals_turn : (ts : List Term) (steps : List Step) (ks : List ℕ) (i d : ℕ) (s : Step) (hs hs' : List Lit) → i < length ks → get_or ks i d < length steps → s ≡ get_or steps (get_or ks i d) s → hs ≡ literals ts steps (take i ks)
+    → hs' ≡ hs ++ assumed (literal ts s) s.rule → hs' ≡ literals ts steps (take (i + 1) ks)
+literals_turn ts steps ks i d s hs hs' l w at p q =
+    let at' : slice_get steps (get_or ks i d) ≡ Some s = slice_get_read steps (length steps) (get_or ks i d) s refl w at in
+    q ∙ ap (λ x. x ++ assumed (literal ts s) s.rule) p ∙ sym (literals_pushed ts steps (take i ks) (get_or ks i d) s at') ∙ ap (literals ts steps) (sym (take_more ks i d l))
 
-tags_all : (steps : List Step) (m : List Bool) → length m ≤ length steps → tags (take (length m) steps) (take (length m) m) ≡ tags steps m
-tags_all [] [] h = refl
-tags_all [] (b ∷ bs) h = absurd (omega (arith, h))
-tags_all (x ∷ ss) [] h = refl
-tags_all (x ∷ ss) (b ∷ bs) h = ap (λ l. cond b (tag_of x.rule) [] ++ l) (tags_all ss bs (omega (arith, h)))
+pub tags_turn : (steps : List Step) (ks : List ℕ) (i d : ℕ) (s : Step) (ns ns' : List ℕ) → i < length ks → get_or ks i d < length steps → s ≡ get_or steps (get_or ks i d) s → ns ≡ tags steps (take i ks)
+    → ns' ≡ ns ++ tag_of s.rule → ns' ≡ tags steps (take (i + 1) ks)
+tags_turn steps ks i d s ns ns' l w at p q =
+    let at' : slice_get steps (get_or ks i d) ≡ Some s = slice_get_read steps (length steps) (get_or ks i d) s refl w at in
+    q ∙ ap (λ x. x ++ tag_of s.rule) p ∙ sym (tags_pushed steps (take i ks) (get_or ks i d) s at') ∙ ap (tags steps) (sym (take_more ks i d l))
 
-pub tags_end : (steps : List Step) (m : List Bool) (n : ℕ) → length m ≤ length steps → length m ≤ n → n ≤ length m → tags (take n steps) (take n m) ≡ tags steps m
-tags_end steps m n h l g = let e : n ≡ length m = omega (arith, l, g) in ap (λ k. tags (take k steps) (take k m)) e ∙ tags_all steps m h
+-- ---- a whole derivation
+last_of : (ls : List EqLine) (n : ℕ) → length ls ≡ suc n → (front : List EqLine) × (l : EqLine) × (ls ≡ front ++ l ∷ []) × (slice_get ls n ≡ Some l)
+last_of [] n e = absurd (omega (arith, e))
+last_of (l ∷ []) n e = let z : n ≡ 0 = omega (arith, e) in ([], l, refl, ap (slice_get (l ∷ [])) z)
+last_of (l ∷ m ∷ ls) zero e = absurd (omega (arith, e))
+last_of (l ∷ m ∷ ls) (suc n) e = let r = last_of (m ∷ ls) n (omega (arith, e)) in (l ∷ r.0, r.1, ap (λ x. l ∷ x) r.2, r.3)
 
-pub tags_turn : (steps : List Step) (m : List Bool) (i : ℕ) (s : Step) (b d : Bool) (ns ns' : List ℕ) → i < length m → i < length steps → s ≡ get_or steps i s → get_or m i d ≡ b
-    → ns ≡ tags (take i steps) (take i m) → ns' ≡ ns ++ cond b (tag_of s.rule) [] → ns' ≡ tags (take (i + 1) steps) (take (i + 1) m)
-tags_turn steps m i s b d ns ns' h l e g p q =
-    let at : slice_get steps i ≡ Some s = slice_get_read steps (length steps) i s refl l e in
-    let one : i + 1 ≡ suc i = omega arith in
-    q ∙ (λ k. p k ++ cond (sym (marked_at m i b d h g) k) (tag_of s.rule) []) ∙ sym (tags_more steps m i s at h) ∙ ap (λ k. tags (take k steps) (take k m)) (sym one)
+size_of : (n : ℕ) (xs : List ℕ) → n < length xs → (m : ℕ) × (length xs ≡ suc m)
+size_of n [] h = absurd (omega (arith, h))
+size_of n (x ∷ xs) h = (length xs, refl)
 
--- ---- one step more, and a whole derivation
-pub fits_push : (sig : Signature) (ts : List Term) (steps steps' : List Step) (s : Step) → Fits sig ts steps → IsAllowedStep sig ts steps s → IsStepWithin (length ts) s → steps' ≡ steps ++ s ∷ [] → Fits sig ts steps'
-fits_push sig ts steps steps' s f a w p = subst (Fits sig ts) (sym p) (record { allowed = record { each = each }; within = record { each = inside } })
-  where
-    each : (i : ℕ) (t : Step) → slice_get (steps ++ s ∷ []) i ≡ Some t → IsAllowedStep sig ts (take i (steps ++ s ∷ [])) t
-    each i t e = elim (get_pushed steps s i t e) [
-      | inl q ↦
-          let l : i < length steps = slice_get_within steps i t q in
-          subst (λ xs. IsAllowedStep sig ts xs t) (sym (take-append-le i steps (s ∷ []) (omega (arith, l)))) (f.allowed.each i t q)
-      | inr q ↦
-          let x : take i (steps ++ s ∷ []) ≡ steps = take_at steps (s ∷ []) i (sym q.0) in
-          subst (λ xs. IsAllowedStep sig ts xs t) (sym x) (subst (IsAllowedStep sig ts steps) q.1 a)
-    ]
-
-    inside : (i : ℕ) (t : Step) → slice_get (steps ++ s ∷ []) i ≡ Some t → IsStepWithin (length ts) t
-    inside i t e = elim (get_pushed steps s i t e) [ inl q ↦ f.within.each i t q | inr q ↦ subst (IsStepWithin (length ts)) q.1 w ]
-
-pub derivation : (sig : Signature) (ts : List Term) (steps : List Step) (id : ℕ) (d : Deriv) (m : List Bool) (vs : List ℕ) (c : ℕ) → Fits sig ts steps → id < length steps → m ≡ needed steps id
-    → d.hyps ≡ literals ts steps m → IsEmitted sig ts steps m (literals ts steps m) (length m) d.lines vs c → Derives sig ts steps id d
-derivation sig ts steps id d m vs c fits l is hyps a =
-    let rest = rest_on_earlier sig ts steps fits.allowed in
-    let s = value_at steps id l in
-    let g : marked m id ≡ true = ap (λ x. marked x id) is ∙ needed_itself steps rest id in
-    let long : length m ≡ id + 1 = ap length is ∙ needed_length steps id in
-    let e = a.ends id s.0 long g s.1 in
+pub derivation : (sig : Signature) (ts : List Term) (steps : List Step) (id : ℕ) (ks : List ℕ) (d : Deriv) (c : ℕ) → Fits sig ts steps → id < length steps → AreNeeded steps id ks → d.hyps ≡ literals ts steps ks
+    → IsEmitted sig ts steps ks (literals ts steps ks) (length ks) d.lines c → Derives sig ts steps id d
+derivation sig ts steps id ks d c fits low needed hyps a =
+    let s = value_at steps id low in
+    let i = needed.all id itself in
+    let w : i.place < length ks = slice_get_within ks i.place id i.is in
+    let m = size_of i.place ks w in
+    let k = value_at ks m.0 (let e = m.1 in omega (arith, e)) in
+    let same : k.0 ≡ id = last_needed steps (rest_on_earlier sig ts steps fits.allowed) id ks needed m.0 k.0 m.1 k.1 in
+    let e = last_of d.lines m.0 (a.long ∙ m.1) in
+    let st = a.stated m.0 k.0 s.0 (let z = m.1 in omega (arith, z)) k.1 (ap (slice_get steps) same ∙ s.1) in
+    let says : ◌≡◌ {A = Option Fact} (Some (states e.1)) (Some (fact_of ts s.0)) = sym (ap (λ o. o >>= λ x. Some (states x)) e.3) ∙ st in
     record {
-      hyps = hyps ∙ ap (literals ts steps) is;
+      needed = ks;
+      are_needed = needed;
+      hyps = hyps;
       allowed = subst (λ hs. AllAllowed sig (fact_ok sig) hs [] d.lines) (sym hyps) a.allowed;
+      one_each = a.long;
+      stated = λ j n t x y. a.stated j n t (slice_get_within ks j n x) x y;
       step = s.0;
       is = s.1;
-      front = e.front;
-      last = e.last;
-      lines = e.lines_are;
-      derived = e.states_it;
+      front = e.0;
+      last = e.1;
+      lines = e.2;
+      derived = cc says;
     }
-
-pub closed_marks : (sig : Signature) (ts : List Term) (steps : List Step) (id : ℕ) (m : List Bool) → Fits sig ts steps → id < length steps → m ≡ needed steps id → IsClosed steps m
-closed_marks sig ts steps id m fits l is = subst (IsClosed steps) (sym is) (needed_closed steps (rest_on_earlier sig ts steps fits.allowed) id l)
-
-pub marks_long : (steps : List Step) (id : ℕ) (m : List Bool) → id < length steps → m ≡ needed steps id → length m ≤ length steps
-marks_long steps id m l is = let e : length m ≡ id + 1 = ap length is ∙ needed_length steps id in omega (arith, e, l)
 
 pub terms_long : (ns : List Node) → length (terms (shapes ns)) ≡ length ns
 terms_long ns = length_terms (shapes ns) ∙ length-map ns shape_of

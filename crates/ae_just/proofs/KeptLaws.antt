@@ -1,7 +1,6 @@
 -- Steps that fit a store fit it when it has grown.
-use Rattle.std.specs.Prelude.{ℕ, ℤ, zero, suc, ◌<◌, Bool, List, [], ◌∷◌, ◌++◌, ◌≡◌, map, take, length, slice_get, Some}
-use Rattle.std.specs.List.{AllByRecursion}
-use Rattle.std.proofs.Common.{refl, sym, ap, ◌∙◌, subst, arith}
+use Rattle.std.specs.Prelude.{ℕ, zero, suc, ◌<◌, Bool, List, [], ◌∷◌, ◌≡◌, map, take, length}
+use Rattle.std.proofs.Common.{refl, sym, ap, ◌∙◌, subst}
 use Rattle.std.proofs.lemmas.Option.{slice_get_within}
 use Rattle.ae_rules.specs.Lines.{fact_ok}
 use Rattle.ae_base.specs.Options.{or_else}
@@ -10,15 +9,14 @@ use Rattle.ae_core.specs.declared.terms.Head.{Head}
 use Rattle.ae_core.specs.declared.terms.Op.TheVariants as op
 use Rattle.ae_core.specs.declared.terms.Term.{Term, Bound}
 use Rattle.ae_core.specs.declared.problems.Signature.{Signature}
-use Rattle.ae_core.specs.declared.proofs.EqLine.{EqLine}
 use Rattle.ae_store.specs.Terms.{named, Keeps}
 use Rattle.ae_base.proofs.ListFacts.{value_at}
 use Rattle.ae_just.specs.declared.steps.Times.{Times}
 use Rattle.ae_just.specs.declared.steps.Side.{Side}
 use Rattle.ae_just.specs.declared.steps.Side.TheVariants as side
 use Rattle.ae_just.specs.declared.steps.Step.{Step}
-use Rattle.ae_just.specs.Sides.{side_term, product, numeric, joined, whole, sum_from, sum_of, many_from, many_of, IsWithin, ArePartsWithin, AreNamesWithin}
-use Rattle.ae_just.specs.Steps.{fact_of, own_line, line_by, RuleAllowed, IsAllowedStep, AreAllowed, IsStepWithin, AreWithin, Fits}
+use Rattle.ae_just.specs.Sides.{side_term, product, numeric, joined, whole, sum_from, many_from, IsWithin, ArePartsWithin, AreNamesWithin}
+use Rattle.ae_just.specs.Steps.{fact_of, own_line, line_by, RuleAllowed, IsStepWithin, AreWithin, Fits}
 
 module _ (old new : List Term) (keeps : Keeps old new) where
   name_kept : (a : ℕ) → a < length old → named new a ≡ named old a
@@ -72,12 +70,14 @@ module _ (old new : List Term) (keeps : Keeps old new) where
 
   pub fits_kept : (sig : Signature) (steps : List Step) → Fits sig old steps → Fits sig new steps
   fits_kept sig steps f = record {
-    allowed = record { each = λ i s e.
-      let a = f.allowed.each i s e in
-      let w = f.within.each i s e in
-      record {
-        sorted = ap (fact_ok sig) (λ j. record { relation = (fact_of old s).relation; left = side_kept s.left w.0 j; right = side_kept s.right w.1 j }) ∙ a.sorted;
-        allowed = subst (λ x. RuleAllowed sig x (own_line new s) s.rule) (sym (lines_kept steps i f.within)) (subst (λ x. RuleAllowed sig (map (own_line old) (take i steps)) x s.rule) (sym (line_kept s w)) a.allowed);
-      } };
+    allowed = record {
+      each = λ i s e.
+          let a = f.allowed.each i s e in
+          let w = f.within.each i s e in
+          record {
+            sorted = ap (fact_ok sig) (λ j. record { relation = (fact_of old s).relation; left = side_kept s.left w.0 j; right = side_kept s.right w.1 j }) ∙ a.sorted;
+            allowed = subst (λ x. RuleAllowed sig x (own_line new s) s.rule) (sym (lines_kept steps i f.within)) (subst (λ x. RuleAllowed sig (map (own_line old) (take i steps)) x s.rule) (sym (line_kept s w)) a.allowed);
+          };
+    };
     within = record { each = λ i s e. let w = f.within.each i s e in (side_wider s.left w.0, side_wider s.right w.1) };
   }

@@ -1,9 +1,7 @@
 -- A rule stays allowed where the steps that it rests on have other numbers.
-use Rattle.std.specs.Prelude.{ℕ, ℤ, zero, suc, ◌+◌, ◌<◌, Bool, true, List, [], ◌∷◌, ◌++◌, ◌≡◌, map, length, slice_get, Option, Some, None}
+use Rattle.std.specs.Prelude.{ℕ, ℤ, zero, suc, ◌<◌, List, [], ◌∷◌, ◌≡◌, map, length, slice_get, Option, Some, None}
 use Rattle.std.specs.List.{AllByRecursion}
-use Rattle.std.proofs.Common.{refl, sym, ap, ◌∙◌, subst, arith}
-use Rattle.std.proofs.lemmas.Option.{slice_get_within}
-use Rattle.ae_base.specs.Options.{◌>>=◌}
+use Rattle.std.proofs.Common.{refl, sym, ◌∙◌, arith}
 use Rattle.ae_rules.specs.Lines.{Fact, equal, states, Stated, Equated, Combined, Allowed}
 use Rattle.ae_core.specs.declared.terms.Term.{Term}
 use Rattle.ae_core.specs.declared.formulas.Lit.{Lit}
@@ -14,7 +12,7 @@ use Rattle.ae_just.specs.declared.steps.Step.{Step}
 use Rattle.ae_just.specs.declared.steps.Rule.{Rule}
 use Rattle.ae_just.specs.declared.steps.Rule.TheVariants as rule
 use Rattle.ae_just.specs.Sides.{side_term}
-use Rattle.ae_just.specs.Steps.{fact_of, renamed, renamed_rule, line_by, line_of, own_line, premises, RuleAllowed}
+use Rattle.ae_just.specs.Steps.{fact_of, renamed, renamed_rule, line_by, own_line, premises, RuleAllowed}
 
 -- what a step of number k states is stated by the line of number v k
 abbrev pub Carries : List EqLine → List EqLine → (ℕ → ℕ) → ℕ → Type 0

@@ -1,12 +1,11 @@
 -- The lines of steps, and when a step is allowed.
-use Rattle.std.specs.Prelude.{ℕ, zero, suc, ◌<◌, Bool, true, false, cond, List, [], ◌∷◌, ◌++◌, ◌≡◌, map, take, length, slice_get, Option, Some}
-use Rattle.ae_rules.specs.Lines.{Fact, equal, states, Allowed, AllAllowed, fact_ok}
+use Rattle.std.specs.Prelude.{ℕ, true, List, [], ◌∷◌, ◌≡◌, map, take, length, slice_get, Some}
+use Rattle.ae_rules.specs.Lines.{Fact, equal, Allowed, fact_ok}
 use Rattle.ae_core.specs.declared.terms.Term.{Term}
 use Rattle.ae_core.specs.declared.formulas.Formula.{Eq}
 use Rattle.ae_core.specs.declared.formulas.Lit.{Lit}
 use Rattle.ae_core.specs.declared.problems.Signature.{Signature}
 use Rattle.ae_core.specs.declared.proofs.Scaled.{Scaled}
-use Rattle.ae_core.specs.declared.proofs.Deriv.{Deriv}
 use Rattle.ae_core.specs.declared.proofs.EqLine.{EqLine}
 use Rattle.ae_core.specs.declared.proofs.EqLine.TheVariants.{EqHyp, EqRefl, EqSym, EqTrans, EqCong, EqAc, EqLin, EqField, EqFields}
 use Rattle.ae_just.specs.declared.steps.Step.{Step}
@@ -88,17 +87,6 @@ assumed l _ = []
 abbrev pub tag_of : Rule → List ℕ
 tag_of (rule.Hyp tag) = tag ∷ []
 tag_of _ = []
-
--- those of the marked steps, in their order
-abbrev pub literals : List Term → List Step → List Bool → List Lit
-literals ts [] bs = []
-literals ts (s ∷ ss) [] = []
-literals ts (s ∷ ss) (b ∷ bs) = cond b (assumed (literal ts s) s.rule) [] ++ literals ts ss bs
-
-abbrev pub tags : List Step → List Bool → List ℕ
-tags [] bs = []
-tags (s ∷ ss) [] = []
-tags (s ∷ ss) (b ∷ bs) = cond b (tag_of s.rule) [] ++ tags ss bs
 
 -- the names in a step's sides are below n
 abbrev pub IsStepWithin : ℕ → Step → Type 0

@@ -1,16 +1,17 @@
 //! The steps, and the derivations that they give.
-ghost use Rattle.std.specs.Prelude.{◌≡◌, ◌+◌, ◌<◌, ◌≤◌, ◌^◌, List, ℕ, [], ◌∷◌, ◌++◌, length, map, IsTrue, IfOk, OnOk, OnErr};
-ghost use Rattle.std.specs.Prelude.{false};
+ghost use Rattle.std.specs.Prelude.{◌≡◌, ◌+◌, ◌<◌, List, [], ◌∷◌, ◌++◌, length, map, IsTrue, IfOk, OnOk, OnErr};
+ghost use Rattle.std.specs.Prelude.{ℕ, false};
+ghost use Rattle.std.specs.List.{AllByRecursion};
 ghost use Rattle.ae_core.specs.declared.formulas.Lit.{Lit};
-ghost use Rattle.ae_rules.specs.Lines.{AllAllowed, fact_ok};
 ghost use Rattle.ae_store.specs.Shapes.{shapes};
 ghost use Rattle.ae_store.specs.Terms.{terms};
 ghost use Rattle.ae_just.specs.Steps as spec;
-ghost use Rattle.ae_just.specs.Steps.{IsAllowedStep, AreAllowed, AreWithin, IsStepWithin, literals, tags, tag_of, line_of, Fits};
-ghost use Rattle.ae_just.specs.Marks.{needed as needed_by, Derives, IsClosed};
-ghost use Rattle.ae_just.specs.Emitting.{IsEmitted, numbered};
+ghost use Rattle.ae_just.specs.Steps.{IsAllowedStep, AreAllowed, AreWithin, IsStepWithin, tag_of, line_of, Fits};
+ghost use Rattle.ae_just.specs.Needed.{AreNeeded, AreTags, Derives, IsRising, literals, tags};
+ghost use Rattle.ae_just.specs.Inner.Emitting.{IsEmitted};
+ghost use Rattle.ae_just.specs.Inner.Emitting as emitting;
 
-use crate::marks::needed;
+use crate::needed::{needed, place};
 use crate::sides::side_term;
 use crate::steps::{Rule, Step};
 use ae_core::formulas::{Formula, Lit};
@@ -38,66 +39,63 @@ impl Model for Justs {
 
     ghost coded = { coded_list step_contract.the_row.coded };
 
-    ghost view = { λ j. j.steps };
-}
+    ghost use Rattle.ae_just.specs.Inner.Pending.{RestOnEarlier};
 
-/// The number that an earlier step's line has.
-fn number_of(numbers: &[usize], step: usize) -> usize
-    ensures { result ≡ numbered numbers.now step }
-{
-    match numbers.get(step) {
-        None => 0,
-        Some(number) => *number,
-    }
+    ghost view = { λ j. j.steps };
+
+    ghost invariant = { λ j. RestOnEarlier j.steps };
 }
 
 fn renamed_steps(
     alloc: Global,
-    numbers: &[usize],
+    needed: &[usize],
     steps: &[usize],
 ) -> Result<List<usize>, AllocError>
-    ensures { IfOk result (λ ks. ks ≡ map (numbered numbers.now) steps.now) }
+    requires { IsRising needed.now }
+    ensures { IfOk result (λ ks. ks ≡ map (emitting.place needed.now) steps.now) }
 {
     let mut renamed = List::new(alloc);
     for step in steps {
-        renamed.push(number_of(numbers, *step))?;
+        renamed.push(place(needed, *step))?;
     }
     Ok(renamed)
 }
 
 fn renamed_parts(
     alloc: Global,
-    numbers: &[usize],
+    needed: &[usize],
     parts: &[Scaled],
 ) -> Result<List<Scaled>, AllocError>
-    ensures { IfOk result (λ ps. ps ≡ map (spec.renamed (numbered numbers.now)) parts.now) }
+    requires { IsRising needed.now }
+    ensures { IfOk result (λ ps. ps ≡ map (spec.renamed (emitting.place needed.now)) parts.now) }
 {
     let mut renamed = List::new(alloc);
     for part in parts {
         renamed.push(Scaled {
             factor: part.factor,
-            line: number_of(numbers, part.line),
+            line: place(needed, part.line),
         })?;
     }
     Ok(renamed)
 }
 
-fn renamed_rule(alloc: Global, numbers: &[usize], rule: &Rule) -> Result<Rule, AllocError>
-    ensures { IfOk result (λ r. r ≡ spec.renamed_rule (numbered numbers.now) rule.now) }
+fn renamed_rule(alloc: Global, needed: &[usize], rule: &Rule) -> Result<Rule, AllocError>
+    requires { IsRising needed.now }
+    ensures { IfOk result (λ r. r ≡ spec.renamed_rule (emitting.place needed.now) rule.now) }
 {
     match rule {
         Rule::Hyp(tag) => Ok(Rule::Hyp(*tag)),
         Rule::Refl => Ok(Rule::Refl),
-        Rule::Sym(k) => Ok(Rule::Sym(number_of(numbers, *k))),
-        Rule::Trans(j, k) => Ok(Rule::Trans(number_of(numbers, *j), number_of(numbers, *k))),
-        Rule::Cong(ks) => Ok(Rule::Cong(renamed_steps(alloc, numbers, ks.as_slice())?)),
+        Rule::Sym(k) => Ok(Rule::Sym(place(needed, *k))),
+        Rule::Trans(j, k) => Ok(Rule::Trans(place(needed, *j), place(needed, *k))),
+        Rule::Cong(ks) => Ok(Rule::Cong(renamed_steps(alloc, needed, ks.as_slice())?)),
         Rule::Ac => Ok(Rule::Ac),
         Rule::Lin { times, parts } => Ok(Rule::Lin {
             times: *times,
-            parts: renamed_parts(alloc, numbers, parts.as_slice())?,
+            parts: renamed_parts(alloc, needed, parts.as_slice())?,
         }),
         Rule::Field => Ok(Rule::Field),
-        Rule::Fields(ks) => Ok(Rule::Fields(renamed_steps(alloc, numbers, ks.as_slice())?)),
+        Rule::Fields(ks) => Ok(Rule::Fields(renamed_steps(alloc, needed, ks.as_slice())?)),
     }
 }
 
@@ -132,15 +130,16 @@ fn line(
     alloc: Global,
     store: &Store,
     step: &Step,
-    numbers: &[usize],
+    needed: &[usize],
     hyp: usize,
 ) -> Result<EqLine, AllocError>
-    requires { IsStepWithin (length (terms (shapes store.now.nodes))) step.now }
-    ensures { IfOk result (λ l. l ≡ line_of (terms (shapes store.now.nodes)) (numbered numbers.now) hyp step.now) }
+    requires within { IsStepWithin (length (terms (shapes store.now.nodes))) step.now }
+    requires rising { IsRising needed.now }
+    ensures { IfOk result (λ l. l ≡ line_of (terms (shapes store.now.nodes)) (emitting.place needed.now) hyp step.now) }
 {
     let left = side_term(alloc, store, &step.left)?;
     let right = side_term(alloc, store, &step.right)?;
-    let rule = renamed_rule(alloc, numbers, &step.rule)?;
+    let rule = renamed_rule(alloc, needed, &step.rule)?;
     Ok(line_by(hyp, left, right, rule))
 }
 
@@ -191,23 +190,20 @@ fn is_hyp(rule: &Rule) -> bool
     }
 }
 
-/// The assumptions among the marked steps.
+/// The literals that these steps assume.
 fn hypotheses(
     alloc: Global,
     store: &Store,
     steps: &[Step],
-    marks: &[bool],
+    needed: &[usize],
 ) -> Result<List<Lit>, AllocError>
     requires within { AreWithin (length (terms (shapes store.now.nodes))) steps.now }
-    requires marks { length marks.now ≤ length steps.now }
-    ensures { IfOk result (λ hs. hs ≡ literals (terms (shapes store.now.nodes)) steps.now marks.now) }
+    requires needed { AllByRecursion (λ k. k < length steps.now) needed.now }
+    ensures { IfOk result (λ hs. hs ≡ literals (terms (shapes store.now.nodes)) steps.now needed.now) }
 {
     let mut hyps = List::new(alloc);
-    for i in 0..marks.len() {
-        let step = &steps[i];
-        if marks[i] {
-            push_assumed(alloc, store, step, &mut hyps)?;
-        }
+    for step in needed {
+        push_assumed(alloc, store, &steps[*step], &mut hyps)?;
     }
     Ok(hyps)
 }
@@ -229,17 +225,14 @@ fn push_tag(rule: &Rule, found: &mut List<usize>) -> Result<(), AllocError>
     }
 }
 
-/// The tags of the assumptions among the marked steps.
-fn marked_tags(alloc: Global, steps: &[Step], marks: &[bool]) -> Result<List<usize>, AllocError>
-    requires marks { length marks.now ≤ length steps.now }
-    ensures { IfOk result (λ ns. ns ≡ tags steps.now marks.now) }
+/// The tags of the assumptions among these steps.
+fn tags_of(alloc: Global, steps: &[Step], needed: &[usize]) -> Result<List<usize>, AllocError>
+    requires needed { AllByRecursion (λ k. k < length steps.now) needed.now }
+    ensures { IfOk result (λ ns. ns ≡ tags steps.now needed.now) }
 {
     let mut found = List::new(alloc);
-    for i in 0..marks.len() {
-        let step = &steps[i];
-        if marks[i] {
-            push_tag(&step.rule, &mut found)?;
-        }
+    for step in needed {
+        push_tag(&steps[*step].rule, &mut found)?;
     }
     Ok(found)
 }
@@ -262,32 +255,27 @@ fn next_hyp(count: usize, limit: usize, rule: &Rule) -> usize
     }
 }
 
-/// The lines of the marked steps.
-fn marked_lines(
+/// The lines of the steps that a step rests on.
+fn lines_of(
     alloc: Global,
     store: &Store,
     steps: &[Step],
-    marks: &[bool],
+    id: usize,
+    needed: &[usize],
 ) -> Result<List<EqLine>, AllocError>
-    requires within { AreWithin (length (terms (shapes store.now.nodes))) steps.now }
-    requires marks { length marks.now ≤ length steps.now }
-    requires allowed { AreAllowed store.now.signature (terms (shapes store.now.nodes)) steps.now }
-    requires closed { IsClosed steps.now marks.now }
-    ensures { IfOk result (λ ls. (vs : List ℕ) × (c : ℕ) × IsEmitted store.now.signature (terms (shapes store.now.nodes)) steps.now marks.now
-        (literals (terms (shapes store.now.nodes)) steps.now marks.now) (length marks.now) ls vs c) }
+    requires fits { Fits store.now.signature (terms (shapes store.now.nodes)) steps.now }
+    requires needed { AreNeeded steps.now id needed.now }
+    requires within { AllByRecursion (λ k. k < length steps.now) needed.now }
+    ensures { IfOk result (λ ls. (c : ℕ) × IsEmitted store.now.signature (terms (shapes store.now.nodes)) steps.now needed.now
+        (literals (terms (shapes store.now.nodes)) steps.now needed.now) (length needed.now) ls c) }
 {
     let mut lines = List::new(alloc);
-    let mut numbers = List::new(alloc);
     let mut count = 0;
-    for i in 0..marks.len() {
-        let number = lines.len();
-        let step = &steps[i];
-        if marks[i] {
-            let next = line(alloc, store, step, numbers.as_slice(), count)?;
-            lines.push(next)?;
-            count = next_hyp(count, marks.len(), &step.rule);
-        }
-        numbers.push(number)?;
+    for number in needed {
+        let step = &steps[*number];
+        let next = line(alloc, store, step, needed, count)?;
+        lines.push(next)?;
+        count = next_hyp(count, needed.len(), &step.rule);
     }
     Ok(lines)
 }
@@ -305,7 +293,6 @@ impl Justs {
 
     /// Appends a step that is allowed after the earlier ones. Refused memory leaves the steps as they were.
     pub fn add(&mut self, store: &Store, step: Step) -> Result<usize, AllocError>
-        requires within { IsStepWithin (length (terms (shapes store.now.nodes))) step }
         requires allowed { IsAllowedStep store.now.signature (terms (shapes store.now.nodes)) self.old step }
         requires fits { Fits store.now.signature (terms (shapes store.now.nodes)) self.old }
         ensures ok { OnOk result (self.new ≡ self.old ++ step ∷ []) }
@@ -318,24 +305,31 @@ impl Justs {
         Ok(number)
     }
 
-    /// The tags of the assumptions that a step rests on.
+    /// The tags of the assumptions that a step rests on, one for each assumption in the order of entry.
     pub fn literals_of(&self, id: usize) -> Result<List<usize>, AllocError>
         requires { id < length self.now }
-        ensures { IfOk result (λ ns. ns ≡ tags self.now (needed_by self.now id)) }
+        ensures { IfOk result (λ found. AreTags self.now id found) }
     {
-        let marks = needed(self.alloc, self.steps.as_slice(), id)?;
-        marked_tags(self.alloc, self.steps.as_slice(), marks.as_slice())
+        let needed = needed(self.alloc, self.steps.as_slice(), id)?;
+        tags_of(self.alloc, self.steps.as_slice(), needed.as_slice())
     }
 
-    /// Lines that derive a step's equation from the literals that it rests on.
+    /// Lines that derive a step's equation from the literals that it rests on: one line for each step that it rests on,
+    /// in the order of entry. The time is that of what is written; steps that it doesn't rest on aren't looked at.
     pub fn block_of(&self, store: &Store, id: usize) -> Result<Deriv, AllocError>
         requires id { id < length self.now }
         requires fits { Fits store.now.signature (terms (shapes store.now.nodes)) self.now }
         ensures { IfOk result (λ d. Derives store.now.signature (terms (shapes store.now.nodes)) self.now id d) }
     {
-        let marks = needed(self.alloc, self.steps.as_slice(), id)?;
-        let hyps = hypotheses(self.alloc, store, self.steps.as_slice(), marks.as_slice())?;
-        let lines = marked_lines(self.alloc, store, self.steps.as_slice(), marks.as_slice())?;
+        let needed = needed(self.alloc, self.steps.as_slice(), id)?;
+        let hyps = hypotheses(self.alloc, store, self.steps.as_slice(), needed.as_slice())?;
+        let lines = lines_of(
+            self.alloc,
+            store,
+            self.steps.as_slice(),
+            id,
+            needed.as_slice(),
+        )?;
         Ok(Deriv { hyps, lines })
     }
 }
