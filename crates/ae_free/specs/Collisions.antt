@@ -1,5 +1,5 @@
 -- Names of one head, sorts and representatives of arguments.
-use Rattle.std.specs.Prelude.{ℕ, ◌<◌, ◌≤◌, Bool, false, not, nat_eq, ◌&&◌, cond, List, [], ◌∷◌, ◌≡◌, ◌≢◌, slice_get, Option, Some, None}
+use Rattle.std.specs.Prelude.{ℕ, ◌<◌, ◌≤◌, Bool, false, not, nat_eq, ◌&&◌, List, [], ◌∷◌, ◌≡◌, ◌≢◌, slice_get, Option, Some}
 use Rattle.std.specs.Coded.{coded_list, coded_ℕ}
 use Rattle.ae_base.specs.Decided.{decide, decided}
 use Rattle.ae_core.specs.Sorts.{same_sorts}
@@ -27,11 +27,6 @@ both_alike _ _ = false
 -- a pair of a name and its representatives collides with the name
 abbrev pub collides : List Node → ℕ → List ℕ → ℕ × List ℕ → Bool
 collides nodes name args p = not (nat_eq p.0 name) && both_alike (slice_get nodes name) (slice_get nodes p.0) && same_names args p.1
-
--- the first that passes
-abbrev pub first_match : (ℕ × List ℕ → Bool) → List (ℕ × List ℕ) → Option ℕ
-first_match test [] = None
-first_match test (p ∷ ps) = cond (test p) (Some p.0) (first_match test ps)
 
 abbrev pub AreEntered : ℕ → List (ℕ × List ℕ) → Type 0
 AreEntered n [] = Unit {0}
