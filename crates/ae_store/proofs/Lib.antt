@@ -1,0 +1,14 @@
+pub mod Gets
+pub mod TermLaws
+pub mod TableLaws
+pub mod EnterLaws
+pub mod KnownLaws
+pub mod SizeLaws
+pub mod HeightLaws
+pub mod StoreLaws
+pub mod FieldLaws
+pub mod NodeSortLaws
+pub mod PartLaws
+pub mod AgeLaws
+pub mod NestLaws
+pub mod SortedLaws
