@@ -73,9 +73,6 @@ place_is [] k h = cc h.is
 place_is (n ∷ ns) k h = here_or (nat_eq n k) n k ns refl (place_is ns k) (first_or k n h.place ns h.is)
 
 -- ---- literals of the first steps
-assumed_at : List Term → List Step → ℕ → List Lit
-assumed_at ts steps k = or_else (slice_get steps k >>= λ s. Some (assumed (literal ts s) s.rule)) []
-
 literals_pushed : (ts : List Term) (steps : List Step) (ks : List ℕ) (k : ℕ) (s : Step) → slice_get steps k ≡ Some s → literals ts steps (ks ++ k ∷ []) ≡ literals ts steps ks ++ assumed (literal ts s) s.rule
 literals_pushed ts steps [] k s e = append-nil _ ∙ ap (λ o. or_else (o >>= λ (s : Step). Some (assumed (literal ts s) s.rule)) []) e
 literals_pushed ts steps (j ∷ ks) k s e =
@@ -158,9 +155,6 @@ get_take (x ∷ xs) (suc i) (suc k) h = get_take xs i k (omega (arith, h))
 
 -- ---- one line more
 module _ (sig : Signature) (ts : List Term) (steps : List Step) (id : ℕ) (ks : List ℕ) (fits : Fits sig ts steps) (needed : AreNeeded steps id ks) where
-  hyps : List Lit
-  hyps = literals ts steps ks
-
   pub emitted_none : IsEmitted sig ts steps ks (literals ts steps ks) 0 [] 0
   emitted_none = record { long = refl; count_is = refl; allowed = tt; stated = λ j k s l e at. absurd (omega (arith, l)) }
 
@@ -187,9 +181,6 @@ module _ (sig : Signature) (ts : List Term) (steps : List Step) (id : ℕ) (ks :
         let o = own_stated ts (take k steps) p f e in
         let low : p < k = all_at (λ p. p < k) (premises s.rule) m.place p ((rest_on_earlier sig ts steps fits.allowed).each k s at) m.is in
         subst (Stated lines (place ks p)) o.2 (a.stated (place ks p) p o.0 q.1 q.0 (sym (get_take steps k p low) ∙ o.1))
-
-    next : EqLine
-    next = line_of ts (place ks) c s
 
     says : states (line_of ts (place ks) c s) ≡ fact_of ts s
     says = states_line (place ks) c (side_term ts s.left) (side_term ts s.right) s.rule
@@ -238,7 +229,8 @@ module _ (sig : Signature) (ts : List Term) (steps : List Step) (id : ℕ) (ks :
   count_few i c lines l a = let e = a.count_is in let h = literals_few ts steps (take i ks) in let n = length-take-le i ks l in omega (arith, e, h, n)
 
   -- one turn of the code
-  pub emitted_turn : (i c c' d : ℕ) (lines lines' : List EqLine) (s : Step) (l : EqLine) (given : List ℕ) → i < length ks → IsEmitted sig ts steps ks (literals ts steps ks) i lines c → s ≡ get_or steps (get_or ks i d) s → get_or ks i d < length steps
+  pub emitted_turn : (i c c' d : ℕ) (lines lines' : List EqLine) (s : Step) (l : EqLine) (given : List ℕ) → i < length ks → IsEmitted sig ts steps ks (literals ts steps ks) i lines c
+      → s ≡ get_or steps (get_or ks i d) s → get_or ks i d < length steps
       → given ≡ ks → l ≡ line_of ts (place given) c s → lines' ≡ lines ++ l ∷ [] → c' ≡ c + length (tag_of s.rule) → IsEmitted sig ts steps ks (literals ts steps ks) (i + 1) lines' c'
   emitted_turn i c c' d lines lines' s l given low a at w g e p q =
       let is : slice_get ks i ≡ Some (get_or ks i d) = slice_get-get_or ks i d low in
@@ -248,9 +240,6 @@ module _ (sig : Signature) (ts : List Term) (steps : List Step) (id : ℕ) (ks :
       subst (λ x. IsEmitted sig ts steps ks (literals ts steps ks) (i + 1) lines' x) (sym q) (subst (λ x. IsEmitted sig ts steps ks (literals ts steps ks) (i + 1) x (c + length (tag_of s.rule))) (sym same) done)
 
 -- ---- one turn of the loops that collect
-front_more : (ks : List ℕ) (i d : ℕ) → i < length ks → take (i + 1) ks ≡ take i ks ++ get_or ks i d ∷ []
-front_more ks i d l = take_more ks i d l
-
 pub literals_turn : (ts : List Term) (steps : List Step) (ks : List ℕ) (i d : ℕ) (s : Step) (hs hs' : List Lit) → i < length ks → get_or ks i d < length steps → s ≡ get_or steps (get_or ks i d) s → hs ≡ literals ts steps (take i ks)
     → hs' ≡ hs ++ assumed (literal ts s) s.rule → hs' ≡ literals ts steps (take (i + 1) ks)
 literals_turn ts steps ks i d s hs hs' l w at p q =

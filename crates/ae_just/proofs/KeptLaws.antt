@@ -1,5 +1,6 @@
 -- Steps that fit a store fit it when it has grown.
 use Rattle.std.specs.Prelude.{ℕ, zero, suc, ◌<◌, Bool, List, [], ◌∷◌, ◌≡◌, map, take, length}
+use Rattle.std.specs.List.{AllByRecursion}
 use Rattle.std.proofs.Common.{refl, sym, ap, ◌∙◌, subst}
 use Rattle.std.proofs.lemmas.Option.{slice_get_within}
 use Rattle.ae_rules.specs.Lines.{fact_ok}
@@ -15,7 +16,7 @@ use Rattle.ae_just.specs.declared.steps.Times.{Times}
 use Rattle.ae_just.specs.declared.steps.Side.{Side}
 use Rattle.ae_just.specs.declared.steps.Side.TheVariants as side
 use Rattle.ae_just.specs.declared.steps.Step.{Step}
-use Rattle.ae_just.specs.Sides.{side_term, product, numeric, joined, whole, sum_from, many_from, IsWithin, ArePartsWithin, AreNamesWithin}
+use Rattle.ae_just.specs.Sides.{side_term, product, numeric, joined, whole, sum_from, many_from, IsWithin, ArePartsWithin}
 use Rattle.ae_just.specs.Steps.{fact_of, own_line, line_by, RuleAllowed, IsStepWithin, AreWithin, Fits}
 
 module _ (old new : List Term) (keeps : Keeps old new) where
@@ -32,7 +33,7 @@ module _ (old new : List Term) (keeps : Keeps old new) where
   sum_kept real t [] h = refl
   sum_kept real t (p ∷ ps) h = ap (λ x. sum_from real new (joined (numeric real op.Add) [] t x) ps) (product_kept real p h.0) ∙ sum_kept real (joined (numeric real op.Add) [] t (product real old p)) ps h.1
 
-  many_kept : (u : Head) (ss : List Sort) (t : Term) (ns : List ℕ) → AreNamesWithin (length old) ns → many_from u ss new t ns ≡ many_from u ss old t ns
+  many_kept : (u : Head) (ss : List Sort) (t : Term) (ns : List ℕ) → AllByRecursion (λ a. a < length old) ns → many_from u ss new t ns ≡ many_from u ss old t ns
   many_kept u ss t [] h = refl
   many_kept u ss t (n ∷ ns) h = ap (λ x. many_from u ss new (joined u ss t x) ns) (name_kept n h.0) ∙ many_kept u ss (joined u ss t (named old n)) ns h.1
 
@@ -44,7 +45,7 @@ module _ (old new : List Term) (keeps : Keeps old new) where
   side_kept (side.Many u []) h = refl
   side_kept (side.Many u (n ∷ ns)) h = ap (λ t. many_from u.head u.sorts new t ns) (name_kept n h.0) ∙ many_kept u.head u.sorts (named old n) ns h.1
 
-  names_wider : (ns : List ℕ) → AreNamesWithin (length old) ns → AreNamesWithin (length new) ns
+  names_wider : (ns : List ℕ) → AllByRecursion (λ a. a < length old) ns → AllByRecursion (λ a. a < length new) ns
   names_wider [] h = tt
   names_wider (n ∷ ns) h = (name_within n h.0, names_wider ns h.1)
 

@@ -1,5 +1,6 @@
 -- The names in the sides of a well-sorted equation are names of the store.
 use Rattle.std.specs.Prelude.{ℕ, ◌<◌, Bool, List, [], ◌∷◌, ◌++◌, ◌≡◌, length, take, slice_get, Option, Some, None}
+use Rattle.std.specs.List.{AllByRecursion}
 use Rattle.std.proofs.Common.{sym, ap, ◌∙◌, subst, arith, inl, inr}
 use Rattle.std.proofs.lemmas.Bool.{cases_lt}
 use Rattle.std.proofs.lemmas.List.{take-append-le, take_at}
@@ -21,7 +22,7 @@ use Rattle.ae_just.specs.declared.steps.Times.{Times}
 use Rattle.ae_just.specs.declared.steps.Side.{Side}
 use Rattle.ae_just.specs.declared.steps.Side.TheVariants as side
 use Rattle.ae_just.specs.declared.steps.Step.{Step}
-use Rattle.ae_just.specs.Sides.{side_term, product, numeric, joined, whole, sum_from, many_from, IsWithin, ArePartsWithin, AreNamesWithin}
+use Rattle.ae_just.specs.Sides.{side_term, product, numeric, joined, whole, sum_from, many_from, IsWithin, ArePartsWithin}
 use Rattle.ae_just.specs.Steps.{IsAllowedStep, IsStepWithin, Fits}
 
 module _ (sig : Signature) (ts : List Term) where
@@ -55,7 +56,7 @@ module _ (sig : Signature) (ts : List Term) where
       let j = joined_known (numeric real op.Add) [] t (product real ts p) r.0 in
       (j.0, (product_known real p j.1, r.1))
 
-  many_known : (h : Head) (ss : List Sort) (t : Term) (ns : List ℕ) → Known (many_from h ss ts t ns) → Known t × AreNamesWithin (length ts) ns
+  many_known : (h : Head) (ss : List Sort) (t : Term) (ns : List ℕ) → Known (many_from h ss ts t ns) → Known t × AllByRecursion (λ a. a < length ts) ns
   many_known h ss t [] k = (k, tt)
   many_known h ss t (n ∷ ns) k =
       let r = many_known h ss (joined h ss t (named ts n)) ns k in

@@ -33,7 +33,8 @@ term_found sig ns s i sound e = term_at sig (shapes ns) sound i s (found_there s
 shapes_pushed : (ns ms : List Node) (n : Node) (s : Shape) → ms ≡ ns ++ n ∷ [] → shape_of n ≡ s → shapes ms ≡ shapes ns ++ s ∷ []
 shapes_pushed ns ms n s e f = ap shapes e ∙ map_push shape_of ns n ∙ ap (λ x. shapes ns ++ x ∷ []) f
 
-pub sound_entered : (sig : Signature) (ns ms : List Node) (n : Node) (s : Shape) → IsSound sig (shapes ns) → IsShapeAt sig (length ns) s → position (is_same s) (shapes ns) ≡ None → IsOfSort sig (term_of (terms (shapes ns)) s) s.sort → ms ≡ ns ++ n ∷ [] → shape_of n ≡ s → IsSound sig (shapes ms)
+pub sound_entered : (sig : Signature) (ns ms : List Node) (n : Node) (s : Shape) → IsSound sig (shapes ns) → IsShapeAt sig (length ns) s → position (is_same s) (shapes ns) ≡ None
+    → IsOfSort sig (term_of (terms (shapes ns)) s) s.sort → ms ≡ ns ++ n ∷ [] → shape_of n ≡ s → IsSound sig (shapes ms)
 sound_entered sig ns ms n s sound at new of e f =
     subst (IsSound sig) (sym (shapes_pushed ns ms n s e f))
     (sound_push sig (shapes ns) sound s (subst (λ k. IsShapeAt sig k s) (sym (length-map ns shape_of)) at) (not_found s (shapes ns) new) of)

@@ -185,20 +185,18 @@ only_none ns a = record { only = λ b l h. absurd (omega (arith, l, h)) }
 pub only_push : (ns ms : List Node) (n : Node) (a : ℕ) → ms ≡ ns ++ n ∷ [] → a ≡ length ns → OnlyNew ns ms a
 only_push ns ms n a e p = record { only = λ b l h. (let q : length ms ≡ length ns + 1 = ap length e ∙ length-append ns (n ∷ []) in omega (arith, l, h, p, q)) }
 
-pub below_or_at : (k i : ℕ) → k < i + 1 → (k < i) ⊎ (k ≡ i)
-below_or_at zero zero h = inr refl
-below_or_at zero (suc i) h = inl (omega arith)
-below_or_at (suc k) zero h = absurd (omega (arith, h))
-below_or_at (suc k) (suc i) h = elim (below_or_at k i (omega (arith, h))) [ inl l ↦ inl (omega (arith, l)) | inr e ↦ inr (ap suc e) ]
-
 -- one field more
 pub done_more : (sig : Signature) (ns ms : List Node) (a : ℕ) (s : Sort) (i : ℕ) → IsFront ns ms → ((k : ℕ) → k < i → HasField sig (shapes ns) a s k) → HasField sig (shapes ms) a s i → (k : ℕ) → k < i + 1 → HasField sig (shapes ms) a s k
-done_more sig ns ms a s i f d h k l = elim (below_or_at k i l) [ inl q ↦ field_more sig ns ms a s k f (d k q) | inr q ↦ subst (HasField sig (shapes ms) a s) (sym q) h ]
+done_more sig ns ms a s i f d h k l = elim (cases_lt k i) [
+  | inl q ↦ field_more sig ns ms a s k f (d k q)
+  | inr q ↦ (let e : k ≡ i = omega (arith, q, l) in subst (HasField sig (shapes ms) a s) (sym e) h)
+]
 
 pub field_here : (sig : Signature) (xs : List Shape) (a : ℕ) (s : Sort) (k name : ℕ) (hd : Head) (ss : List Sort) → hd ≡ field_head s k → ss ≡ sort_args s → slice_get xs name ≡ Some (applied sig hd ss (a ∷ [])) → HasField sig xs a s k
 field_here sig xs a s k name hd ss e f g = record { name = name; at = g ∙ (λ i. Some (applied sig (e i) (f i) (a ∷ []))) }
 
-pub complete_from : (sig : Signature) (ns ms : List Node) (a : ℕ) (s : Sort) → IsFront ns ms → a < length ns → ((x : Shape) → slice_get (shapes ns) a ≡ Some x → x.sort ≡ s) → ((k : ℕ) → k < field_count sig s → HasField sig (shapes ms) a s k) → IsComplete sig (shapes ms) a
+pub complete_from : (sig : Signature) (ns ms : List Node) (a : ℕ) (s : Sort) → IsFront ns ms → a < length ns → ((x : Shape) → slice_get (shapes ns) a ≡ Some x → x.sort ≡ s)
+    → ((k : ℕ) → k < field_count sig s → HasField sig (shapes ms) a s k) → IsComplete sig (shapes ms) a
 complete_from sig ns ms a s f l q d = record {
   fields = λ x k e h.
       let g = value_at (shapes ns) a (let n = length-map ns shape_of in omega (arith, l, n)) in

@@ -175,7 +175,8 @@ fields_fall sig earlier = record { falls = falls }
         let low : names_below n f.sort ≡ true = list_all_at (λ g. names_below n g.sort) (fields_of e) k f (earlier.fields n e p) q in
         let a : height all (put_sort ss f.sort) ≤ height all f.sort + largest (map (height all) ss) = put_height all ss f.sort in
         let b : height (w.before) f.sort ≡ height all f.sort = same_height w.before all n w.agree f.sort low in
-        let c : height (w.before) f.sort ≤ largest (map (λ g. height w.before g.sort) (fields_of e)) = at_most_largest (map (λ g. height w.before g.sort) (fields_of e)) k (height w.before f.sort) (get_map (λ g. height w.before g.sort) (fields_of e) k f q) in
+        let c : height (w.before) f.sort ≤ largest (map (λ g. height w.before g.sort) (fields_of e)) = at_most_largest (map (λ g. height w.before g.sort) (fields_of e)) k (height w.before f.sort)
+        (get_map (λ g. height w.before g.sort) (fields_of e) k f q) in
         let d : height all (Named n ss) ≡ or_else (slice_get all n) 0 + largest (map (height all) ss) = height_named all n ss in
         let h : or_else (slice_get all n) 0 ≡ suc (largest (map (λ g. height w.before g.sort) (fields_of e))) = ap (λ o. or_else o 0) w.at in
         omega (arith, a, b, c, d, h)

@@ -24,7 +24,8 @@ only_is : (b : Bool) (o : Option Sort) (f : Sort → Sort) (s : Sort) → (only 
 only_is true o f s e = e
 only_is false o f s e = cc e
 
-symbol_is : (sig : Signature) (n : ℕ) (ss args : List Sort) (s : Sort) (o : Option SymbolEntry) → slice_get sig.symbols n ≡ o → (o >>= symbol_sort ss args) ≡ Some s → or_else (slice_get sig.symbols n >>= λ (e : SymbolEntry). e.result >>= λ t. Some (put_sort ss t)) BoolSort ≡ s
+symbol_is : (sig : Signature) (n : ℕ) (ss args : List Sort) (s : Sort) (o : Option SymbolEntry) → slice_get sig.symbols n ≡ o → (o >>= symbol_sort ss args) ≡ Some s
+    → or_else (slice_get sig.symbols n >>= λ (e : SymbolEntry). e.result >>= λ t. Some (put_sort ss t)) BoolSort ≡ s
 symbol_is sig n ss args s None p e = cc e
 symbol_is sig n ss args s (Some x) p e =
     let q : (x.result >>= λ t. Some (put_sort ss t)) ≡ Some s = only_is (nat_eq (length ss) x.vars && same_sorts args (map (put_sort ss) x.args)) x.result (put_sort ss) s e in

@@ -16,7 +16,7 @@ use Rattle.ae_store.specs.Fields.{field_count, field_head, sort_args, OnlyNew}
 use Rattle.ae_store.specs.Parts.{IsIn, AreIn, IsPart, root, argument, field, AreGiven, HasFieldIn, HasFieldsIn, IsTouched, Added}
 use Rattle.ae_base.proofs.ListFacts.{get_append, value_at}
 use Rattle.ae_store.proofs.Gets.{get_last, get_pushed}
-use Rattle.ae_store.proofs.FieldLaws.{shape_kept, below_or_at}
+use Rattle.ae_store.proofs.FieldLaws.{shape_kept}
 
 -- ---- one of some names
 pub in_none : (a : ℕ) → IsIn a [] → ⊥
@@ -144,11 +144,16 @@ module _ (sig : Signature) where
       field a g.0 k p (root a (in_one a)) (shape_kept ns ms f a g.0 g.1) (subst (λ r. k < field_count sig r) v c)
       (e ∙ (λ i. Some (applied sig ((e1 ∙ ap (λ r. field_head r k) v) i) ((e2 ∙ ap sort_args v) i) (a ∷ []))))
 
-  pub field_in_here : (xs : List Shape) (T : List ℕ) (a : ℕ) (s : Sort) (k p : ℕ) (hd : Head) (ss : List Sort) → hd ≡ field_head s k → ss ≡ sort_args s → slice_get xs p ≡ Some (applied sig hd ss (a ∷ [])) → IsIn p T → HasFieldIn sig xs T a s k
+  pub field_in_here : (xs : List Shape) (T : List ℕ) (a : ℕ) (s : Sort) (k p : ℕ) (hd : Head) (ss : List Sort) → hd ≡ field_head s k → ss ≡ sort_args s
+      → slice_get xs p ≡ Some (applied sig hd ss (a ∷ [])) → IsIn p T → HasFieldIn sig xs T a s k
   field_in_here xs T a s k p hd ss e1 e2 e h = record { name = p; at = e ∙ (λ i. Some (applied sig (e1 i) (e2 i) (a ∷ []))); within = h }
 
-  pub inside_more : (ns ms : List Node) (T U : List ℕ) (a : ℕ) (s : Sort) (i : ℕ) → IsFront ns ms → AreIn T U → ((k : ℕ) → k < i → HasFieldIn sig (shapes ns) T a s k) → HasFieldIn sig (shapes ms) U a s i → (k : ℕ) → k < i + 1 → HasFieldIn sig (shapes ms) U a s k
-  inside_more ns ms T U a s i f t d h k l = elim (below_or_at k i l) [ inl q ↦ field_in_more ns ms T U a s k f t (d k q) | inr q ↦ subst (HasFieldIn sig (shapes ms) U a s) (sym q) h ]
+  pub inside_more : (ns ms : List Node) (T U : List ℕ) (a : ℕ) (s : Sort) (i : ℕ) → IsFront ns ms → AreIn T U → ((k : ℕ) → k < i → HasFieldIn sig (shapes ns) T a s k)
+      → HasFieldIn sig (shapes ms) U a s i → (k : ℕ) → k < i + 1 → HasFieldIn sig (shapes ms) U a s k
+  inside_more ns ms T U a s i f t d h k l = elim (cases_lt k i) [
+    | inl q ↦ field_in_more ns ms T U a s k f t (d k q)
+    | inr q ↦ (let e : k ≡ i = omega (arith, q, l) in subst (HasFieldIn sig (shapes ms) U a s) (sym e) h)
+  ]
 
   -- ---- names that are added
   pub added_none : (g : ℕ) (ns : List Node) (T roots : List ℕ) → Added sig g ns ns T T roots

@@ -198,7 +198,12 @@ module _ (sig : Signature) (xs : List Shape) (sound : IsSound sig xs) where
 
   -- one more shape, which isn't there yet
   pub sound_push : (x : Shape) → IsShapeAt sig (length xs) x → ((i : ℕ) → slice_get xs i ≢ Some x) → IsOfSort sig (term_of (terms xs) x) x.sort → IsSound sig (xs ++ x ∷ [])
-  sound_push x at new of = record { sorted = record { each = sorted }; places = places; one_name = λ i j t e f. one i j t (subst (λ ts. slice_get ts i ≡ Some t) (terms_push xs x) e) (subst (λ ts. slice_get ts j ≡ Some t) (terms_push xs x) f) }
+  sound_push x at new of = record {
+    sorted = record { each = sorted };
+    places = places;
+    one_name = λ i j t e f. one i j t (subst (λ ts. slice_get ts i ≡ Some t) (terms_push xs x) e)
+        (subst (λ ts. slice_get ts j ≡ Some t) (terms_push xs x) f);
+  }
     where
       places : (i : ℕ) (y : Shape) → slice_get (xs ++ x ∷ []) i ≡ Some y → IsShapeAt sig i y
       places i y e = elim (get_pushed xs x i y e) [
@@ -215,7 +220,8 @@ module _ (sig : Signature) (xs : List Shape) (sound : IsSound sig xs) where
             sound.sorted.each i y t h (g.1 ∙ w))
         | inr h ↦ (
             let n : length xs ≡ length (terms xs) = sym (length_terms xs) in
-            let a : slice_get (terms (xs ++ x ∷ [])) i ≡ Some (term_of (terms xs) x) = ap (λ ts. slice_get ts i) (terms_push xs x) ∙ ap (slice_get (terms xs ++ term_of (terms xs) x ∷ [])) (h.0 ∙ n) ∙ get_last (terms xs) (term_of (terms xs) x) in
+            let a : slice_get (terms (xs ++ x ∷ [])) i ≡ Some (term_of (terms xs) x) = ap (λ ts. slice_get ts i) (terms_push xs x) ∙ ap (slice_get (terms xs ++ term_of (terms xs) x ∷ [])) (h.0 ∙ n) ∙
+            get_last (terms xs) (term_of (terms xs) x) in
             let w : ◌≡◌ {A = Option Term} (Some (term_of (terms xs) x)) (Some t) = sym a ∙ f in
             let u : term_of (terms xs) x ≡ t = cc w in
             subst (λ (z : Shape). IsOfSort sig t z.sort) h.1 (subst (λ r. IsOfSort sig r x.sort) u of))

@@ -22,7 +22,8 @@ returns-in-Ok-clause-fields c =
     let S = c.self.inside.signature in
     let same : c.args.signature.now ≡ S = c.requires.same ∙ sym (ap (λ s. s.signature) c.self.view_is) in
     let news : News S c.self.inside.nodes c.enter_term.new.nodes = subst (λ (g : Signature). News g c.self.inside.nodes c.enter_term.new.nodes) same c.in-Ok.ensures.news in
-    subst (HasFields S) (sym (ap shapes c.age_all.ensures ∙ shapes_aged_all c.args.generation c.as_slice.result.now c.enter_term.new.nodes)) (fields_more S c.self.inside.nodes c.enter_term.new.nodes c.in-Ok.ensures.front c.self.invariant.2 news)
+    subst (HasFields S) (sym (ap shapes c.age_all.ensures ∙ shapes_aged_all c.args.generation c.as_slice.result.now c.enter_term.new.nodes))
+    (fields_more S c.self.inside.nodes c.enter_term.new.nodes c.in-Ok.ensures.front c.self.invariant.2 news)
 
 pub invariant_of-self : goal.invariant_of-self
 invariant_of-self c =
@@ -41,7 +42,8 @@ invariant_of-self c =
     let alike = ap shapes c.age_all.ensures ∙ shapes_aged_all g c.as_slice.result.now ms in (
       subst (IsSound S) (sym (ap shapes c.age_all.ensures ∙ shapes_aged_all c.args.generation c.as_slice.result.now c.enter_term.new.nodes)) sound,
       c.self.invariant.1,
-      subst (HasFields S) (sym (ap shapes c.age_all.ensures ∙ shapes_aged_all c.args.generation c.as_slice.result.now c.enter_term.new.nodes)) (fields_more S c.self.inside.nodes c.enter_term.new.nodes c.in-Ok.ensures.front c.self.invariant.2 news),
+      subst (HasFields S) (sym (ap shapes c.age_all.ensures ∙ shapes_aged_all c.args.generation c.as_slice.result.now c.enter_term.new.nodes))
+          (fields_more S c.self.inside.nodes c.enter_term.new.nodes c.in-Ok.ensures.front c.self.invariant.2 news),
       nested S ns ms c.in-Ok.ensures.front c.self.invariant.0 sound c.self.invariant.2 g n c.age_all.new.nodes alike aged c.self.invariant.3,
     )
 
