@@ -320,7 +320,7 @@ good_names : list_all is_name
 unfolding taken_names
 good_names = refl
 
-codes_differ : (a b : ℕ) → a ≢ b → a ∷ [] ≡ b ∷ [] → ⊥
+pub codes_differ : (a b : ℕ) → a ≢ b → a ∷ [] ≡ b ∷ [] → ⊥
 codes_differ a b n e = n (ap first_code e)
   where
     first_code : List ℕ → ℕ

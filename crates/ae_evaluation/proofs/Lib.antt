@@ -33,5 +33,5 @@ mod ClosedItems
 mod GroundProofs
 pub mod Exact
 pub mod ExampleSystem
-mod ExampleState
+pub mod ExampleState
 mod Constructed

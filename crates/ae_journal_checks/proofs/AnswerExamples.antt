@@ -1,5 +1,5 @@
 -- Journals and widths that are answers, and some that are none.
-use Rattle.std.specs.Prelude.{ℕ, ℤ, pos, false, ◌≡◌, ◌<◌, List, [], ◌∷◌, Option, Some, None}
+use Rattle.std.specs.Prelude.{ℕ, pos, false, ◌≡◌, List, [], ◌∷◌, Some, None}
 use Rattle.std.proofs.Common.{inl}
 use Rattle.std.proofs.Math.Nat.{one-dvd}
 use Rattle.std.proofs.lemmas.Option.{same_Some}
@@ -9,7 +9,7 @@ use native.Mathlib.Omega.{arith}
 use borrow.Author.Differences.{ints}
 use Rattle.ae_base.proofs.Options.{never_some}
 use Rattle.ae_math.specs.Fractions.{ratio}
-use Rattle.ae_core.specs.declared.formulas.Formula.{Formula, Eq}
+use Rattle.ae_core.specs.declared.formulas.Formula.{Formula}
 use Rattle.ae_core.specs.declared.formulas.Lit.{Lit}
 use Rattle.ae_core.specs.declared.terms.Head.TheVariants as head
 use Rattle.ae_core.specs.declared.terms.Op.TheVariants as op
@@ -19,23 +19,20 @@ use Rattle.ae_core.specs.declared.terms.Term.TheVariants.{rolls-Num}
 use Rattle.ae_rules.specs.Clauses.{no_of}
 use Rattle.ae_rules.specs.Derivations.{goal_body}
 use Rattle.ae_rules.proofs.ClauseLaws.{literal_eq}
-use Rattle.ae_num.specs.Forms.{IsNormal, first_wide}
+use Rattle.ae_num.specs.Forms.{IsNormal}
 use Rattle.ae_journal.specs.Legal.{IsLegalJournal, setting}
-use Rattle.ae_journal.specs.Licences.{IsLicensed, IsLicensedStep, stated_steps}
+use Rattle.ae_journal.specs.Licences.{IsLicensed, IsLicensedStep}
 use Rattle.ae_journal.specs.Licences.IsLicensedPlus.{of_sum}
 use Rattle.ae_journal.specs.Licences.IsLicensedStep.{a_plus}
 use Rattle.ae_journal.specs.Standing.{Setting, IsFormula, IsEntered, value_now}
 use Rattle.ae_journal.specs.Standing.IsBrought.{by_goal}
 use Rattle.ae_journal.specs.Standing.IsEntered.{of_formula}
 use Rattle.ae_journal.specs.Standing.IsFormula.{of_clause}
-use Rattle.ae_journal.specs.States.{outside}
 use Rattle.ae_journal.specs.TermValues.{value_by, value_step}
 use Rattle.ae_journal.specs.Values.{Val, constant_val, sum_in}
 use Rattle.ae_journal.specs.declared.answers.NumStep.TheVariants as step
-use Rattle.ae_journal.specs.declared.answers.WideAt.{WideAt}
-use Rattle.ae_journal.specs.declared.lines.Story.{Story}
 use Rattle.ae_journal.proofs.Splits.{contains_here}
-use Rattle.ae_journal_checks.specs.Examples.{story, repeated_story, greatest, numeral, sum_goal, sum_problem, empty_story, sum_of, whole, signature}
+use Rattle.ae_journal_checks.specs.Examples.{greatest, numeral, sum_goal, sum_problem, empty_story, sum_of, whole, signature}
 use Rattle.ae_journal_checks.specs.Laws.{StepsAnswer, OtherLimitIsRefused, RepetitionIsRefused, WidthAnswers, NoWidthIsRefused, EmptyProofIsRefused}
 use Rattle.ae_journal_checks.proofs.Entered.{outside_eq}
 use Rattle.ae_journal_checks.proofs.NoBlocks.{NoBlock, equation, own_constants, no_name}

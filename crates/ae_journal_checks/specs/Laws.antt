@@ -7,7 +7,8 @@ use Rattle.ae_journal.specs.Answers.{IsAnswer}
 use Rattle.ae_journal.specs.declared.answers.Answer.TheVariants.{Valid, Steps, Number}
 use Rattle.ae_journal.specs.declared.lines.Story.{Story}
 use Rattle.ae_journal.specs.Legal.{IsLegalLine, AreLegal, IsLegalJournal, setting}
-use Rattle.ae_journal_checks.specs.Examples.{problem, story, longer_story, choice_problem, choice_story, true_problem, true_story, back_problem, back_story, instance_problem, instance_story, instance_line, rule_line, repeated_story, sum_problem, empty_story, sum_of, greatest}
+use Rattle.ae_journal_checks.specs.Examples.{problem, story, longer_story, choice_problem, choice_story, true_problem, true_story, back_problem, back_story}
+use Rattle.ae_journal_checks.specs.Examples.{instance_problem, instance_story, instance_line, rule_line, repeated_story, sum_problem, empty_story, sum_of, greatest}
 
 -- the journal is legal for each bound, with exactly one counted line
 abbrev pub OneRuleIsLegal : Type 0

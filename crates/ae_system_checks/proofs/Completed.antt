@@ -1,17 +1,17 @@
 -- The nine clauses together, and the systems of the two constants.
-use Rattle.std.specs.Prelude.{ℕ, ◌≡◌, ◌≢◌, ◌<◌, ◌≤◌, List, [], ◌∷◌, ◌++◌, length, slice_get, Some}
+use Rattle.std.specs.Prelude.{ℕ, ◌≡◌, ◌≢◌, ◌<◌, ◌≤◌, List, [], ◌∷◌, Some}
 use Rattle.std.proofs.Common.{inl}
 use Rattle.std.proofs.lemmas.Option.{same_Some}
-use mathlib.Core.Path.{refl, sym, ap, subst, ◌∙◌}
+use mathlib.Core.Path.{refl, sym, ap, ◌∙◌}
 use native.Mathlib.Omega.{arith}
 use Rattle.ae_core.specs.declared.problems.Signature.{Signature}
 use Rattle.ae_core.specs.declared.terms.Head.TheVariants as head
 use Rattle.ae_multiset.specs.Multisets.{count, IsPart, IsSame}
-use Rattle.ae_multiset.specs.Rewriting.{ReducesTo, Joins, IsReduced, overlap_first, overlap_second}
+use Rattle.ae_multiset.specs.Rewriting.{Joins, IsReduced}
 use Rattle.ae_multiset.specs.Rewriting.ReducesTo.{done}
 use Rattle.ae_multiset.proofs.Counts.{count-append}
 use Rattle.ae_journal.specs.Values.{Val, leaf}
-use Rattle.ae_journal.specs.Systems.{IsCompleted, IsRule, IsRuleFit, IsLeaf, own}
+use Rattle.ae_journal.specs.Systems.{IsCompleted, IsRule, IsRuleFit, IsLeaf}
 use Rattle.ae_journal.specs.declared.systems.RuleEntry.{RuleEntry}
 use Rattle.ae_journal.specs.declared.systems.System.{System}
 use Rattle.ae_evaluation.proofs.ExampleSystem.{no_entry}
@@ -20,7 +20,7 @@ use Rattle.ae_system_checks.specs.Clauses.{Part, Clause, FailsAlone, HasLeaves, 
 use Rattle.ae_system_checks.specs.Clauses.Part.{terms, leaves, computing, records, congruence, rules, reduction, overlaps, joins}
 use Rattle.ae_system_checks.specs.Examples.{signature, T, pair, rule, overlapping, second_leaf, equated, crossed, single_left, reducible, apart}
 use Rattle.ae_system_checks.specs.Laws.{NineClauses, LeafOfOther}
-use Rattle.ae_system_checks.proofs.Entries.{of_one, of_two}
+use Rattle.ae_system_checks.proofs.Entries.{of_two}
 use Rattle.ae_system_checks.proofs.Symbols.{computed_of, records_of, own_leaf, leaf_tells}
 use Rattle.ae_system_checks.proofs.Rules.{of_two_rules, two_reduced, one_reduced, one_overlap, none_fit, none_reduced, none_overlap, stays, by_rule}
 use Rattle.ae_system_checks.proofs.Pairs.{of_leaves, pair_terms, pair_leaves, pair_congruent, pair_joins, first_has, second_value, leaf_0, leaf_1, own_leaves, represents_0, represents_1, fits}

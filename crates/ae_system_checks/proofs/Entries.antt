@@ -1,5 +1,5 @@
 -- The entries of short lists, one by one.
-use Rattle.std.specs.Prelude.{ℕ, zero, suc, ◌≡◌, List, [], ◌∷◌, slice_get, Some}
+use Rattle.std.specs.Prelude.{ℕ, zero, suc, ◌≡◌, [], ◌∷◌, slice_get, Some}
 use Rattle.std.proofs.lemmas.Option.{same_Some}
 use mathlib.Core.Path.{subst}
 use Rattle.ae_evaluation.proofs.ExampleSystem.{no_entry}

@@ -1,22 +1,20 @@
 -- The system of the equation b = a meets what the laws on equal names ask for.
-use Rattle.std.specs.Prelude.{ℕ, zero, suc, ◌≡◌, Bool, true, ◌&&◌, List, [], ◌∷◌, slice_get, Option, Some, None}
+use Rattle.std.specs.Prelude.{ℕ, zero, suc, ◌≡◌, Bool, true, ◌&&◌, [], ◌∷◌, Option, Some, None}
 use Rattle.std.proofs.lemmas.Option.{same_Some}
 use mathlib.Core.Path.{refl, sym, ap, subst, ◌∙◌}
-use native.Mathlib.Omega.{arith}
 use Rattle.ae_core.specs.Sorts.{sort_of, same_known}
 use Rattle.ae_core.specs.declared.formulas.Formula.{Eq, out-Formula}
 use Rattle.ae_core.specs.declared.formulas.Formula.TheOpen as formula_layer
 use Rattle.ae_core.specs.declared.formulas.Formula.TheVariants.{outs-Eq}
 use Rattle.ae_core.specs.declared.formulas.Lit.{Lit}
 use Rattle.ae_core.specs.declared.terms.Head.TheVariants as head
-use Rattle.ae_core.specs.declared.terms.Sort.{Sort}
 use Rattle.ae_core.specs.declared.terms.Term.{Term, Apply}
 use Rattle.ae_rules.specs.Clauses.{is_true}
 use Rattle.ae_rules.specs.Linear.{is_plain}
 use Rattle.ae_rules.specs.Lines.{Fact, Follows, Equations, equal, fact_ok, plain_ok}
 use Rattle.ae_rules.specs.Lines.Follows.{by_hyp, by_refl}
 use Rattle.ae_num.specs.declared.forms.Lin.{Lin}
-use Rattle.ae_num.specs.declared.forms.Value.{Value, Leaf, Number}
+use Rattle.ae_num.specs.declared.forms.Value.{Leaf, Number}
 use Rattle.ae_journal.specs.Values.{Val, leaf}
 use Rattle.ae_journal.specs.Systems.{IsEquation, IsName, ValueOf, forms_in, value_at}
 use Rattle.ae_journal.specs.Systems.IsEquation.{of_number, of_leaf, of_rule}

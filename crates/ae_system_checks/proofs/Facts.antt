@@ -1,5 +1,5 @@
 -- The sorts of the examples' terms, and what tells terms apart.
-use Rattle.std.specs.Prelude.{ℕ, pos, ◌≡◌, ◌≢◌, Bool, true, false, ◌||◌, List, [], ◌∷◌, Option, Some, None}
+use Rattle.std.specs.Prelude.{ℕ, pos, ◌≡◌, ◌≢◌, true, false, ◌||◌, List, [], ◌∷◌, Some, None}
 use Rattle.std.proofs.lemmas.Option.{same_Some}
 use mathlib.Core.Path.{sym, ap, ◌∙◌}
 use Rattle.ae_base.specs.Decided.{decided}
@@ -8,7 +8,7 @@ use Rattle.ae_base.specs.Options.{all_known, only, when, ◌>>=◌}
 use Rattle.ae_base.proofs.Options.{never_some}
 use Rattle.ae_core.specs.Decided.{Sort_discrete}
 use Rattle.ae_core.specs.Putting.{put_sort}
-use Rattle.ae_core.specs.Sorts.{sort_of, formula_ok, head_sort, is_numeric, is_closed_sort, same_sorts}
+use Rattle.ae_core.specs.Sorts.{sort_of, head_sort, is_numeric, is_closed_sort, same_sorts}
 use Rattle.ae_core.specs.declared.problems.Signature.{Signature}
 use Rattle.ae_core.specs.declared.terms.Head.{Head}
 use Rattle.ae_core.specs.declared.terms.Head.TheVariants as head

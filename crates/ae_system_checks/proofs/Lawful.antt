@@ -1,9 +1,8 @@
 -- The examples' signature is lawful.
-use Rattle.std.specs.Prelude.{ℕ, zero, suc, ◌<◌, Bool, true, false, ◌&&◌, nat_lt, List, [], ◌∷◌, ◌++◌, ◌≡◌, ◌≢◌, map, slice_get, Some}
+use Rattle.std.specs.Prelude.{ℕ, zero, suc, ◌<◌, Bool, true, false, ◌&&◌, nat_lt, List, [], ◌∷◌, ◌++◌, ◌≡◌, map, slice_get, Some}
 use Rattle.std.specs.List.{list_all}
-use Rattle.std.proofs.lemmas.Option.{same_Some}
 use lib.ListN.{get_or}
-use mathlib.Core.Path.{refl, ap, subst}
+use mathlib.Core.Path.{refl}
 use native.Mathlib.Omega.{arith}
 use Rattle.ae_core.specs.Signatures.{IsLawful, IsLawfulType, IsLawfulSymbol, is_sort_over, is_name, names_below, names_below_step, taken_names}
 use Rattle.ae_core.specs.declared.problems.FieldEntry.{FieldEntry}
@@ -11,6 +10,7 @@ use Rattle.ae_core.specs.declared.problems.SymbolEntry.{SymbolEntry}
 use Rattle.ae_core.specs.declared.problems.TypeEntry.{TypeEntry}
 use Rattle.ae_core.proofs.Recursion.{fold_named}
 use Rattle.ae_core.proofs.SortLaws.{ok_named}
+use Rattle.ae_evaluation.proofs.ExampleState.{codes_differ}
 use Rattle.ae_system_checks.specs.Examples.{signature, T, abstract_type, record_type, constant_entry, f_entry, u_entry}
 use Rattle.ae_system_checks.proofs.Entries.{of_two, of_four}
 
@@ -18,13 +18,6 @@ good_names : list_all is_name
     (map (λ (e : TypeEntry). e.name) signature.types ++ map (λ (e : SymbolEntry). e.name) signature.symbols ++ (112 ∷ []) ∷ []) ≡ true
 unfolding taken_names
 good_names = refl
-
-codes_differ : (a b : ℕ) → a ≢ b → a ∷ [] ≡ b ∷ [] → ⊥
-codes_differ a b n e = n (ap first_code e)
-  where
-    first_code : List ℕ → ℕ
-    first_code [] = 0
-    first_code (c ∷ cs) = c
 
 abbrev names : List (List ℕ)
 names = (97 ∷ []) ∷ (98 ∷ []) ∷ (102 ∷ []) ∷ (117 ∷ []) ∷ []

@@ -10,3 +10,4 @@ mod Equated
 mod Decide
 mod Tests
 mod Overlaps
+mod WholeValues

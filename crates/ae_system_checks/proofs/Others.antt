@@ -1,5 +1,5 @@
 -- The systems that one clause alone refuses and that have other names than the two constants.
-use Rattle.std.specs.Prelude.{ℕ, zero, suc, ℤ, pos, Bool, true, false, ◌≡◌, ◌≢◌, ◌<◌, ◌≤◌, ◌+◌, List, [], ◌∷◌, ◌++◌, length, slice_get, Option, Some, None}
+use Rattle.std.specs.Prelude.{ℕ, zero, suc, ℤ, pos, Bool, true, ◌≡◌, ◌≢◌, ◌<◌, ◌+◌, List, [], ◌∷◌, ◌++◌, length, Option, Some, None}
 use Rattle.std.specs.List.{AllByRecursion}
 use Rattle.std.proofs.Common.{inl, inr}
 use Rattle.std.proofs.lemmas.Option.{same_Some}
@@ -14,20 +14,18 @@ use Rattle.ae_core.specs.declared.terms.Sort.TheVariants.{outs-Named}
 use Rattle.ae_core.specs.declared.terms.Term.{Term, Term-F, Num, Apply, out-Term}
 use Rattle.ae_core.specs.declared.terms.Term.TheOpen as layer
 use Rattle.ae_core.specs.declared.terms.Term.TheVariants.{outs-Apply, outs-Num}
-use Rattle.ae_math.specs.Fractions.{ℚ, ratio}
-use Rattle.ae_multiset.specs.Multisets.{count, IsSame}
+use Rattle.ae_math.specs.Fractions.{ratio}
 use Rattle.ae_multiset.specs.Rewriting.{ReducesTo}
 use Rattle.ae_num.specs.Forms.{IsNormal}
-use Rattle.ae_num.specs.declared.forms.Value.{Value, Leaf, Number, Fields as FieldValues, fold-roll-Value}
+use Rattle.ae_num.specs.declared.forms.Value.{Leaf, Number, Fields as FieldValues, fold-roll-Value}
 use Rattle.ae_num.specs.declared.forms.Value.TheOpen as value_layer
 use Rattle.ae_num.specs.declared.forms.Value.TheVariants.{rolls-Fields}
-use Rattle.ae_journal.specs.Values.{Val, number, leaf, fields, none, more, once, constant_val, vals, meaning, meaning_step}
-use Rattle.ae_journal.specs.Systems.{Has, IsLeaf, IsName, IsNamed, IsNormalValue, IsOver, IsRule, Represents, StandsFor, ValueOf, ValuesOf, value_at, record_fields, field_terms, field_terms_of, linear, beside}
-use Rattle.ae_journal.specs.declared.systems.RuleEntry.{RuleEntry}
+use Rattle.ae_journal.specs.Values.{Val, number, leaf, fields, once, constant_val, vals, meaning, meaning_step}
+use Rattle.ae_journal.specs.Systems.{Has, IsLeaf, IsName, IsNamed, IsNormalValue, IsOver, IsRule, StandsFor, value_at, record_fields, field_terms, field_terms_of, linear, beside}
 use Rattle.ae_journal.specs.declared.systems.System.{System}
 use Rattle.ae_evaluation.specs.Examples.{itself}
 use Rattle.ae_evaluation.proofs.ExampleSystem.{leaf_at, leaf_forms, normal_leaf, normal_number, number_at, own_real, forms-Fields, no_entry}
-use Rattle.ae_system_checks.specs.Clauses.{Part, Clause, FailsAlone, HasTerms, HasLeaves, IsComputed, HasRecords, IsCongruent, AllNamesJoin}
+use Rattle.ae_system_checks.specs.Clauses.{Part, Clause, FailsAlone, IsCongruent, AllNamesJoin}
 use Rattle.ae_system_checks.specs.Clauses.Part.{terms, leaves, computing, records, congruence, rules, reduction, overlaps, joins}
 use Rattle.ae_system_checks.specs.Examples.{signature, T, a, b, f, u, u_entry, one, built, field, named_twice, opaque_numeral, other_field, incongruent, without_rule}
 use Rattle.ae_system_checks.proofs.Entries.{of_one, of_two, of_three, of_four}

@@ -1,10 +1,10 @@
 -- A decision for the clauses on overlaps and on names of AC symbols, where the rules fit.
-use Rattle.std.specs.Prelude.{ℕ, zero, suc, ◌<◌, ◌≤◌, min, Bool, false, ◌≡◌, ◌⊎◌, List, [], ◌∷◌, length, slice_get, Option, Some, None}
+use Rattle.std.specs.Prelude.{ℕ, ◌<◌, ◌≤◌, min, ◌≡◌, ◌⊎◌, List, [], ◌∷◌, length, slice_get, Some}
 use Rattle.std.specs.List.Sorted.{IsNonDecreasing}
 use Rattle.std.proofs.Common.{inl, inr}
 use Rattle.std.proofs.lemmas.List.Sorted.{IsNonDecreasingBy-short}
 use mathlib.Core.List.{List-discrete}
-use mathlib.Core.Path.{refl, sym, ap, subst, ◌∙◌}
+use mathlib.Core.Path.{refl, sym, subst, ◌∙◌}
 use native.Mathlib.Decide.{map_dec, ℕ_discrete}
 use native.Mathlib.Omega.{arith}
 use Rattle.ae_core.specs.Sorts.{sort_of}
@@ -16,7 +16,7 @@ use Rattle.ae_core.specs.declared.terms.Sort.{Sort}
 use Rattle.ae_core.specs.declared.terms.Term.{Term, Apply}
 use Rattle.ae_rules.specs.Linear.{form, is_number}
 use Rattle.ae_multiset.specs.Multisets.{count, common, IsPart, IsSame}
-use Rattle.ae_multiset.specs.Rewriting.{Decreases, IsReduced, Joins, ReducesTo, overlap_first, overlap_second}
+use Rattle.ae_multiset.specs.Rewriting.{Decreases, Joins, ReducesTo, overlap_first, overlap_second}
 use Rattle.ae_multiset.proofs.Comparing.{same_or_not}
 use Rattle.ae_multiset.proofs.Confluence.{with_itself}
 use Rattle.ae_multiset.proofs.Counts.{count-common, count_same}
@@ -32,7 +32,7 @@ use Rattle.ae_evaluation.proofs.Rules.{reduction_of}
 use Rattle.ae_system_checks.specs.Clauses.{Part, Clause, RulesFit, AllOverlapsJoin, AllNamesJoin}
 use Rattle.ae_system_checks.specs.Clauses.Part.{terms, leaves, computing, records, congruence, rules, reduction, overlaps, joins}
 use Rattle.ae_system_checks.proofs.Completed.{clauses_of, completed_of}
-use Rattle.ae_system_checks.proofs.Decide.{both, implied, at_all, where_known, known_with}
+use Rattle.ae_system_checks.proofs.Decide.{both, implied, at_all, known_with}
 use Rattle.ae_system_checks.proofs.Tests.{decide_terms, decide_leaves, decide_computed, decide_records, decide_congruence, decide_rules, decide_reduction, each_applied, has_value, is_ac_symbol, is_not_so, represents, symbol_discrete}
 
 numbers_discrete : Discrete (List ℕ)

@@ -1,19 +1,18 @@
 -- Systems of the two constants: what holds of each of them.
-use Rattle.std.specs.Prelude.{ℕ, zero, suc, ◌≡◌, ◌<◌, ◌≤◌, List, [], ◌∷◌, ◌⊎◌, length, slice_get, Some}
+use Rattle.std.specs.Prelude.{ℕ, zero, suc, ◌≡◌, ◌<◌, ◌≤◌, List, [], ◌∷◌, ◌⊎◌, length, Some}
 use Rattle.std.specs.List.{AllByRecursion}
 use Rattle.std.proofs.Common.{inl, inr}
 use Rattle.std.proofs.lemmas.Option.{same_Some}
 use mathlib.Core.Path.{refl, sym, ap, subst, ◌∙◌}
 use native.Mathlib.Omega.{arith}
-use Rattle.ae_core.specs.Sorts.{sort_of}
 use Rattle.ae_core.specs.declared.terms.Head.{Head}
 use Rattle.ae_core.specs.declared.terms.Head.TheVariants as head
 use Rattle.ae_core.specs.declared.terms.Sort.{Sort}
 use Rattle.ae_core.specs.declared.terms.Term.{Term, Apply, out-Term}
 use Rattle.ae_multiset.specs.Multisets.{IsLess}
-use Rattle.ae_num.specs.declared.forms.Value.{Value, Leaf}
+use Rattle.ae_num.specs.declared.forms.Value.{Leaf}
 use Rattle.ae_journal.specs.Values.{Val, leaf}
-use Rattle.ae_journal.specs.Systems.{Has, IsLeaf, IsName, IsNamed, IsRepresentative, IsRuleFit, Represents, ValuesOf, value_at}
+use Rattle.ae_journal.specs.Systems.{Has, IsLeaf, IsName, IsNamed, IsRepresentative, IsRuleFit, value_at}
 use Rattle.ae_journal.specs.declared.systems.RuleEntry.{RuleEntry}
 use Rattle.ae_evaluation.proofs.ExampleSystem.{leaf_at}
 use Rattle.ae_system_checks.proofs.Entries.{of_two}

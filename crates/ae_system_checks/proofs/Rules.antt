@@ -1,19 +1,15 @@
 -- Rules of u: what two rules have to meet, and multisets that no rule reduces.
-use Rattle.std.specs.Prelude.{ℕ, zero, suc, ◌≡◌, ◌≢◌, ◌<◌, ◌≤◌, ◌+◌, List, [], ◌∷◌, ◌++◌, ◌⊎◌, slice_get, Option, Some}
+use Rattle.std.specs.Prelude.{ℕ, ◌≡◌, ◌≢◌, List, [], ◌∷◌, ◌++◌, ◌⊎◌, slice_get, Some}
 use Rattle.std.proofs.Common.{inl, inr}
-use Rattle.std.proofs.lemmas.Option.{same_Some}
 use mathlib.Core.Path.{refl, sym, ap, subst, ◌∙◌}
 use native.Mathlib.Omega.{arith}
-use Rattle.ae_core.specs.declared.terms.Head.{Head}
-use Rattle.ae_core.specs.declared.terms.Sort.{Sort}
 use Rattle.ae_multiset.specs.Multisets.{count, IsSame, IsPart}
-use Rattle.ae_multiset.specs.Rewriting.{Step, ReducesTo, Joins, IsReduced, OverlapsJoin, AreDifferent, overlap_first, overlap_second}
+use Rattle.ae_multiset.specs.Rewriting.{ReducesTo, Joins, IsReduced, overlap_first, overlap_second}
 use Rattle.ae_multiset.specs.Rewriting.ReducesTo.{done, more}
 use Rattle.ae_multiset.proofs.Counts.{count-append}
-use Rattle.ae_journal.specs.Systems.{IsRule, IsRuleFit}
+use Rattle.ae_journal.specs.Systems.{IsRule}
 use Rattle.ae_journal.specs.declared.systems.System.{System}
 use Rattle.ae_journal.specs.declared.systems.RuleEntry.{RuleEntry}
-use Rattle.ae_evaluation.proofs.ExampleSystem.{no_entry}
 use Rattle.ae_system_checks.proofs.Entries.{of_one, of_two}
 use Rattle.ae_system_checks.specs.Clauses.{RulesFit, AreReduced, AllOverlapsJoin}
 use Rattle.ae_system_checks.specs.Examples.{pair, rule, signature}

@@ -1,11 +1,11 @@
 -- Systems whose names apply symbols and have the sort t, and whose values are leaves: what holds of each of them.
-use Rattle.std.specs.Prelude.{ℕ, zero, suc, ℤ, Bool, ◌≡◌, false, cond, List, [], ◌∷◌, length, slice_get, Option, Some, None}
+use Rattle.std.specs.Prelude.{ℕ, ℤ, Bool, ◌≡◌, cond, List, [], ◌∷◌, length, slice_get, Some}
 use Rattle.std.specs.List.{AllByRecursion}
 use Rattle.std.proofs.Common.{inl}
 use Rattle.std.proofs.lemmas.Option.{same_Some}
-use mathlib.Core.Path.{refl, sym, ap, subst, ◌∙◌}
+use mathlib.Core.Path.{sym, ap, subst, ◌∙◌}
 use Rattle.ae_base.proofs.Options.{never_some, bind_some}
-use Rattle.ae_core.specs.Sorts.{sort_of, is_numeric}
+use Rattle.ae_core.specs.Sorts.{sort_of}
 use Rattle.ae_core.specs.declared.terms.Head.{Head}
 use Rattle.ae_core.specs.declared.terms.Head.TheVariants as head
 use Rattle.ae_core.specs.declared.terms.Sort.{Sort}
@@ -14,7 +14,7 @@ use Rattle.ae_core.specs.declared.terms.Term.TheOpen as layer
 use Rattle.ae_core.specs.declared.terms.Term.TheVariants.{outs-Apply, outs-Num}
 use Rattle.ae_num.specs.declared.forms.Value.{Value, Leaf}
 use Rattle.ae_journal.specs.Values.{Val, leaf, once, meaning}
-use Rattle.ae_journal.specs.Systems.{Has, IsLeaf, IsName, IsNamed, IsNormalValue, IsOver, ValuesOf, beside, linear, own, value_at}
+use Rattle.ae_journal.specs.Systems.{Has, IsLeaf, IsName, IsNamed, IsNormalValue, IsOver, beside, linear, own, value_at}
 use Rattle.ae_journal.specs.declared.systems.System.{System}
 use Rattle.ae_evaluation.proofs.ExampleSystem.{leaf_at, normal_leaf}
 use Rattle.ae_system_checks.specs.Clauses.{HasTerms, HasLeaves, IsComputed, HasRecords}

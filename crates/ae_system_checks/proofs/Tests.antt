@@ -1,16 +1,17 @@
 -- A decision for each clause of a completed system.
-use Rattle.std.specs.Prelude.{ℕ, zero, suc, ℤ, pos, ◌<◌, ◌≤◌, ◌%◌, Bool, true, false, ◌≡◌, ◌≢◌, ◌⊎◌, ◌<ℤ◌, List, [], ◌∷◌, length, slice_get, Option, Some, None}
-use Rattle.std.specs.Int.{IsGcd, ◌∣◌}
+use Rattle.std.specs.Prelude.{ℕ, zero, suc, ℤ, pos, ◌<◌, ◌≤◌, Bool, true, false, ◌≡◌, ◌≢◌, ◌⊎◌, ◌<ℤ◌, List, [], ◌∷◌, length, slice_get, Option, Some, None}
+use Rattle.std.specs.Int.{◌∣◌}
 use Rattle.std.specs.List.{AllByRecursion}
 use Rattle.std.proofs.Common.{inl, inr}
-use Rattle.std.proofs.Math.Nat.{mod-lt, eq-one_of_dvd-one}
-use Rattle.std.proofs.lemmas.Nat.Gcd.{dvd-zero, dvd_trans, IsGcd-from_zero, IsGcd-from_mod}
+use Rattle.std.proofs.Math.Nat.{eq-one_of_dvd-one}
+use Rattle.std.proofs.lemmas.Nat.Gcd.{dvd-zero, dvd_trans}
 use lib.IntN.{ℤ_discrete, negsuc}
 use mathlib.Core.Path.{refl, sym, ap, subst, ◌∙◌}
 use native.Mathlib.Decide.{map_dec, dec_le, dec_lt, ℕ_discrete}
 use native.Mathlib.Omega.{arith}
 use borrow.Author.Differences.{ints}
 use Rattle.ae_base.proofs.Options.{never_some}
+use Rattle.ae_math.proofs.Divisors.{gcd_exists}
 use Rattle.ae_math.specs.Fractions.{ratio}
 use Rattle.ae_core.specs.Decided.{Head_discrete, Sort_discrete, Sorts_discrete, Term_discrete}
 use Rattle.ae_core.specs.Sorts.{sort_of, formula_ok, is_numeric}
@@ -19,10 +20,8 @@ use Rattle.ae_core.specs.declared.problems.AcSymbol.{AcSymbol}
 use Rattle.ae_core.specs.declared.problems.Nature.{Nature}
 use Rattle.ae_core.specs.declared.problems.Nature.TheVariants.{Free, Ac, Choice}
 use Rattle.ae_core.specs.declared.problems.Signature.{Signature}
-use Rattle.ae_core.specs.declared.problems.SymbolEntry.{SymbolEntry}
 use Rattle.ae_core.specs.declared.terms.Head.{Head}
 use Rattle.ae_core.specs.declared.terms.Head.TheVariants as head
-use Rattle.ae_core.specs.declared.terms.Op.{Op}
 use Rattle.ae_core.specs.declared.terms.Op.TheVariants as op
 use Rattle.ae_core.specs.declared.terms.Sort.{Sort, Int, Real}
 use Rattle.ae_core.specs.declared.terms.Term.{Term, Num, Apply}
@@ -30,12 +29,12 @@ use Rattle.ae_rules.specs.Lines.{IsAc, IsNumeric}
 use Rattle.ae_num.specs.Forms.{IsNormal, IsRising, IsCommonDivisor, DividesAll, sizes}
 use Rattle.ae_num.specs.declared.forms.Lin.{Lin}
 use Rattle.ae_num.specs.declared.forms.Part.{Part}
-use Rattle.ae_num.specs.declared.forms.Value.{Value}
 use Rattle.ae_multiset.specs.Multisets.{count, minus, IsPart, IsSame, IsLess}
 use Rattle.ae_multiset.proofs.Counts.{count-minus, count_same}
 use Rattle.ae_multiset.proofs.Comparing.{less_total, less_differs, less_then}
 use Rattle.ae_journal.specs.Values.{Val, Vals, Val_discrete, number, leaf, fields, none, more, constant_val, vals}
-use Rattle.ae_journal.specs.Systems.{AreOver, Has, IsLeaf, IsName, IsNamed, IsNormalValue, IsOver, IsPredicateName, IsRepresentative, IsRuleFit, Represents, ValueOf, ValuesOf, ac_sort, beside, field_terms, forms_in, linear, own, record_fields, value_at}
+use Rattle.ae_journal.specs.Systems.{AreOver, Has, IsLeaf, IsName, IsNamed, IsNormalValue, IsOver, IsPredicateName, IsRepresentative, IsRuleFit}
+use Rattle.ae_journal.specs.Systems.{Represents, ValueOf, ValuesOf, ac_sort, beside, field_terms, forms_in, linear, own, record_fields, value_at}
 use Rattle.ae_journal.specs.declared.systems.RuleEntry.{RuleEntry}
 use Rattle.ae_journal.specs.declared.systems.System.{System}
 use Rattle.ae_system_checks.specs.Clauses.{HasTerms, HasLeaves, IsComputed, HasRecords, IsCongruent, RulesFit, AreReduced}
@@ -50,12 +49,6 @@ is_not_so true = no (λ e. cc)
 is_not_so false = yes refl
 
 -- ---- numbers
-gcd_of : (n a b : ℕ) → b ≤ n → (g : ℕ) × IsGcd a b g
-gcd_of n a zero h = (a, IsGcd-from_zero a 0 refl)
-gcd_of zero a (suc b) h = absurd (omega (arith, h))
-gcd_of (suc n) a (suc b) h =
-    let r = gcd_of n (suc b) (a % suc b) (omega (arith, h, mod-lt a {m = suc b} (omega arith))) in (r.0, IsGcd-from_mod a (suc b) r.0 r.1)
-
 divides_more : (g k : ℕ) (ns : List ℕ) → k ∣ g → DividesAll g ns → DividesAll k ns
 divides_more g k [] h a = tt
 divides_more g k (n ∷ ns) h a = (dvd_trans k h a.0, divides_more g k ns h a.1)
@@ -64,7 +57,7 @@ divisor_of : (ns : List ℕ) → (g : ℕ) × IsCommonDivisor ns g
 divisor_of [] = (0, (tt, λ d a. dvd-zero d))
 divisor_of (n ∷ ns) =
     let r = divisor_of ns in
-    let g = gcd_of r.0 n r.0 (omega arith) in
+    let g = gcd_exists n r.0 in
     (g.0, ((g.1.0, divides_more r.0 g.0 ns (g.1.1) (r.1).0), λ d a. g.1.2 d a.0 ((r.1).1 d a.1)))
 
 is_lowest : (ns : List ℕ) → Dec (IsCommonDivisor ns 1)

@@ -1,12 +1,15 @@
 -- The laws, as statements.
-use Rattle.std.specs.Prelude.{ℕ, ◌<◌, ◌≡◌, ◌↔◌, Some}
+use Rattle.std.specs.Prelude.{ℕ, ◌↔◌, []}
 use Rattle.ae_core.specs.declared.problems.Signature.{Signature}
 use Rattle.ae_core.specs.declared.terms.Term.{Term}
 use Rattle.ae_rules.specs.Lines.{PlainConseq, Conseq}
 use Rattle.ae_journal.specs.Values.{leaf}
 use Rattle.ae_journal.specs.Systems.{IsCompleted, IsEquation, IsLeaf, Represents}
 use Rattle.ae_journal.specs.declared.systems.System.{System}
+use Rattle.ae_journal.specs.Answers.{IsAnswer}
+use Rattle.ae_journal.specs.declared.answers.Answer.TheVariants.{Unknown}
 use Rattle.ae_evaluation.specs.Consequences.{Stated}
+use Rattle.ae_evaluation.specs.Examples.{problem, state, system}
 use Rattle.ae_system_checks.specs.Clauses.{Part, Clause}
 use Rattle.ae_system_checks.specs.Examples.{signature, T, second_leaf, equated, equation}
 
@@ -24,3 +27,11 @@ EquationsFollowPlainly = (s t : Term) → IsEquation signature equated s t → P
 
 abbrev pub EquationsFollow : Type 0
 EquationsFollow = (s t : Term) → IsEquation signature equated s t → Conseq signature (Stated equation) s t
+
+-- ---- answers
+-- the saturated state of ae_evaluation's example is an answer, and its system without literals is none
+abbrev pub StateAnswers : Type 0
+StateAnswers = (limit bound : ℕ) → IsAnswer problem 1 limit bound (Unknown state)
+
+abbrev pub NoLiteralsAreRefused : Type 0
+NoLiteralsAreRefused = (limit bound : ℕ) → ¬ IsAnswer problem 1 limit bound (Unknown (record { literals = []; system = system; point = [] }))
