@@ -21,20 +21,19 @@ AreMet rows e = (n : ℕ) (row : Row) → rows n ≡ Some row → e n ≡ worth 
 abbrev pub SameByRows : (ℕ → Option Row) → Lin → Lin → Type 0
 SameByRows rows old new = (e : ℕ → ℚ) → AreMet rows e → worth e new ≡ worth e old
 
--- one step: the value of the name, where it has a row, is put for it
-abbrev pub IsPutFor : Option Row → ℕ → Lin → Lin → Type 0
-IsPutFor None key old new = new ≡ old
-IsPutFor (Some row) key old new =
-    record {
-      fits : first_wide (subst_steps old key row.value) ≡ None;
-      form : SameMeaning (meaning new) (substitute ℕ_discrete (meaning old) key (meaning row.value));
-      normal : IsNormal new;
-    }
+-- one step: the value of a name that has a row is put for it
+pub record IsPutBy (o : Option Row) (key : ℕ) (old new : Lin) : Type 0 where
+  pub row : Row
+  pub there : o ≡ Some row
+  pub fits : first_wide (subst_steps old key row.value) ≡ None
+  pub form : SameMeaning (meaning new) (substitute ℕ_discrete (meaning old) key (meaning row.value))
+  pub normal : IsNormal new
 
 -- the values of these names were put in one after the other
 pub data ArePutFor (rows : ℕ → Option Row) : List Part → Lin → Lin → Type 0 where
   none : {p q : Lin} → q ≡ p → ArePutFor rows [] p q
-  more : {ps : List Part} {p q r : Lin} (part : Part) → ArePutFor rows ps p q → IsPutFor (rows part.key) part.key q r → ArePutFor rows (ps ++ part ∷ []) p r
+  past : {ps : List Part} {p q : Lin} (part : Part) → ArePutFor rows ps p q → rows part.key ≡ None → ArePutFor rows (ps ++ part ∷ []) p q
+  more : {ps : List Part} {p q r : Lin} (part : Part) → ArePutFor rows ps p q → IsPutBy (rows part.key) part.key q r → ArePutFor rows (ps ++ part ∷ []) p r
 
 -- the first stated product or sum that leaves the limits where the value of the name is put for it
 pub record IsWideBy (o : Option Row) (now : Lin) (key : ℕ) (wide : Wide) : Type 0 where

@@ -8,7 +8,7 @@ ghost use Rattle.ae_pmap.specs.Pairs.{found};
 ghost use Rattle.ae_linear.specs.declared.rows.Row.{Row};
 ghost use Rattle.ae_linear.specs.Inner.Occurrences.{AreLinked, Grows};
 ghost use Rattle.ae_linear.specs.Rows.{row_at, value_of, AreRows, IsFree, IsSubstituted, IsSubstitutedAt, ArePut, FitsAt, IsWideAt, IsFirstWide, AreIndexed, Fits, StandsFor, Lasts};
-ghost use Rattle.ae_linear.specs.Canonical.{SameByRows, ArePutFor, IsWideFor, IsPutFor, IsWideBy};
+ghost use Rattle.ae_linear.specs.Canonical.{SameByRows, ArePutFor, IsWideFor, IsPutBy, IsWideBy};
 
 use crate::occurrences::{Link, link_each, listed};
 use ae_num::forms::{Lin, Name, Part, subst};
@@ -144,26 +144,14 @@ fn put_in(
     ensures rows_last { MapLasts rows.old rows.new }
     ensures heads_last { MapLasts heads.old heads.new }
 {
-    let names = listed(alloc, heads, links, name)?;
-    substitute_each(alloc, rows, &names, name, &value)?;
-    link_each(heads, links, value.parts.as_slice(), &names)?;
-    link_each(heads, links, value.parts.as_slice(), &[name])?;
+    let having = listed(alloc, heads, links, name)?;
+    let names = having.as_slice();
+    substitute_each(alloc, rows, names, name, &value)?;
+    let parts = value.parts.as_slice();
+    link_each(heads, links, parts, names)?;
+    link_each(heads, links, parts, &[name])?;
     rows.insert(name, Row { value, just })?;
     Ok(())
-}
-
-/// The form with the value of a name put for it, where the name is eliminated; `None` where it isn't.
-fn put_for(alloc: Global, row: Option<&Row>, form: &Lin, key: Name) -> Result<Option<Lin>, NumFail>
-    requires form { IsNormal form.now }
-    requires row { IfSome row (λ r. IsNormal r.now.value × (has_key r.now.value.parts key ≡ false)) }
-    ensures some { IfOk result (λ o. IfSome o (λ new. IsPutFor (option_copied row) key form.now new)) }
-    ensures none { IfOk result (λ o. IfNone o (option_copied row ≡ None)) }
-    ensures wide { IfErr result (λ fail. IfWide fail (λ wide. IsWideBy (option_copied row) form.now key wide)) }
-{
-    match row {
-        Some(row) => Ok(Some(subst(alloc, form, key, &row.value)?)),
-        None => Ok(None),
-    }
 }
 
 /// A copy of a form.
@@ -208,6 +196,19 @@ impl Rows {
         }
     }
 
+    /// The form with the value of a name put for it, `None` where the name isn't eliminated.
+    fn put_for(&self, form: &Lin, key: Name) -> Result<Option<Lin>, NumFail>
+        requires { IsNormal form.now }
+        ensures some { IfOk result (λ o. IfSome o (λ new. IsPutBy (row_at self.now key) key form.now new)) }
+        ensures none { IfOk result (λ o. IfNone o (row_at self.now key ≡ None)) }
+        ensures wide { IfErr result (λ fail. IfWide fail (λ wide. IsWideBy (row_at self.now key) form.now key wide)) }
+    {
+        match self.rows.get(key) {
+            Some(row) => Ok(Some(subst(self.alloc, form, key, &row.value)?)),
+            None => Ok(None),
+        }
+    }
+
     /// The form with the value of each eliminated name put for it, in the normal form.
     ///
     /// `Wide` comes exactly at the first stated product or sum that leaves the limits, names taken as they rise.
@@ -221,8 +222,7 @@ impl Rows {
     {
         let mut form = copied(self.alloc, lin)?;
         for part in lin.parts.as_slice() {
-            let row = self.rows.get(part.key);
-            if let Some(new) = put_for(self.alloc, row, &form, part.key)? {
+            if let Some(new) = self.put_for(&form, part.key)? {
                 form = new;
             }
         }
