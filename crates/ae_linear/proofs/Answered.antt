@@ -1,13 +1,12 @@
 -- Answers for forms of one meaning, and widths.
-use Rattle.std.specs.Prelude.{◌≡◌, ℕ, Ok, Err, IfErr}
+use Rattle.std.specs.Prelude.{ℕ, Ok, Err, IfErr}
 use Rattle.std.specs.declared.result.Result.{Result}
 use Rattle.std.proofs.Common.{sym, ◌∙◌}
 use native.Mathlib.Decide.{ℕ_discrete}
-use Rattle.ae_math.specs.Forms.{Form, SameForm}
+use Rattle.ae_math.specs.Forms.{Form}
 use Rattle.ae_math.proofs.FormLaws.{same_sym, same_trans}
 use Rattle.ae_num.specs.declared.numbers.Wide.{Wide}
 use Rattle.ae_num.specs.declared.numbers.NumFail.{NumFail}
-use Rattle.ae_num.specs.declared.numbers.NumFail.TheVariants.{Wide as WideFail, Memory}
 use Rattle.ae_num.specs.Forms.{SameMeaning, IfWide}
 use Rattle.ae_num.proofs.Checks.{wide_too}
 use Rattle.ae_linear.specs.declared.solving.Solved.{Solved}

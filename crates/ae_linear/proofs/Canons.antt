@@ -1,19 +1,19 @@
 -- Forms in which the values of the names are put one after the other.
-use Rattle.std.specs.Prelude.{◌≡◌, ◌≢◌, ℕ, ◌+◌, ◌<◌, ◌≤◌, ◌⊎◌, Bool, true, false, ◌||◌, nat_eq, List, [], ◌∷◌, ◌++◌, length, take, drop, slice_index_or, Option, Some, None, IfSome}
-use Rattle.std.proofs.Common.{refl, sym, ap, ◌∙◌, subst, arith, inl, inr}
+use Rattle.std.specs.Prelude.{◌≡◌, ◌≢◌, ℕ, ◌+◌, ◌<◌, ◌≤◌, ◌⊎◌, Bool, true, false, ◌||◌, List, ◌++◌, length, take, drop, slice_index_or, Option, Some, None, IfSome}
+use Rattle.std.proofs.Common.{refl, sym, ap, ◌∙◌, subst, inl, inr}
 use Rattle.std.proofs.lemmas.List.{take_more, drop_more, drop_all, take_all, take-append-drop}
 use Rattle.std.proofs.lemmas.Bool.{ne_eqb}
 use native.Mathlib.Decide.{ℕ_discrete}
-use Rattle.ae_math.specs.Fractions.{ℚ, one_ℚ}
-use Rattle.ae_math.specs.Forms.{value, substitute}
+use Rattle.ae_math.specs.Fractions.{one_ℚ}
+use Rattle.ae_math.specs.Forms.{substitute}
 use Rattle.ae_math.proofs.FormLaws.{value-same, value-substitute}
 use Rattle.ae_num.specs.declared.forms.Part.{Part}
 use Rattle.ae_num.specs.declared.forms.Lin.{Lin}
 use Rattle.ae_num.specs.declared.numbers.Wide.{Wide}
-use Rattle.ae_num.specs.Forms.{meaning, SameMeaning, IsNormal, has_key, first_wide, subst_steps}
+use Rattle.ae_num.specs.Forms.{meaning, IsNormal, has_key}
 use Rattle.ae_linear.specs.declared.rows.Row.{Row}
 use Rattle.ae_linear.specs.Rows.{AreRows, IsFree}
-use Rattle.ae_linear.specs.Canonical.{worth, AreMet, SameByRows, IsPutBy, ArePutFor, none, past, more, IsWideBy, IsWideFor}
+use Rattle.ae_linear.specs.Canonical.{worth, SameByRows, IsPutBy, ArePutFor, none, past, more, IsWideBy, IsWideFor}
 use Rattle.ae_linear.proofs.RowLaws.{gone, came_from}
 
 -- the names before a place were taken

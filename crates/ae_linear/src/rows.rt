@@ -222,8 +222,9 @@ impl Rows {
     {
         let mut form = copied(self.alloc, lin)?;
         for part in lin.parts.as_slice() {
-            if let Some(new) = self.put_for(&form, part.key)? {
-                form = new;
+            match self.put_for(&form, part.key)? {
+                Some(new) => form = new,
+                None => {}
             }
         }
         Ok(form)
@@ -252,7 +253,15 @@ impl Rows {
         let mut steps = Steps::<L>::new(blank);
         let rows = self.rows.share(&mut steps);
         let heads = self.heads.share(&mut steps);
-        match put_in(self.alloc, &mut self.rows, &mut self.heads, &mut self.links, name, value, just) {
+        match put_in(
+            self.alloc,
+            &mut self.rows,
+            &mut self.heads,
+            &mut self.links,
+            name,
+            value,
+            just,
+        ) {
             Ok(()) => Ok(()),
             Err(refused) => {
                 self.rows.back(rows, &mut steps);

@@ -1,4 +1,3 @@
-use Rattle.std.proofs.Common.{ℕ}
 use Rattle.ae_linear.specs.Rows.{row_at}
 use Rattle.ae_linear.proofs.Canons.{IsCanonizing}
 use Rattle.ae_linear.proofs.rows.Rows.canon.Given as goal
