@@ -1,0 +1,2 @@
+-- How the rows that have a name are found.
+pub mod Occurrences

@@ -1,0 +1,11 @@
+//! Equations between linear forms: solved for their largest name, and the values of eliminated names.
+#![tactic(auto)]
+
+mod occurrences;
+mod rows;
+mod solving;
+#[cfg(test)]
+mod tests;
+
+pub use rows::{Row, Rows, Shared};
+pub use solving::{Solved, difference, solution, solve};
