@@ -16,21 +16,17 @@ use Rattle.ae_num.specs.declared.forms.Lin.{Lin}
 use Rattle.ae_num.specs.Forms.{meaning, SameMeaning, IsNormal, IsCommonDivisor}
 use Rattle.ae_rows.specs.Rows.{factor_at, rest_at, bound_at, IsOver}
 use Rattle.ae_rows.proofs.Elimination.{split}
-use Rattle.ae_rows.proofs.Choosing.{apart}
+use Rattle.ae_base.proofs.Integers.{size_neg}
+use Rattle.ae_base.proofs.Tests.{true_false}
 use Rattle.ae_ineq.specs.Sets.{last_part}
 use Rattle.ae_ineq.specs.Points.{IsNumber}
 use Rattle.ae_ineq.proofs.CombiningLaws.{ratio_neg}
 use Rattle.ae_ineq.proofs.LastLaws.{ratio_positive, last_factor, last_nonzero, last_below, no_last_parts}
 
 -- ---- the other sign
-abs_neg_z : (z : ℤ) → unsigned_abs (neg_ℤ z) ≡ unsigned_abs z
-abs_neg_z (pos zero) = refl
-abs_neg_z (pos (suc n)) = refl
-abs_neg_z (negsuc n) = refl
-
 negative_normal : (l : Lin) → IsNumber l → IsNumber (record l { constant = neg_ℤ l.constant })
 negative_normal l n =
-    let back = sym (abs_neg_z l.constant) in
+    let back = sym (size_neg l.constant) in
     record {
       bare = n.bare;
       normal = record {
@@ -102,8 +98,8 @@ rest_is row f name e v others same =
 
 ratio_nonzero : (z d : ℤ) → z ≢ pos 0 → pos 0 <ℤ d → ratio z d ≡ zero_ℚ → ⊥
 ratio_nonzero (pos zero) d m q h = m refl
-ratio_nonzero (pos (suc k)) d m q h = apart (sym (ratio_positive (pos (suc k)) d (omega (arith, ints)) q) ∙ ap is_positive h ∙ positive_zero)
-ratio_nonzero (negsuc k) d m q h = apart (sym (ratio_positive (pos (suc k)) d (omega (arith, ints)) q) ∙ ap is_positive (ratio_neg (negsuc k) d ∙ ap neg_ℚ h ∙ neg_zero_q) ∙ positive_zero)
+ratio_nonzero (pos (suc k)) d m q h = true_false (sym (ratio_positive (pos (suc k)) d (omega (arith, ints)) q) ∙ ap is_positive h ∙ positive_zero)
+ratio_nonzero (negsuc k) d m q h = true_false (sym (ratio_positive (pos (suc k)) d (omega (arith, ints)) q) ∙ ap is_positive (ratio_neg (negsuc k) d ∙ ap neg_ℚ h ∙ neg_zero_q) ∙ positive_zero)
 
 -- the last part has the name that is left
 pub last_is_name : (f : Lin) (p : Part) (name : ℕ) → IsNormal f → last_part f.parts ≡ Some p → ((t : ℕ) → t ≢ name → factor_at t (meaning f) ≡ zero_ℚ) → ratio p.factor f.den ≡ factor_at name (meaning f)

@@ -19,6 +19,8 @@ use Rattle.ae_num.specs.Limits.{FitsLimits}
 use Rattle.ae_num.proofs.MeaningLaws.{factor_meaning, ratio_zero, ratio_scaled, ratio_times, product_positive}
 use Rattle.ae_num.proofs.PairLaws.{factor_head, factor_tail}
 use Rattle.ae_rows.specs.Rows.{factor_at, IsOver, IsLower, IsUpper}
+use Rattle.ae_base.proofs.Tests.{true_false}
+use Rattle.ae_rows.proofs.Signs.{negative_turns}
 use Rattle.ae_ineq.specs.Sets.{last_part, IsMultiple}
 use Rattle.ae_ineq.proofs.CombiningLaws.{ratio_neg}
 
@@ -129,15 +131,9 @@ over_none l n normal e = record { absent = λ k h. factor_meaning l k normal.ris
 pub lower_means : (l : Lin) (p : Part) → IsNormal l → last_part l.parts ≡ Some p → pos 0 <ℤ p.factor → IsLower p.key (meaning l)
 lower_means l p n e h = record { largest = over_last l p n e; sign = ap is_positive (last_factor l p n e) ∙ ratio_positive p.factor l.den h n.positive }
 
-turn_sign : (z : ℤ) → z <ℤ pos 0 → pos 0 <ℤ neg_ℤ z
-turn_sign z h = omega (arith, ints)
-
 pub upper_means : (l : Lin) (p : Part) → IsNormal l → last_part l.parts ≡ Some p → p.factor <ℤ pos 0 → IsUpper p.key (meaning l)
 upper_means l p n e h =
-    record { largest = over_last l p n e; sign = ap (λ x. is_positive (neg_ℚ x)) (last_factor l p n e) ∙ ap is_positive (sym (ratio_neg p.factor l.den)) ∙ ratio_positive (neg_ℤ p.factor) l.den (turn_sign p.factor h) n.positive }
-
-apart : {A : Type 0} → true ≡ false → A
-apart e = cc
+    record { largest = over_last l p n e; sign = ap (λ x. is_positive (neg_ℚ x)) (last_factor l p n e) ∙ ap is_positive (sym (ratio_neg p.factor l.den)) ∙ ratio_positive (neg_ℤ p.factor) l.den (negative_turns p.factor h) n.positive }
 
 -- a form over the names below n has its last name there
 pub last_below : (l : Lin) (n : ℕ) (p : Part) → IsNormal l → IsOver n (meaning l) → last_part l.parts ≡ Some p → p.key < n
@@ -145,8 +141,8 @@ last_below l n p normal o e = by_case (dec_lt p.key n)
   where
     by_sign : (z : ℤ) → z ≢ pos 0 → ratio z l.den ≡ zero_ℚ → ⊥
     by_sign (pos zero) m h = m refl
-    by_sign (pos (suc k)) m h = apart (sym (ratio_positive (pos (suc k)) l.den (omega (arith, ints)) normal.positive) ∙ ap is_positive h ∙ positive_zero)
-    by_sign (negsuc k) m h = apart (sym (ratio_positive (pos (suc k)) l.den (omega (arith, ints)) normal.positive) ∙ ap is_positive (ratio_neg (negsuc k) l.den ∙ ap neg_ℚ h ∙ neg_zero_q) ∙ positive_zero)
+    by_sign (pos (suc k)) m h = true_false (sym (ratio_positive (pos (suc k)) l.den (omega (arith, ints)) normal.positive) ∙ ap is_positive h ∙ positive_zero)
+    by_sign (negsuc k) m h = true_false (sym (ratio_positive (pos (suc k)) l.den (omega (arith, ints)) normal.positive) ∙ ap is_positive (ratio_neg (negsuc k) l.den ∙ ap neg_ℚ h ∙ neg_zero_q) ∙ positive_zero)
 
     by_case : Dec (p.key < n) → p.key < n
     by_case (yes h) = h

@@ -8,6 +8,7 @@ use Rattle.std.proofs.lemmas.Int.{unsigned_abs-mul}
 use Rattle.ae_num.specs.declared.forms.Part.{Part}
 use Rattle.ae_num.specs.declared.forms.Lin.{Lin}
 use Rattle.ae_num.specs.Forms.{scale_steps, plus_steps, multiple_of, Step, Product, is_wide, wide_of, first_wide, factor_of, IsNormal}
+use Rattle.ae_base.proofs.Integers.{size_positive}
 use Rattle.ae_num.specs.Limits.{FitsLimits}
 use Rattle.ae_ineq.specs.Combining.{combine_steps}
 use Rattle.ae_ineq.proofs.LastLaws.{all_sizes}
@@ -25,11 +26,6 @@ not_wide m n h = grind (arith, nat_tests)
 times_grows : (d m : ℕ) → 0 < m → d ≤ d * m
 times_grows d zero h = absurd (omega (arith, h))
 times_grows d (suc m) h = omega arith
-
-size_positive : (z : ℤ) → pos 0 <ℤ z → 0 < unsigned_abs z
-size_positive (pos zero) h = absurd (omega (arith, ints))
-size_positive (pos (suc n)) h = omega arith
-size_positive (negsuc n) h = absurd (omega (arith, ints))
 
 below_limit : (a b c : ℕ) → a ≤ b → b < c → a < c
 below_limit a b c h k = omega (arith, h, k)

@@ -6,7 +6,7 @@ use Rattle.std.proofs.Math.Nat.{dvd_of_mul-dvd-mul_right}
 use lib.IntN.{*ℤ_comm}
 use borrow.Author.Differences.{ints}
 use Rattle.std.specs.Int.{◌∣◌, IsGcd}
-use Rattle.ae_math.specs.Inner.Integers.{ring, one_mul_z}
+use Rattle.ae_math.specs.Inner.Integers.{ring, one_mul_z, add_mul_z}
 use Rattle.ae_math.specs.Fractions.{neg_ℚ, ◌+ℚ◌, ◌*ℚ◌, ratio}
 use Rattle.ae_math.proofs.FractionLaws.{same_frac}
 use Rattle.ae_math.proofs.Divisors.{gcd_exists, coprime_parts, euclid, divisor_positive, whole_part as whole_times}
@@ -46,12 +46,9 @@ ratio_cross a (pos (suc m)) b (pos zero) p q e = absurd (omega (arith, ints))
 ratio_cross a (pos (suc m)) b (negsuc n) p q e = absurd (omega (arith, ints))
 ratio_cross a (pos (suc m)) b (pos (suc n)) p q e = same_frac a b m n e
 
-joint : (a b z : ℤ) → (a +ℤ b) *ℤ z ≡ a *ℤ z +ℤ b *ℤ z
-joint a b z = simp ring
-
 ratio_joint : (a b d : ℤ) → pos 0 <ℤ d → ratio a d +ℚ ratio b d ≡ ratio (a +ℤ b) d
 ratio_joint a b d h =
-    sym (ratio_sum a d b d h h) ∙ sym (ratio_scaled (a +ℤ b) d (a *ℤ d +ℤ b *ℤ d) (d *ℤ d) d h (product_positive d d h h) (joint a b d) refl)
+    sym (ratio_sum a d b d h h) ∙ sym (ratio_scaled (a +ℤ b) d (a *ℤ d +ℤ b *ℤ d) (d *ℤ d) d h (product_positive d d h h) (add_mul_z a b d) refl)
 
 -- e/dq times x/dp and c/dp times y/dq
 over_both : (e x c y dp dq : ℤ) → pos 0 <ℤ dp → pos 0 <ℤ dq → ratio e dq *ℚ ratio x dp +ℚ ratio c dp *ℚ ratio y dq ≡ ratio (x *ℤ e +ℤ y *ℤ c) (dp *ℤ dq)

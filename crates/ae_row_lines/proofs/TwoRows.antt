@@ -24,8 +24,9 @@ use Rattle.ae_core.specs.declared.problems.Signature.{Signature}
 use Rattle.ae_core.specs.declared.proofs.EqLine.{EqLine}
 use Rattle.ae_core.specs.declared.proofs.Relation.{Relation}
 use Rattle.ae_core.specs.declared.proofs.Relation.TheVariants.{Equal, AtMost, Below}
-use Rattle.ae_rows.specs.Rows.{factor_at, IsOver}
-use Rattle.ae_row_lines.specs.Says.{Says, Used, mixture, SaysCombination, parts_of_line}
+use Rattle.ae_rows.proofs.Signs.{negative_turns}
+use Rattle.ae_rows.specs.Rows.{mixture, factor_at, IsOver}
+use Rattle.ae_row_lines.specs.Says.{Says, Used, shares_of, SaysCombination, parts_of_line}
 use Rattle.ae_row_lines.proofs.Sums.{mixture_sums}
 
 pub ratio_neg : (a d : ℤ) → ratio (neg_ℤ a) d ≡ neg_ℚ (ratio a d)
@@ -49,9 +50,6 @@ share d m a (pos (suc n)) e p h =
     ∙ frac_same ((a *ℤ pos (suc n)) *ℤ e) (e *ℤ a) (joined 0 n) 0 (turned a (pos (suc n)) e e ∙ ap (λ t. (e *ℤ a) *ℤ t) (sym (bottom-joined 0 n)))
     ∙ sym (whole_times e a)
 
-negative_turns : (z : ℤ) → z <ℤ pos 0 → pos 0 <ℤ neg_ℤ z
-negative_turns z h = omega (arith, ints)
-
 pub product_sign : (d m : ℤ) (a b : ℤ) → pos 0 <ℤ m → pos 0 <ℤ a → pos 0 <ℤ b → d *ℤ m ≡ a *ℤ b → pos 0 <ℤ d
 product_sign d (pos zero) a b m p q e = absurd (omega (arith, ints))
 product_sign d (negsuc k) a b m p q e = absurd (omega (arith, ints))
@@ -69,7 +67,7 @@ module _ (names : ℕ → Term) (n : ℕ) (p q r : Lin) (left right fact : Fact)
       record { form = meaning p; share = neg_ℚ (factor_at n (meaning q)); multiple = p.den; fact = left; factor = neg_ℤ (lin_factor q.parts n) }
       ∷ record { form = meaning q; share = factor_at n (meaning p); multiple = q.den; fact = right; factor = lin_factor p.parts n } ∷ []
 
-  mixed : SameForm ℕ_discrete (meaning r) (mixture rows)
+  mixed : SameForm ℕ_discrete (meaning r) (mixture (shares_of rows))
   unfolding rows
   mixed =
       let a : Form ℕ = scale (neg_ℚ (factor_at n (meaning q))) (meaning p) in

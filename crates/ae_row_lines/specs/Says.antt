@@ -1,7 +1,7 @@
 -- What it is for a derived line to say a row, where each name stands for a term.
-use Rattle.std.specs.Prelude.{ℕ, ℤ, pos, neg_ℤ, ◌<ℤ◌, ◌*ℤ◌, ◌≡◌, List, [], ◌∷◌}
+use Rattle.std.specs.Prelude.{ℕ, ℤ, pos, neg_ℤ, ◌<ℤ◌, ◌*ℤ◌, ◌≡◌, List, [], ◌∷◌, map}
 use Rattle.ae_math.specs.Fractions.{ℚ, zero_ℚ, one_ℚ, ◌*ℚ◌, whole}
-use Rattle.ae_math.specs.Forms.{Form, number, plus, scale, value}
+use Rattle.ae_math.specs.Forms.{Form, value}
 use Rattle.ae_num.specs.declared.forms.Lin.{Lin}
 use Rattle.ae_num.specs.Forms.{meaning, SameMeaning, IsNormal, factor_of as lin_factor}
 use Rattle.ae_rows.specs.Rows.{combination}
@@ -24,10 +24,9 @@ pub record Used : Type 0 where
   pub fact : Fact
   pub factor : ℤ
 
--- the sum of the shares
-abbrev pub mixture : List Used → Form ℕ
-mixture [] = number zero_ℚ
-mixture (u ∷ us) = plus (scale u.share u.form) (mixture us)
+-- the shares of the rows
+abbrev pub shares_of : List Used → List (ℚ × Form ℕ)
+shares_of us = map (λ u. (u.share, u.form)) us
 
 -- ---- two rows
 -- a line whose fact says the combination of two rows on a name, in factors that the rows' own numbers give

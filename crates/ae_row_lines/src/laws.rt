@@ -16,12 +16,12 @@ ghost use Rattle.ae_core.specs.declared.proofs.Relation.TheVariants.{Equal, AtMo
 ghost use Rattle.ae_rules.specs.Linear.{IsSame};
 ghost use Rattle.ae_rules.specs.Lines.{Fact, at_most, below, gap, total, IsNumeric, HaveSort, Stated, AllowedLeSum, AllowedLtSum, AreNumbers, Allowed, AllAllowed, fact_ok};
 ghost use Rattle.ae_rules.specs.Derivations.{EndsZero, CannotHold};
-ghost use Rattle.ae_rows.specs.Rows.{combination, IsOver};
-ghost use Rattle.ae_row_lines.specs.Says.{Says, Used, mixture, SaysCombination, parts_of_line};
+ghost use Rattle.ae_rows.specs.Rows.{mixture, combination, IsOver};
+ghost use Rattle.ae_row_lines.specs.Says.{Says, Used, shares_of, SaysCombination, parts_of_line};
 
 /// A sum of shares of rows is a sum of their lines: where `share * d * m` is `factor * multiple` for each.
 pub fn mixtures_are_sums()
-    ensures { (names : ℕ → Term) (d m : ℤ) (f : Form ℕ) (fact : Fact) (us : List Used) → Says names m f fact → SameForm ℕ_discrete f (mixture us) → AllByRecursion (λ u. Says names u.multiple u.form u.fact) us → AllByRecursion (λ u. (whole d *ℚ whole m) *ℚ u.share ≡ whole u.factor *ℚ whole u.multiple) us → IsSame (scale (whole d) (gap fact)) (total (map (λ u. (u.factor, u.fact)) us)) }
+    ensures { (names : ℕ → Term) (d m : ℤ) (f : Form ℕ) (fact : Fact) (us : List Used) → Says names m f fact → SameForm ℕ_discrete f (mixture (shares_of us)) → AllByRecursion (λ u. Says names u.multiple u.form u.fact) us → AllByRecursion (λ u. (whole d *ℚ whole m) *ℚ u.share ≡ whole u.factor *ℚ whole u.multiple) us → IsSame (scale (whole d) (gap fact)) (total (map (λ u. (u.factor, u.fact)) us)) }
 {}
 
 /// The combination of two rows is an allowed line of sums, which adds up the lines of the two rows.

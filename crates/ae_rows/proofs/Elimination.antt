@@ -10,13 +10,14 @@ use Rattle.ae_math.proofs.FractionLaws.{add_zero_q, field, times_inverse, mul_co
 use Rattle.ae_math.proofs.FractionOrder.{positive_sum, positive_product, positive_zero, neither_positive}
 use Rattle.ae_math.proofs.FormLaws.{value-number, apart as apart_form, factor_in-append, factor_in-scale, value-plus, value-scale, value-same}
 use Rattle.ae_rows.specs.Rows.{factor_at, IsOver, IsLower, IsUpper, combination, IsCovered, multiple, weaker, number, IsClosed, HasPositiveNumbers, rest_at, bound_at, LowerBound, UpperBound, IsPoint, IsSatisfied}
-use Rattle.ae_rows.proofs.Choosing.{apart, above_lower, below_upper}
+use Rattle.ae_base.proofs.Tests.{true_false}
+use Rattle.ae_rows.proofs.Choosing.{above_lower, below_upper}
 
 pub positive_nonzero : (c : ℚ) → is_positive c ≡ true → ¬ (c ≡ zero_ℚ)
-positive_nonzero c p e = apart (sym p ∙ ap is_positive e ∙ positive_zero)
+positive_nonzero c p e = true_false (sym p ∙ ap is_positive e ∙ positive_zero)
 
 negative_nonzero : (c : ℚ) → is_positive (neg_ℚ c) ≡ true → ¬ (c ≡ zero_ℚ)
-negative_nonzero c p e = apart (sym p ∙ ap is_positive (ap neg_ℚ e ∙ neg_zero_q) ∙ positive_zero)
+negative_nonzero c p e = true_false (sym p ∙ ap is_positive (ap neg_ℚ e ∙ neg_zero_q) ∙ positive_zero)
 
 -- a product with an inverse, undone
 undo : (c x : ℚ) → ¬ (c ≡ zero_ℚ) → (x *ℚ inverse_ℚ c) *ℚ c ≡ x

@@ -9,7 +9,8 @@ use Rattle.ae_rows.specs.Rows.{combination}
 use Rattle.ae_math.proofs.FormLaws.{same_sym}
 use Rattle.ae_ineq.specs.Sets.{last_part, IsRow, IsRestRow, HasForm, IsRefuted}
 use Rattle.ae_ineq.proofs.LastLaws.{rising_last, last_within}
-use Rattle.ae_ineq.proofs.RowSets.{each, rest_row, added_all, added_kept, added_covered, covered_same}
+use Rattle.ae_base.proofs.AllOf.{all_weaker}
+use Rattle.ae_ineq.proofs.RowSets.{rest_row, added_all, added_kept, added_covered, covered_same}
 use Rattle.ae_ineq.proofs.Verdicts.{zero_means, refuted_means}
 use Rattle.ae_ineq.proofs.elimination.cover.Goals as goal
 
@@ -51,7 +52,7 @@ returns-in_ok-add-in-Open-clause-covered c = λ t.
     let f : Form _ = combination c.args.name (meaning c.args.lower.now.lin) (meaning c.args.upper.now.lin) in
     covered_same (HasForm c.add.new.rest) f (meaning row.lin)
     (subst (λ (l : Lin). SameMeaning f (meaning l)) (sym r.form) (same_sym ℕ_discrete (meaning c.in_ok-lin.lin) f c.in_ok-lin.ensures.exact))
-    (added_covered c.args.rest.now c.add.new.rest row c.in_ok-add-in-Open.ensures.added (each (IsRestRow c.args.name) IsRow (λ x h. h.good.row) c.args.rest.now c.requires.rest) r.known)
+    (added_covered c.args.rest.now c.add.new.rest row c.in_ok-add-in-Open.ensures.added (all_weaker (IsRestRow c.args.name) IsRow (λ x h. h.good.row) c.args.rest.now c.requires.rest) r.known)
 
 pub returns-in-Tight-clause-tight : goal.returns-in-Tight-clause-tight
 returns-in-Tight-clause-tight c = λ t.
