@@ -18,8 +18,8 @@ use Rattle.ae_rows.specs.Rows.{factor_at, rest_at, bound_at, IsOver}
 use Rattle.ae_rows.proofs.Elimination.{split}
 use Rattle.ae_base.proofs.Integers.{size_neg}
 use Rattle.ae_base.proofs.Tests.{true_false}
-use Rattle.ae_ineq.specs.Sets.{last_part}
-use Rattle.ae_ineq.specs.Points.{IsNumber}
+use Rattle.ae_ineq.specs.Inner.Sets.{last_part}
+use Rattle.ae_ineq.specs.Inner.Points.{IsNumber}
 use Rattle.ae_ineq.proofs.CombiningLaws.{ratio_neg}
 use Rattle.ae_ineq.proofs.LastLaws.{ratio_positive, last_factor, last_nonzero, last_below, no_last_parts}
 

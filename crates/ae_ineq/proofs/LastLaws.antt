@@ -21,7 +21,7 @@ use Rattle.ae_num.proofs.PairLaws.{factor_head, factor_tail}
 use Rattle.ae_rows.specs.Rows.{factor_at, IsOver, IsLower, IsUpper}
 use Rattle.ae_base.proofs.Tests.{true_false}
 use Rattle.ae_rows.proofs.Signs.{negative_turns}
-use Rattle.ae_ineq.specs.Sets.{last_part, IsMultiple}
+use Rattle.ae_ineq.specs.Inner.Sets.{last_part, IsMultiple}
 use Rattle.ae_ineq.proofs.CombiningLaws.{ratio_neg}
 
 -- ---- signs

@@ -10,7 +10,8 @@ use Rattle.ae_num.specs.declared.forms.Lin.{Lin}
 use Rattle.ae_num.specs.Forms.{scale_steps, plus_steps, multiple_of, Step, Product, is_wide, wide_of, first_wide, factor_of, IsNormal}
 use Rattle.ae_base.proofs.Integers.{size_positive}
 use Rattle.ae_num.specs.Limits.{FitsLimits}
-use Rattle.ae_ineq.specs.Combining.{combine_steps}
+use Rattle.ae_journal.specs.Licences.{combine_steps}
+use Rattle.ae_ineq.proofs.CombiningLaws.{steps_nested}
 use Rattle.ae_ineq.proofs.LastLaws.{all_sizes}
 
 first_fits : (s : Step) (ss : List Step) → first_wide (s ∷ ss) ≡ None → is_wide s ≡ false
@@ -35,9 +36,9 @@ rest_steps n p q =
     map (λ x. Product x.factor (neg_ℤ (factor_of q.parts n))) p.parts ++ Product p.constant (neg_ℤ (factor_of q.parts n)) ∷ []
     ++ (scale_steps (factor_of p.parts n) p.den q ++ plus_steps (multiple_of (neg_ℤ (factor_of q.parts n)) q.den p) (multiple_of (factor_of p.parts n) p.den q))
 
-pub times_within : (n : ℕ) (p q : Lin) (d m : ℤ) → first_wide (combine_steps n p q) ≡ None → pos 0 <ℤ d → pos 0 <ℤ m → d *ℤ m ≡ p.den *ℤ q.den → FitsLimits d
+pub times_within : (n : ℕ) (p q : Lin) (d m : ℤ) → first_wide (combine_steps p n q) ≡ None → pos 0 <ℤ d → pos 0 <ℤ m → d *ℤ m ≡ p.den *ℤ q.den → FitsLimits d
 times_within n p q d m h dp mp e =
-    let small : unsigned_abs (p.den *ℤ q.den) < 2 ^ 127 = not_wide (2 ^ 127) (unsigned_abs (p.den *ℤ q.den)) (first_fits (Product p.den q.den) (rest_steps n p q) h) in
+    let small : unsigned_abs (p.den *ℤ q.den) < 2 ^ 127 = not_wide (2 ^ 127) (unsigned_abs (p.den *ℤ q.den)) (first_fits (Product p.den q.den) (rest_steps n p q) (sym (steps_nested n p q) ∙ h)) in
     let size : unsigned_abs d * unsigned_abs m ≡ unsigned_abs (p.den *ℤ q.den) = sym (unsigned_abs-mul d m) ∙ ap unsigned_abs e in
     below_limit (unsigned_abs d) (unsigned_abs d * unsigned_abs m) (2 ^ 127) (times_grows (unsigned_abs d) (unsigned_abs m) (size_positive m mp)) (subst (λ k. k < 2 ^ 127) (sym size) small)
 

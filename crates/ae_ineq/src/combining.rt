@@ -4,7 +4,8 @@ ghost use Rattle.std.specs.Prelude.{◌≡◌, None, Some, pos, neg_ℤ, ◌<ℤ
 ghost use Rattle.ae_num.specs.Forms.{meaning, SameMeaning, IsNormal, first_wide, IfWide, factor_of};
 ghost use Rattle.ae_num.specs.Limits.{FitsLimits};
 ghost use Rattle.ae_rows.specs.Rows.{combination};
-ghost use Rattle.ae_ineq.specs.Combining.{combined_of, combine_steps};
+ghost use Rattle.ae_journal.specs.Licences.{combine_steps};
+ghost use Rattle.ae_ineq.specs.Combining.{combined_of};
 
 use ae_num::forms::{Lin, Name, plus, scale};
 use ae_num::numbers::NumFail;
@@ -46,8 +47,8 @@ pub fn combine(
     ensures form { IfOk result (λ form. form ≡ combined_of name lower.now upper.now) }
     ensures exact { IfOk result (λ form. SameMeaning (meaning form) (combination name (meaning lower.now) (meaning upper.now))) }
     ensures normal { IfOk result (λ form. IsNormal form) }
-    ensures fits { OnOk result (first_wide (combine_steps name lower.now upper.now) ≡ None) }
-    ensures wide { IfErr result (λ fail. IfWide fail (λ wide. first_wide (combine_steps name lower.now upper.now) ≡ Some wide)) }
+    ensures fits { OnOk result (first_wide (combine_steps lower.now name upper.now) ≡ None) }
+    ensures wide { IfErr result (λ fail. IfWide fail (λ wide. first_wide (combine_steps lower.now name upper.now) ≡ Some wide)) }
 {
     let left = scale(alloc, negated(falling), den_of(upper), lower)?;
     let right = scale(alloc, rising, den_of(lower), upper)?;

@@ -1,6 +1,6 @@
 //! Elimination of names, the largest first.
 
-ghost use Rattle.std.specs.Prelude.{◌≡◌, ◌≤◌, ◌⊎◌, ◌||◌, true, ℕ, suc, max, IfOk, OnOk, IfSome, IfNone, Some, IsSome, pos, ◌<ℤ◌, ◌≤ℤ◌, ◌≢◌, ◌++◌, ◌∷◌, []};
+ghost use Rattle.std.specs.Prelude.{◌≡◌, ◌≤◌, ◌⊎◌, ◌||◌, true, ℕ, suc, max, IfOk, OnOk, IfSome, IfNone, Some, IsSome, pos, ◌<ℤ◌, ◌≤ℤ◌, ◌≢◌, ◌++◌, ◌∷◌, [], false, List};
 ghost use Rattle.std.specs.List.{AllByRecursion};
 ghost use Rattle.ae_math.specs.Forms.{Form};
 ghost use Rattle.ae_num.specs.Forms.{meaning, SameMeaning, IsNormal, factor_of};
@@ -8,8 +8,10 @@ ghost use Rattle.ae_num.specs.Limits.{FitsLimits};
 ghost use Rattle.ae_rows.specs.Rows.{IsCovered, IsClosed, HasPositiveNumbers, combination};
 ghost use Rattle.ae_ineq.specs.declared.elimination.Verdict.TheVariants.{Open, Tight, Contradiction};
 ghost use Rattle.ae_ineq.specs.declared.elimination.Side.TheVariants.{Lower, Upper, Rest};
-ghost use Rattle.ae_ineq.specs.Points.{AreFalling};
-ghost use Rattle.ae_ineq.specs.Sets.{IsRow, IsGoodRow, IsLowerRow, IsUpperRow, IsRestRow, HasForm, HasDirection, AreAmong, AreCovered, reach, HasAny, HasPart, IsStage, reach_of, name_reach, IsZero, IsRefuted};
+ghost use Rattle.ae_ineq.specs.Inner.Points.{AreFalling};
+ghost use Rattle.ae_ineq.specs.Inner.Sets.{IsRow, IsGoodRow, IsLowerRow, IsUpperRow, IsRestRow, HasForm, HasDirection, AreAmong, AreCovered, reach, HasAny, HasPart, IsStage, reach_of, name_reach};
+ghost use Rattle.ae_ineq.specs.Inner.Derived.{IsDerived, IsJudged};
+ghost use Rattle.ae_ineq.specs.declared.solving.Inequality.{Inequality};
 
 use crate::combining::combine;
 use crate::rows::{Row, has_direction, last, row_of};
@@ -106,6 +108,9 @@ pub fn split(alloc: Global, name: Name, rows: Items<Row>) -> Result<(Stage, Item
     ensures upper { IfOk result (λ parts. AllByRecursion (IsUpperRow name) parts.0.uppers) }
     ensures rest { IfOk result (λ parts. AllByRecursion (IsRestRow name) parts.1) }
     ensures all { IfOk result (λ parts. (f : Form ℕ) → HasForm rows f → HasPart parts.0.lowers parts.0.uppers parts.1 f) }
+    ensures derived_lower { IfOk result (λ parts. (given : List Inequality) → AllByRecursion (IsDerived given) rows → AllByRecursion (IsDerived given) parts.0.lowers) }
+    ensures derived_upper { IfOk result (λ parts. (given : List Inequality) → AllByRecursion (IsDerived given) rows → AllByRecursion (IsDerived given) parts.0.uppers) }
+    ensures derived_rest { IfOk result (λ parts. (given : List Inequality) → AllByRecursion (IsDerived given) rows → AllByRecursion (IsDerived given) parts.1) }
 {
     let mut rows = rows;
     let mut lowers = Items::new(alloc);
@@ -146,9 +151,9 @@ pub fn add(rest: &mut Items<Row>, row: Row) -> Result<(), AllocError>
 }
 
 /// What a combination comes to where it is a number that isn't positive.
-fn judged(form: &Lin, strict: bool) -> Verdict
+pub fn judged(form: &Lin, strict: bool) -> Verdict
     ensures fine { result ≡ Open → form.now.parts ≡ [] → pos 0 <ℤ form.now.constant }
-    ensures tight { result ≡ Tight → (form.now.parts ≡ []) × (form.now.constant ≡ pos 0) }
+    ensures tight { result ≡ Tight → (form.now.parts ≡ []) × (form.now.constant ≡ pos 0) × (strict ≡ false) }
     ensures refuted { result ≡ Contradiction → (form.now.parts ≡ []) × (form.now.constant <ℤ pos 0 ⊎ ((form.now.constant ≡ pos 0) × (strict ≡ true))) }
 {
     if !form.parts.is_empty() || form.constant > 0 {
@@ -213,8 +218,8 @@ pub fn cover(
     ensures rest { OnOk result (AllByRecursion (IsRestRow name) rest.new) }
     ensures kept { OnOk result (AreAmong rest.old rest.new) }
     ensures covered { IfOk result (λ verdict. verdict ≡ Open → IsCovered (HasForm rest.new) (combination name (meaning lower.now.lin) (meaning upper.now.lin))) }
-    ensures tight { IfOk result (λ verdict. verdict ≡ Tight → IsZero (combination name (meaning lower.now.lin) (meaning upper.now.lin))) }
-    ensures refuted { IfOk result (λ verdict. verdict ≡ Contradiction → IsRefuted (lower.now.strict || upper.now.strict) (combination name (meaning lower.now.lin) (meaning upper.now.lin))) }
+    ensures derived { OnOk result ((given : List Inequality) → IsDerived given lower.now → IsDerived given upper.now → AllByRecursion (IsDerived given) rest.old → AllByRecursion (IsDerived given) rest.new) }
+    ensures judged { IfOk result (λ verdict. (given : List Inequality) → IsDerived given lower.now → IsDerived given upper.now → IsJudged given verdict) }
 {
     let rising = last(lower.lin.parts.as_slice());
     let falling = last(upper.lin.parts.as_slice());
@@ -235,6 +240,8 @@ pub fn cover(
 fn worse(left: Verdict, right: Verdict) -> Verdict
     ensures left { result ≡ Open → left ≡ Open }
     ensures right { result ≡ Open → right ≡ Open }
+    ensures refuted { left ≡ Contradiction ⊎ right ≡ Contradiction → result ≡ Contradiction }
+    ensures judged { (given : List Inequality) → IsJudged given left → IsJudged given right → IsJudged given result }
 {
     match left {
         Verdict::Open => right,
@@ -261,6 +268,8 @@ fn cover_uppers(
     ensures rest { OnOk result (AllByRecursion (IsRestRow name) rest.new) }
     ensures kept { OnOk result (AreAmong rest.old rest.new) }
     ensures covered { IfOk result (λ verdict. verdict ≡ Open → AreCovered name (lower.now ∷ []) uppers.now (HasForm rest.new)) }
+    ensures derived { OnOk result ((given : List Inequality) → IsDerived given lower.now → AllByRecursion (IsDerived given) uppers.now → AllByRecursion (IsDerived given) rest.old → AllByRecursion (IsDerived given) rest.new) }
+    ensures judged { IfOk result (λ verdict. (given : List Inequality) → IsDerived given lower.now → AllByRecursion (IsDerived given) uppers.now → IsJudged given verdict) }
 {
     let mut verdict = Verdict::Open;
     for upper in uppers {
@@ -283,6 +292,8 @@ pub fn cover_all(
     ensures rest { OnOk result (AllByRecursion (IsRestRow name) rest.new) }
     ensures kept { OnOk result (AreAmong rest.old rest.new) }
     ensures covered { IfOk result (λ verdict. verdict ≡ Open → AreCovered name lowers.now uppers.now (HasForm rest.new)) }
+    ensures derived { OnOk result ((given : List Inequality) → AllByRecursion (IsDerived given) lowers.now → AllByRecursion (IsDerived given) uppers.now → AllByRecursion (IsDerived given) rest.old → AllByRecursion (IsDerived given) rest.new) }
+    ensures judged { IfOk result (λ verdict. (given : List Inequality) → AllByRecursion (IsDerived given) lowers.now → AllByRecursion (IsDerived given) uppers.now → IsJudged given verdict) }
 {
     let mut verdict = Verdict::Open;
     for lower in lowers {
@@ -309,6 +320,7 @@ pub fn eliminate(alloc: Global, rows: Items<Row>) -> Result<Eliminated, NumFail>
     ensures falling { IfOk result (λ all. AreFalling all.stages) }
     ensures good { IfOk result (λ all. AllByRecursion IsGoodRow all.rest) }
     ensures done { IfOk result (λ all. reach all.rest ≡ 0) }
+    ensures judged { IfOk result (λ all. (given : List Inequality) → AllByRecursion (IsDerived given) rows → IsJudged given all.verdict) }
 {
     let mut rest = rows;
     let mut stages: Items<Stage> = Items::new(alloc);

@@ -3,10 +3,10 @@ ghost use Rattle.std.specs.Prelude.{◌≡◌, ◌*ℤ◌, ◌<ℤ◌, ℕ, ℤ,
 ghost use Rattle.ae_num.specs.declared.forms.Lin.{Lin};
 ghost use Rattle.ae_num.specs.Forms.{IsNormal, first_wide, factor_of};
 ghost use Rattle.ae_num.specs.Limits.{FitsLimits};
-ghost use Rattle.ae_ineq.specs.Combining.{combine_steps};
+ghost use Rattle.ae_journal.specs.Licences.{combine_steps};
 
 /// The numbers of the line that sums two rows are within the limits where their combination could be computed.
 pub fn line_numbers_fit()
-    ensures times { (n : ℕ) (p q : Lin) (d m : ℤ) → first_wide (combine_steps n p q) ≡ None → pos 0 <ℤ d → pos 0 <ℤ m → d *ℤ m ≡ p.den *ℤ q.den → FitsLimits d }
+    ensures times { (n : ℕ) (p q : Lin) (d m : ℤ) → first_wide (combine_steps p n q) ≡ None → pos 0 <ℤ d → pos 0 <ℤ m → d *ℤ m ≡ p.den *ℤ q.den → FitsLimits d }
     ensures factors { (p : Lin) (n : ℕ) → IsNormal p → FitsLimits (factor_of p.parts n) }
 {}

@@ -7,8 +7,8 @@ ghost use Rattle.ae_math.specs.Forms.{value};
 ghost use Rattle.ae_num.specs.Forms.{meaning, IsNormal};
 ghost use Rattle.ae_num.specs.Limits.{FitsLimits};
 ghost use Rattle.ae_rows.specs.Rows.{factor_at, bound_at, IsPoint};
-ghost use Rattle.ae_ineq.specs.Sets.{IsLowerRow, IsUpperRow, IsStage, HasStage};
-ghost use Rattle.ae_ineq.specs.Points.{IsNumber, IsNumberOrNone, value_in, Agrees, amount, IsGreaterOf, IsLesserOf, IsGreatestBound, IsLeastBound, IsChosen, AreFalling};
+ghost use Rattle.ae_ineq.specs.Inner.Sets.{IsLowerRow, IsUpperRow, IsStage, HasStage};
+ghost use Rattle.ae_ineq.specs.Inner.Points.{IsNumber, IsNumberOrNone, value_in, Agrees, amount, IsGreaterOf, IsLesserOf, IsGreatestBound, IsLeastBound, IsChosen, AreFalling};
 
 use crate::elimination::Stage;
 use crate::rows::{Row, last};
@@ -19,13 +19,13 @@ use std::alloc::{AllocError, Global};
 
 /// A name and its value, a number.
 #[derive(Debug, Drop)]
-pub struct PointAt {
+pub struct Valuation {
     pub name: Name,
     pub value: Lin,
 }
 
 /// A copy of a form.
-fn copied(alloc: Global, form: &Lin) -> Result<Lin, AllocError>
+pub fn copied(alloc: Global, form: &Lin) -> Result<Lin, AllocError>
     ensures { IfOk result (λ copy. copy ≡ form.now) }
 {
     Ok(Lin {
@@ -36,7 +36,7 @@ fn copied(alloc: Global, form: &Lin) -> Result<Lin, AllocError>
 }
 
 /// The value of a name, 0 where it has none.
-fn value_of(alloc: Global, point: &[PointAt], name: Name) -> Result<Lin, AllocError>
+fn value_of(alloc: Global, point: &[Valuation], name: Name) -> Result<Lin, AllocError>
     requires { AllByRecursion (λ at. IsNumber at.value) point.now }
     ensures number { IfOk result (λ form. IsNumber form) }
     ensures value { IfOk result (λ form. ratio form.constant form.den ≡ value_in point.now name) }
@@ -55,7 +55,7 @@ fn put_one(
     form: Lin,
     key: Name,
     name: Name,
-    point: &[PointAt],
+    point: &[Valuation],
 ) -> Result<Lin, NumFail>
     requires key { key ≤ name }
     requires form { IsNormal form }
@@ -74,7 +74,7 @@ fn put_one(
 }
 
 /// The form with the values of all names but one put for them.
-pub fn put(alloc: Global, row: &Lin, name: Name, point: &[PointAt]) -> Result<Lin, NumFail>
+pub fn put(alloc: Global, row: &Lin, name: Name, point: &[Valuation]) -> Result<Lin, NumFail>
     requires row { IsNormal row.now }
     requires keys { AllByRecursion (λ p. p.key ≤ name) row.now.parts }
     requires point { AllByRecursion (λ at. IsNumber at.value) point.now }
@@ -146,7 +146,7 @@ fn quotient(alloc: Global, form: &Lin, factor: i128) -> Result<Lin, NumFail>
 }
 
 /// The bound that a row gives for its largest name, where its other names have the values of a point.
-pub fn bound(alloc: Global, row: &Lin, name: Name, point: &[PointAt]) -> Result<Lin, NumFail>
+pub fn bound(alloc: Global, row: &Lin, name: Name, point: &[Valuation]) -> Result<Lin, NumFail>
     requires row { IsNormal row.now }
     requires keys { AllByRecursion (λ p. p.key ≤ name) row.now.parts }
     requires factor { factor_at name (meaning row.now) ≢ zero_ℚ }
@@ -221,7 +221,7 @@ fn greatest_bound(
     alloc: Global,
     rows: &[Row],
     name: Name,
-    point: &[PointAt],
+    point: &[Valuation],
 ) -> Result<Option<Lin>, NumFail>
     requires rows { AllByRecursion (IsLowerRow name) rows.now }
     requires point { AllByRecursion (λ at. IsNumber at.value) point.now }
@@ -240,7 +240,7 @@ fn least_bound(
     alloc: Global,
     rows: &[Row],
     name: Name,
-    point: &[PointAt],
+    point: &[Valuation],
 ) -> Result<Option<Lin>, NumFail>
     requires rows { AllByRecursion (IsUpperRow name) rows.now }
     requires point { AllByRecursion (λ at. IsNumber at.value) point.now }
@@ -277,18 +277,18 @@ fn choice(alloc: Global, lower: Option<Lin>, upper: Option<Lin>) -> Result<Lin, 
 }
 
 /// The point of the stages, of which the last has the smallest name.
-pub fn point(alloc: Global, stages: Items<Stage>) -> Result<Items<PointAt>, NumFail>
+pub fn point(alloc: Global, stages: Items<Stage>) -> Result<Items<Valuation>, NumFail>
     requires stages { AllByRecursion (IsStage 0) stages }
     requires falling { AreFalling stages }
     ensures chosen { IfOk result (λ made. IsPoint (HasStage stages) (value_in made)) }
 {
     let mut stages = stages;
-    let mut made: Items<PointAt> = Items::new(alloc);
+    let mut made: Items<Valuation> = Items::new(alloc);
     'stages: while let Some(stage) = stages.pop() {
         let lower = greatest_bound(alloc, stage.lowers.as_slice(), stage.name, made.as_slice())?;
         let upper = least_bound(alloc, stage.uppers.as_slice(), stage.name, made.as_slice())?;
         let value = choice(alloc, lower, upper)?;
-        made.push(PointAt {
+        made.push(Valuation {
             name: stage.name,
             value,
         })?;

@@ -3,7 +3,7 @@
 ghost use Rattle.std.specs.Prelude.{◌≡◌, ◌≢◌, ◌≤◌, ◌<◌, ◌<ℤ◌, pos, true, false, IfOk, length};
 ghost use Rattle.ae_num.specs.Forms.{IsNormal, meaning};
 ghost use Rattle.ae_num.specs.Limits.{FitsLimits};
-ghost use Rattle.ae_ineq.specs.Sets.{last_part, IsMultiple, IsRow, HasDirection};
+ghost use Rattle.ae_ineq.specs.Inner.Sets.{last_part, IsMultiple, IsRow, HasDirection};
 
 use ae_num::forms::{Lin, Name, Part};
 use ae_num::numbers::gcd;

@@ -10,7 +10,8 @@ use Rattle.ae_num.specs.Forms.{meaning, SameMeaning, factor_of, multiple_of, sum
 use Rattle.std.proofs.lemmas.Result.{IfOk-weaker}
 use Rattle.ae_num.proofs.StepLaws.{same_err}
 use Rattle.ae_rows.specs.Rows.{combination}
-use Rattle.ae_ineq.specs.Combining.{combined_of, combine_steps}
+use Rattle.ae_journal.specs.Licences.{combine_steps}
+use Rattle.ae_ineq.specs.Combining.{combined_of}
 use Rattle.ae_ineq.proofs.CombiningLaws.{combination_means, err_too, ok_too, in_first, in_second, in_last}
 use Rattle.ae_ineq.proofs.combining.combine.Goals as goal
 
@@ -22,7 +23,7 @@ returns-in_err-left-clause-wide c =
     let top : to_z w128 (of_z w128 c.negated.result) ≡ neg_ℤ (factor_of q.parts n) = to_z-of_z w128 c.negated.result (search rules) ∙ c.negated.ensures ∙ ap neg_ℤ (to_z-of_z w128 c.args.falling (search rules) ∙ sym c.requires.falling) in
     let bottom : to_z w128 (of_z w128 c.den_of.result) ≡ q.den = to_z-of_z w128 c.den_of.result (search rules) ∙ c.den_of.ensures in
     same_err c.from_residual.result c.in_err-left.field-0.0 (λ (w : Wide). first_wide (scale_steps (to_z w128 (of_z w128 c.negated.result)) (to_z w128 (of_z w128 c.den_of.result)) p) ≡ Some w)
-    (λ (w : Wide). first_wide (combine_steps n p q) ≡ Some w) c.from_residual.ensures.1
+    (λ (w : Wide). first_wide (combine_steps p n q) ≡ Some w) c.from_residual.ensures.1
     (λ (w : Wide) h. in_first n p q w (subst (λ s. first_wide s ≡ Some w) (λ i. scale_steps (top i) (bottom i) p) h)) c.in_err-left.ensures.wide
 
 pub returns-clause-form : goal.returns-clause-form
@@ -51,7 +52,7 @@ returns-in_err-right-clause-wide c =
     let top' : to_z w128 (of_z w128 c.args.rising) ≡ factor_of p.parts n = to_z-of_z w128 c.args.rising (search rules) ∙ sym c.requires.rising in
     let bottom' : to_z w128 (of_z w128 c.den_of-2.result) ≡ p.den = to_z-of_z w128 c.den_of-2.result (search rules) ∙ c.den_of-2.ensures in
     same_err c.from_residual-in_err-right.result c.in_err-right.field-0.0 (λ (w : Wide). first_wide (scale_steps (to_z w128 (of_z w128 c.args.rising)) (to_z w128 (of_z w128 c.den_of-2.result)) q) ≡ Some w)
-    (λ (w : Wide). first_wide (combine_steps n p q) ≡ Some w) c.from_residual-in_err-right.ensures.1
+    (λ (w : Wide). first_wide (combine_steps p n q) ≡ Some w) c.from_residual-in_err-right.ensures.1
     (λ (w : Wide) h.
     in_second n p q w here (subst (λ s. first_wide s ≡ Some w) (λ i. scale_steps (top' i) (bottom' i) q) h)) c.in_err-right.ensures.wide
 
@@ -87,7 +88,7 @@ returns-clause-fits c =
     let r = c.in_ok-right.right in
     let left : l ≡ multiple_of (neg_ℤ (factor_of q.parts n)) q.den p = c.in_ok-left.ensures.form ∙ (λ i. multiple_of (top i) (bottom i) p) in
     let right : r ≡ multiple_of (factor_of p.parts n) p.den q = c.in_ok-right.ensures.form ∙ (λ i. multiple_of (top' i) (bottom' i) q) in
-    ok_too c.plus.result (first_wide (plus_steps l r) ≡ None) (first_wide (combine_steps n p q) ≡ None)
+    ok_too c.plus.result (first_wide (plus_steps l r) ≡ None) (first_wide (combine_steps p n q) ≡ None)
     (λ h. in_last n p q here there ∙ subst (λ s. first_wide s ≡ None) (λ i. plus_steps (left i) (right i)) h) c.plus.ensures.fits
 
 pub returns-clause-wide : goal.returns-clause-wide
@@ -105,5 +106,5 @@ returns-clause-wide c =
     let r = c.in_ok-right.right in
     let left : l ≡ multiple_of (neg_ℤ (factor_of q.parts n)) q.den p = c.in_ok-left.ensures.form ∙ (λ i. multiple_of (top i) (bottom i) p) in
     let right : r ≡ multiple_of (factor_of p.parts n) p.den q = c.in_ok-right.ensures.form ∙ (λ i. multiple_of (top' i) (bottom' i) q) in
-    err_too c.plus.result (λ (w : Wide). first_wide (plus_steps l r) ≡ Some w) (λ (w : Wide). first_wide (combine_steps n p q) ≡ Some w)
+    err_too c.plus.result (λ (w : Wide). first_wide (plus_steps l r) ≡ Some w) (λ (w : Wide). first_wide (combine_steps p n q) ≡ Some w)
     (λ (w : Wide) h. in_last n p q here there ∙ subst (λ s. first_wide s ≡ Some w) (λ i. plus_steps (left i) (right i)) h) c.plus.ensures.wide

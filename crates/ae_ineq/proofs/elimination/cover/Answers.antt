@@ -1,3 +1,4 @@
+use Rattle.std.specs.Prelude.{◌||◌}
 use Rattle.std.proofs.Common.{◌≡◌, IfSome, sym, ap, ◌∙◌, subst}
 use native.Mathlib.Decide.{ℕ_discrete}
 use Rattle.ae_math.specs.Forms.{Form}
@@ -7,7 +8,10 @@ use Rattle.ae_num.specs.Forms.{meaning, factor_of, SameMeaning}
 use Rattle.ae_num.specs.Limits.{FitsLimits}
 use Rattle.ae_rows.specs.Rows.{combination}
 use Rattle.ae_math.proofs.FormLaws.{same_sym}
-use Rattle.ae_ineq.specs.Sets.{last_part, IsRow, IsRestRow, HasForm, IsRefuted}
+use Rattle.ae_ineq.specs.Inner.Sets.{last_part, IsRow, IsRestRow, HasForm}
+use Rattle.ae_ineq.specs.Sums.{IsRefuted}
+use Rattle.ae_ineq.specs.Inner.Derived.{IsDerived, IsNonzeroSum}
+use Rattle.ae_ineq.proofs.Deriving.{combination_sum, nonzero_same, tight_sum, refuted_sum}
 use Rattle.ae_ineq.proofs.LastLaws.{rising_last, last_within}
 use Rattle.ae_base.proofs.AllOf.{all_weaker}
 use Rattle.ae_ineq.proofs.RowSets.{rest_row, added_all, added_kept, added_covered, covered_same}
@@ -54,13 +58,28 @@ returns-in_ok-add-in-Open-clause-covered c = λ t.
     (subst (λ (l : Lin). SameMeaning f (meaning l)) (sym r.form) (same_sym ℕ_discrete (meaning c.in_ok-lin.lin) f c.in_ok-lin.ensures.exact))
     (added_covered c.args.rest.now c.add.new.rest row c.in_ok-add-in-Open.ensures.added (all_weaker (IsRestRow c.args.name) IsRow (λ x h. h.good.row) c.args.rest.now c.requires.rest) r.known)
 
-pub returns-in-Tight-clause-tight : goal.returns-in-Tight-clause-tight
-returns-in-Tight-clause-tight c = λ t.
-    let j = c.judged.ensures.tight c.in-Tight.is in
-    zero_means c.in_ok-lin.lin (combination c.args.name (meaning c.args.lower.now.lin) (meaning c.args.upper.now.lin)) c.in_ok-lin.ensures.exact j.0 j.1
+pub returns-in_ok-add-in-Open-clause-derived : goal.returns-in_ok-add-in-Open-clause-derived
+returns-in_ok-add-in-Open-clause-derived c = λ given l u a.
+    let row = c.in_ok-row-in-Open.row in
+    let r = c.in_ok-row-in-Open.ensures in
+    let f : Form _ = combination c.args.name (meaning c.args.lower.now.lin) (meaning c.args.upper.now.lin) in
+    let same : SameMeaning f (meaning row.lin) = subst (λ (l : Lin). SameMeaning f (meaning l)) (sym r.form) (same_sym ℕ_discrete (meaning c.in_ok-lin.lin) f c.in_ok-lin.ensures.exact) in
+    let sum = combination_sum given c.args.name c.args.lower.now c.args.upper.now c.requires.lower c.requires.upper l u in
+    added_all (IsDerived given) c.args.rest.now c.add.new.rest row c.in_ok-add-in-Open.ensures.added a
+    (subst (IsNonzeroSum given (meaning row.lin)) (sym c.one_strict-strict.ensures ∙ sym r.strict) (nonzero_same given f (meaning row.lin) (c.args.lower.now.strict || c.args.upper.now.strict) same sum))
 
-pub returns-in-Contradiction-clause-refuted : goal.returns-in-Contradiction-clause-refuted
-returns-in-Contradiction-clause-refuted c = λ t.
+pub returns-in-Tight-clause-judged : goal.returns-in-Tight-clause-judged
+returns-in-Tight-clause-judged c = λ given l u.
+    let j = c.judged.ensures.tight c.in-Tight.is in
+    let f : Form _ = combination c.args.name (meaning c.args.lower.now.lin) (meaning c.args.upper.now.lin) in
+    tight_sum given f (c.args.lower.now.strict || c.args.upper.now.strict)
+    (combination_sum given c.args.name c.args.lower.now c.args.upper.now c.requires.lower c.requires.upper l u) (sym c.one_strict-strict.ensures ∙ j.2)
+    (zero_means c.in_ok-lin.lin f c.in_ok-lin.ensures.exact j.0 j.1)
+
+pub returns-in-Contradiction-clause-judged : goal.returns-in-Contradiction-clause-judged
+returns-in-Contradiction-clause-judged c = λ given l u.
     let j = c.judged.ensures.refuted c.in-Contradiction.is in
     let f : Form _ = combination c.args.name (meaning c.args.lower.now.lin) (meaning c.args.upper.now.lin) in
-    subst (λ b. IsRefuted b f) c.one_strict-strict.ensures (refuted_means c.in_ok-lin.lin f c.one_strict-strict.result c.in_ok-lin.ensures.normal c.in_ok-lin.ensures.exact j.0 j.1)
+    refuted_sum given f (c.args.lower.now.strict || c.args.upper.now.strict)
+    (combination_sum given c.args.name c.args.lower.now c.args.upper.now c.requires.lower c.requires.upper l u).sum
+    (subst (λ b. IsRefuted b f) c.one_strict-strict.ensures (refuted_means c.in_ok-lin.lin f c.one_strict-strict.result c.in_ok-lin.ensures.normal c.in_ok-lin.ensures.exact j.0 j.1))

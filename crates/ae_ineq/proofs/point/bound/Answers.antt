@@ -7,8 +7,8 @@ use Rattle.ae_num.specs.Forms.{meaning}
 use Rattle.ae_num.specs.Limits.{FitsLimits}
 use Rattle.std.proofs.lemmas.Result.{IfOk-weaker}
 use Rattle.ae_rows.specs.Rows.{bound_at}
-use Rattle.ae_ineq.specs.Sets.{last_part}
-use Rattle.ae_ineq.specs.Points.{Agrees}
+use Rattle.ae_ineq.specs.Inner.Sets.{last_part}
+use Rattle.ae_ineq.specs.Inner.Points.{Agrees}
 use Rattle.ae_ineq.proofs.LastLaws.{last_nonzero, last_within}
 use Rattle.ae_ineq.proofs.Bounding.{bound_is, never_none}
 use Rattle.ae_ineq.proofs.point.bound.Goals as goal

@@ -6,7 +6,7 @@ use Rattle.std.specs.Prelude.{Option}
 use Rattle.ae_num.specs.Forms.{meaning, SameMeaning}
 use Rattle.std.proofs.lemmas.Result.{IfOk-weaker}
 use Rattle.ae_num.proofs.MeaningLaws.{ratio_zero}
-use Rattle.ae_ineq.specs.Points.{amount, IsChosen}
+use Rattle.ae_ineq.specs.Inner.Points.{amount, IsChosen}
 use Rattle.ae_ineq.proofs.Bests.{one_amount}
 use Rattle.ae_ineq.proofs.point.choice.Goals as goal
 

@@ -6,7 +6,7 @@ use Rattle.ae_num.specs.declared.forms.Lin.{Lin}
 use Rattle.ae_num.specs.Forms.{meaning, SameMeaning}
 use Rattle.std.proofs.lemmas.Result.{IfOk-weaker}
 use Rattle.ae_rows.specs.Rows.{factor_at}
-use Rattle.ae_ineq.specs.Points.{Agrees}
+use Rattle.ae_ineq.specs.Inner.Points.{Agrees}
 use Rattle.ae_ineq.proofs.Putting.{put_value, put_gone, put_other, put_zero}
 use Rattle.ae_ineq.proofs.point.put_one.Goals as goal
 

@@ -4,7 +4,7 @@ use mir.Syntax.{w128}
 use Rattle.ae_num.specs.declared.forms.Lin.{Lin}
 use Rattle.ae_num.specs.Forms.{IsNormal, meaning, Reduced}
 use Rattle.ae_base.proofs.Results.{if_ok_both}
-use Rattle.ae_ineq.specs.Sets.{IsMultiple}
+use Rattle.ae_ineq.specs.Inner.Sets.{IsMultiple}
 use Rattle.ae_ineq.proofs.LastLaws.{direction_means}
 use Rattle.ae_ineq.proofs.rows.direction.Goals as goal
 
