@@ -62,9 +62,11 @@ module _ (given : List Inequality) (a b : ℚ) (pa : is_positive a ≡ true) (pb
   mixture_both =
       let e : forms_of (map (times a) us ++ map (times b) vs) ≡ multiplied a (forms_of us) ++ multiplied b (forms_of vs) = forms-append (map (times a) us) (map (times b) vs) ∙ (λ i. forms-times a us i ++ forms-times b vs i) in
       subst (λ ps. SameForm ℕ_discrete (mixture ps) (plus (scale a (mixture (forms_of us))) (scale b (mixture (forms_of vs))))) (sym e)
-      (same_trans ℕ_discrete (mixture (multiplied a (forms_of us) ++ multiplied b (forms_of vs))) (plus (mixture (multiplied a (forms_of us))) (mixture (multiplied b (forms_of vs)))) (plus (scale a (mixture (forms_of us))) (scale b (mixture (forms_of vs))))
+      (same_trans ℕ_discrete (mixture (multiplied a (forms_of us) ++ multiplied b (forms_of vs))) (plus (mixture (multiplied a (forms_of us))) (mixture (multiplied b (forms_of vs))))
+      (plus (scale a (mixture (forms_of us))) (scale b (mixture (forms_of vs))))
       (mixture-append (multiplied a (forms_of us)) (multiplied b (forms_of vs)))
-      (plus-same ℕ_discrete (mixture (multiplied a (forms_of us))) (scale a (mixture (forms_of us))) (mixture (multiplied b (forms_of vs))) (scale b (mixture (forms_of vs))) (mixture-multiplied a (forms_of us)) (mixture-multiplied b (forms_of vs))))
+      (plus-same ℕ_discrete (mixture (multiplied a (forms_of us))) (scale a (mixture (forms_of us))) (mixture (multiplied b (forms_of vs))) (scale b (mixture (forms_of vs))) (mixture-multiplied a (forms_of us))
+      (mixture-multiplied b (forms_of vs))))
 
   pub among_both : AllByRecursion (λ u. Contains given u.row) us → AllByRecursion (λ u. Contains given u.row) vs → AllByRecursion (λ u. Contains given u.row) (map (times a) us ++ map (times b) vs)
   among_both p q =
@@ -88,7 +90,8 @@ sum_both given f g s t a b pa pb m n =
         positive = positive_both given a b pa pb us vs m.sum.positive n.sum.positive;
         same = same_trans ℕ_discrete (mixture (forms_of (map (times a) us ++ map (times b) vs))) (plus (scale a (mixture (forms_of us))) (scale b (mixture (forms_of vs)))) (plus (scale a f) (scale b g))
             (mixture_both given a b pa pb us vs)
-            (plus-same ℕ_discrete (scale a (mixture (forms_of us))) (scale a f) (scale b (mixture (forms_of vs))) (scale b g) (scale-same ℕ_discrete a (mixture (forms_of us)) f m.sum.same) (scale-same ℕ_discrete b (mixture (forms_of vs)) g n.sum.same));
+            (plus-same ℕ_discrete (scale a (mixture (forms_of us))) (scale a f) (scale b (mixture (forms_of vs))) (scale b g) (scale-same ℕ_discrete a (mixture (forms_of us)) f m.sum.same)
+            (scale-same ℕ_discrete b (mixture (forms_of vs)) g n.sum.same));
         is_strict = strict-append (map (times a) us) (map (times b) vs) ∙ (λ i. strict-times a us i || strict-times b vs i) ∙ (λ i. m.sum.is_strict i || n.sum.is_strict i);
       };
       some = nonzero-front a us (map (times b) vs) m.some;

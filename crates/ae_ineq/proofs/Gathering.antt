@@ -58,12 +58,12 @@ module _ (given : List Inequality) where
         let derived : IsDerived given row = subst (λ (l : Lin). IsNonzeroSum given (meaning l) row.strict) (sym e) (subst (IsNonzeroSum given (meaning it.lin)) (sym s) sum) in
         let good : IsGoodRow row = record { row = r; number = λ h. subst (λ (t : Lin). pos 0 <ℤ t.constant) (sym e) (fine (ap (λ (t : Lin). t.parts) (sym e) ∙ h)) } in
         subst (AreRowsOf given (take (suc k) given)) (sym added) (
-          record {
-            good = all_push IsGoodRow rows row a.good good;
-            derived = all_push (IsDerived given) rows row a.derived derived;
-            each = all_more (IsTaken (rows ++ row ∷ [])) given k it within is (all_weaker (IsTaken rows) (IsTaken (rows ++ row ∷ [])) (taken_more rows row) (take k given) a.each)
-                (inl (has_right rows (row ∷ []) (meaning it.lin) (inl (ap meaning e))));
-          })
+        record {
+          good = all_push IsGoodRow rows row a.good good;
+          derived = all_push (IsDerived given) rows row a.derived derived;
+          each = all_more (IsTaken (rows ++ row ∷ [])) given k it within is (all_weaker (IsTaken rows) (IsTaken (rows ++ row ∷ [])) (taken_more rows row) (take k given) a.each)
+              (inl (has_right rows (row ∷ []) (meaning it.lin) (inl (ap meaning e))));
+        })
 
     pub rows_zero : (rows : List Row) → AreRowsOf given (take k given) rows → it.lin.parts ≡ [] → it.lin.constant ≡ pos 0 → it.strict ≡ false → AreRowsOf given (take (suc k) given) rows
     rows_zero rows a p z s =

@@ -57,9 +57,6 @@ direction_means l w f c ed ep ec nl cp r nf =
         (regroup y (pos r.divisor) l.den ∙ ap (λ t. t *ℤ l.den) h) (regroup f.den (pos r.divisor) l.den ∙ ap (λ t. t *ℤ l.den) (r.dens ∙ ed) ∙ *ℤ_comm c l.den))
 
 -- ---- the last part
-eq_yes : (m n : ℕ) → nat_eq m n ≡ true → m ≡ n
-eq_yes m n h = grind (arith, nat_tests)
-
 -- the last key is that of the head or above it
 pub last_above : (key : ℕ) (ps : List Part) (p : Part) → AllAbove key ps → last_part ps ≡ Some p → key < p.key
 last_above key [] p a e = cc

@@ -1,6 +1,7 @@
 -- The numbers of a line of sums are within the limits.
 use Rattle.std.specs.Prelude.{ℕ, zero, suc, ℤ, pos, negsuc, neg_ℤ, ◌≡◌, ◌*ℤ◌, ◌<ℤ◌, ◌<◌, ◌*◌, ◌≤◌, ◌^◌, List, [], ◌∷◌, ◌++◌, map, Some, None, Bool, true, false, cond, nat_eq, nat_le, unsigned_abs}
-use Rattle.std.proofs.Common.{arith, refl, sym, ap, ◌∙◌, subst}
+use Rattle.std.proofs.lemmas.Bool.{leb-false}
+use Rattle.std.proofs.Common.{lt_of_le_of_lt, arith, refl, sym, ap, ◌∙◌, subst}
 use Rattle.std.specs.List.{AllByRecursion}
 use Rattle.std.proofs.lemmas.Bool.Decides.{nat_tests}
 use borrow.Author.Differences.{ints}
@@ -21,15 +22,9 @@ first_fits s ss h = by_test (is_wide s) h
     by_test true e = cc
     by_test false e = refl
 
-not_wide : (m n : ℕ) → nat_le m n ≡ false → n < m
-not_wide m n h = grind (arith, nat_tests)
-
 times_grows : (d m : ℕ) → 0 < m → d ≤ d * m
 times_grows d zero h = absurd (omega (arith, h))
 times_grows d (suc m) h = omega arith
-
-below_limit : (a b c : ℕ) → a ≤ b → b < c → a < c
-below_limit a b c h k = omega (arith, h, k)
 
 abbrev rest_steps : ℕ → Lin → Lin → List Step
 rest_steps n p q =
@@ -38,15 +33,18 @@ rest_steps n p q =
 
 pub times_within : (n : ℕ) (p q : Lin) (d m : ℤ) → first_wide (combine_steps p n q) ≡ None → pos 0 <ℤ d → pos 0 <ℤ m → d *ℤ m ≡ p.den *ℤ q.den → FitsLimits d
 times_within n p q d m h dp mp e =
-    let small : unsigned_abs (p.den *ℤ q.den) < 2 ^ 127 = not_wide (2 ^ 127) (unsigned_abs (p.den *ℤ q.den)) (first_fits (Product p.den q.den) (rest_steps n p q) (sym (steps_nested n p q) ∙ h)) in
+    let small : unsigned_abs (p.den *ℤ q.den) < 2 ^ 127 = leb-false (2 ^ 127) (unsigned_abs (p.den *ℤ q.den)) (first_fits (Product p.den q.den) (rest_steps n p q) (sym (steps_nested n p q) ∙ h)) in
     let size : unsigned_abs d * unsigned_abs m ≡ unsigned_abs (p.den *ℤ q.den) = sym (unsigned_abs-mul d m) ∙ ap unsigned_abs e in
-    below_limit (unsigned_abs d) (unsigned_abs d * unsigned_abs m) (2 ^ 127) (times_grows (unsigned_abs d) (unsigned_abs m) (size_positive m mp)) (subst (λ k. k < 2 ^ 127) (sym size) small)
+    lt_of_le_of_lt (times_grows (unsigned_abs d) (unsigned_abs m) (size_positive m mp)) (subst (λ k. k < 2 ^ 127) (sym size) small)
 
 factor_small : (ps : List Part) (n : ℕ) → AllByRecursion (λ p. FitsLimits p.factor) ps → FitsLimits (factor_of ps n)
-factor_small [] n a = below_limit 0 1 (2 ^ 127) (omega arith) nothing_wide
+factor_small [] n a = lt_of_le_of_lt zero_one nothing_wide
   where
+    zero_one : 0 ≤ 1
+    zero_one = omega arith
+
     nothing_wide : 1 < 2 ^ 127
-    nothing_wide = not_wide (2 ^ 127) 1 refl
+    nothing_wide = leb-false (2 ^ 127) 1 refl
 factor_small (p ∷ ps) n a = by_test (nat_eq p.key n) (factor_small ps n a.1)
   where
     by_test : (b : Bool) → FitsLimits (factor_of ps n) → FitsLimits (cond b p.factor (factor_of ps n))

@@ -292,7 +292,8 @@ pub fn cover_all(
     ensures rest { OnOk result (AllByRecursion (IsRestRow name) rest.new) }
     ensures kept { OnOk result (AreAmong rest.old rest.new) }
     ensures covered { IfOk result (λ verdict. verdict ≡ Open → AreCovered name lowers.now uppers.now (HasForm rest.new)) }
-    ensures derived { OnOk result ((given : List Inequality) → AllByRecursion (IsDerived given) lowers.now → AllByRecursion (IsDerived given) uppers.now → AllByRecursion (IsDerived given) rest.old → AllByRecursion (IsDerived given) rest.new) }
+    ensures derived { OnOk result ((given : List Inequality) → AllByRecursion (IsDerived given) lowers.now → AllByRecursion (IsDerived given) uppers.now → AllByRecursion (IsDerived given) rest.old → AllByRecursion
+        (IsDerived given) rest.new) }
     ensures judged { IfOk result (λ verdict. (given : List Inequality) → AllByRecursion (IsDerived given) lowers.now → AllByRecursion (IsDerived given) uppers.now → IsJudged given verdict) }
 {
     let mut verdict = Verdict::Open;

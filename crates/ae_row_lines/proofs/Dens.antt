@@ -6,7 +6,7 @@ use Rattle.std.proofs.Math.Nat.{dvd_of_mul-dvd-mul_right}
 use lib.IntN.{*ℤ_comm}
 use borrow.Author.Differences.{ints}
 use Rattle.std.specs.Int.{◌∣◌, IsGcd}
-use Rattle.ae_math.specs.Inner.Integers.{ring, one_mul_z, add_mul_z}
+use Rattle.ae_math.specs.Inner.Integers.{one_mul_z, add_mul_z}
 use Rattle.ae_math.specs.Fractions.{neg_ℚ, ◌+ℚ◌, ◌*ℚ◌, ratio}
 use Rattle.ae_math.proofs.FractionLaws.{same_frac}
 use Rattle.ae_math.proofs.Divisors.{gcd_exists, coprime_parts, euclid, divisor_positive, whole_part as whole_times}

@@ -80,7 +80,8 @@ module _ (names : ℕ → Term) (n : ℕ) (p q r : Lin) (left right fact : Fact)
   unfolding rows
   sums =
       mixture_sums names d r.den (meaning r) fact rows says.third mixed (says.first, (says.second, tt)) (
-        ap (λ t. (whole d *ℚ whole r.den) *ℚ t) (ap neg_ℚ (factor_meaning q n says.right_normal.rising) ∙ sym (ratio_neg (lin_factor q.parts n) q.den)) ∙ share d r.den p.den q.den (neg_ℤ (lin_factor q.parts n)) says.right_normal.positive says.times,
+        ap (λ t. (whole d *ℚ whole r.den) *ℚ t) (ap neg_ℚ (factor_meaning q n says.right_normal.rising) ∙ sym (ratio_neg (lin_factor q.parts n) q.den)) ∙ share d r.den p.den q.den
+            (neg_ℤ (lin_factor q.parts n)) says.right_normal.positive says.times,
         (ap (λ t. (whole d *ℚ whole r.den) *ℚ t) (factor_meaning p n says.left_normal.rising) ∙ share d r.den q.den p.den (lin_factor p.parts n) says.left_normal.positive (says.times ∙ *ℤ_comm p.den q.den), tt),
       )
 
@@ -111,7 +112,8 @@ some_below c e left right (inl h) = inl h
 some_below c e left right (inr h) = inr (inl h)
 
 pub below_line : (sig : Signature) (names : ℕ → Term) (n : ℕ) (p q r : Lin) (left right : Fact) (s t : Term) (d : ℤ) (sort : Sort) (earlier : List EqLine) (j k : ℕ)
-    → SaysCombination names n p q r left right (below s t) d → (left.relation ≡ Below) ⊎ (right.relation ≡ Below) → IsNumeric sort → HaveSort sig sort left → HaveSort sig sort right → HaveSort sig sort (below s t) → Stated earlier j left → Stated earlier k right
+    → SaysCombination names n p q r left right (below s t) d → (left.relation ≡ Below) ⊎ (right.relation ≡ Below) → IsNumeric sort → HaveSort sig sort left → HaveSort sig sort right → HaveSort sig sort (below s t)
+    → Stated earlier j left → Stated earlier k right
     → AllowedLtSum sig earlier s t d (parts_of_line n p q j k)
 below_line sig names n p q r left right s t d sort earlier j k says strict numeric sl sr st hj hk = (
   times_positive names n p q r left right (below s t) d says,

@@ -21,7 +21,8 @@ ghost use Rattle.ae_row_lines.specs.Says.{Says, Used, shares_of, SaysCombination
 
 /// A sum of shares of rows is a sum of their lines: where `share * d * m` is `factor * multiple` for each.
 pub fn mixtures_are_sums()
-    ensures { (names : ℕ → Term) (d m : ℤ) (f : Form ℕ) (fact : Fact) (us : List Used) → Says names m f fact → SameForm ℕ_discrete f (mixture (shares_of us)) → AllByRecursion (λ u. Says names u.multiple u.form u.fact) us → AllByRecursion (λ u. (whole d *ℚ whole m) *ℚ u.share ≡ whole u.factor *ℚ whole u.multiple) us → IsSame (scale (whole d) (gap fact)) (total (map (λ u. (u.factor, u.fact)) us)) }
+    ensures { (names : ℕ → Term) (d m : ℤ) (f : Form ℕ) (fact : Fact) (us : List Used) → Says names m f fact → SameForm ℕ_discrete f (mixture (shares_of us)) → AllByRecursion (λ u. Says names u.multiple u.form u.fact) us
+        → AllByRecursion (λ u. (whole d *ℚ whole m) *ℚ u.share ≡ whole u.factor *ℚ whole u.multiple) us → IsSame (scale (whole d) (gap fact)) (total (map (λ u. (u.factor, u.fact)) us)) }
 {}
 
 /// The combination of two rows is an allowed line of sums, which adds up the lines of the two rows.
@@ -29,13 +30,17 @@ pub fn mixtures_are_sums()
 /// Its factors are those of the name in the two rows, and the number by which it is multiplied is
 /// the product of the two denominators over that of the combination. It is strict where one of the two is.
 pub fn combinations_are_lines()
-    ensures at_most { (sig : Signature) (names : ℕ → Term) (n : ℕ) (p q r : Lin) (left right : Fact) (s t : Term) (d : ℤ) (sort : Sort) (earlier : List EqLine) (j k : ℕ) → SaysCombination names n p q r left right (at_most s t) d → IsNumeric sort → HaveSort sig sort left → HaveSort sig sort right → HaveSort sig sort (at_most s t) → Stated earlier j left → Stated earlier k right → AllowedLeSum sig earlier s t d (parts_of_line n p q j k) }
-    ensures below { (sig : Signature) (names : ℕ → Term) (n : ℕ) (p q r : Lin) (left right : Fact) (s t : Term) (d : ℤ) (sort : Sort) (earlier : List EqLine) (j k : ℕ) → SaysCombination names n p q r left right (below s t) d → (left.relation ≡ Below) ⊎ (right.relation ≡ Below) → IsNumeric sort → HaveSort sig sort left → HaveSort sig sort right → HaveSort sig sort (below s t) → Stated earlier j left → Stated earlier k right → AllowedLtSum sig earlier s t d (parts_of_line n p q j k) }
+    ensures at_most { (sig : Signature) (names : ℕ → Term) (n : ℕ) (p q r : Lin) (left right : Fact) (s t : Term) (d : ℤ) (sort : Sort) (earlier : List EqLine) (j k : ℕ) → SaysCombination names n p q r left right
+        (at_most s t) d → IsNumeric sort → HaveSort sig sort left → HaveSort sig sort right → HaveSort sig sort (at_most s t) → Stated earlier j left → Stated earlier k right → AllowedLeSum sig earlier s t d (parts_of_line n p q j k) }
+    ensures below { (sig : Signature) (names : ℕ → Term) (n : ℕ) (p q r : Lin) (left right : Fact) (s t : Term) (d : ℤ) (sort : Sort) (earlier : List EqLine) (j k : ℕ) → SaysCombination names n p q r left right (below s t) d
+        → (left.relation ≡ Below) ⊎ (right.relation ≡ Below) → IsNumeric sort → HaveSort sig sort left → HaveSort sig sort right → HaveSort sig sort (below s t) → Stated earlier j left → Stated earlier k right
+        → AllowedLtSum sig earlier s t d (parts_of_line n p q j k) }
 {}
 
 /// A line that says a number which isn't positive, or is negative where the line isn't strict, ends a block.
 pub fn constants_end()
-    ensures { (sig : Signature) (names : ℕ → Term) (m : ℤ) (f : Form ℕ) (fact : Fact) (lines : List EqLine) (k : ℕ) → Says names m f fact → IsOver 0 f → CannotHold fact.relation f.constant → AreNumbers sig fact → Stated lines k fact → EndsZero sig lines k }
+    ensures { (sig : Signature) (names : ℕ → Term) (m : ℤ) (f : Form ℕ) (fact : Fact) (lines : List EqLine) (k : ℕ) → Says names m f fact → IsOver 0 f → CannotHold fact.relation f.constant → AreNumbers sig fact
+        → Stated lines k fact → EndsZero sig lines k }
 {}
 
 /// The number by which the combination is multiplied: its denominator divides the product of the two denominators.

@@ -156,7 +156,10 @@ module _ (R : Form ℕ → Type 0) (e : ℕ → ℚ) (closed : IsClosed R) (numb
       let same : a *ℚ value e one_ℚ f ≡ value e one_ℚ r = sym (value-scale e one_ℚ a f) ∙ value-same ℕ_discrete e one_ℚ (scale a f) r s in
       sym (positive_product (value e one_ℚ f) a p) ∙ ap is_positive (mul_comm_q (value e one_ℚ f) a ∙ same) ∙ done r m (over_multiple n a f r o s)
   covered_positive n done f o (weaker a p t u r m s) =
-      let over : IsOver n r = record { absent = λ k h. sym (add_zero_q (factor_at k r)) ∙ sym (factor_in-append ℕ_discrete r.parts [] k) ∙ sym (s.factors k) ∙ factor_in-scale ℕ_discrete a f.parts k ∙ ap (λ x. a *ℚ x) (o.absent k h) ∙ mul_zero_q a } in
+      let over : IsOver n r = record {
+        absent = λ k h. sym (add_zero_q (factor_at k r)) ∙ sym (factor_in-append ℕ_discrete r.parts [] k) ∙ sym (s.factors k) ∙ factor_in-scale ℕ_discrete a f.parts k ∙ ap (λ x. a *ℚ x)
+            (o.absent k h) ∙ mul_zero_q a;
+      } in
       let sum : value e one_ℚ (plus r (constant_form t)) ≡ value e one_ℚ r +ℚ t = value-plus e one_ℚ r (constant_form t) ∙ ap (λ x. value e one_ℚ r +ℚ x) (value-number e one_ℚ t ∙ one_mul_q t) in
       let same : a *ℚ value e one_ℚ f ≡ value e one_ℚ r +ℚ t = sym (value-scale e one_ℚ a f) ∙ value-same ℕ_discrete e one_ℚ (scale a f) (plus r (constant_form t)) s ∙ sum in
       sym (positive_product (value e one_ℚ f) a p) ∙ ap is_positive (mul_comm_q (value e one_ℚ f) a ∙ same) ∙ still_positive (value e one_ℚ r) t (done r m over) u

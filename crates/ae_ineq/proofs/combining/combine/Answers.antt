@@ -7,12 +7,12 @@ use Rattle.ae_math.specs.Forms.{plus, scale}
 use Rattle.ae_num.specs.declared.numbers.Wide.{Wide}
 use Rattle.ae_num.specs.declared.forms.Lin.{Lin}
 use Rattle.ae_num.specs.Forms.{meaning, SameMeaning, factor_of, multiple_of, sum_of, first_wide, scale_steps, plus_steps}
-use Rattle.std.proofs.lemmas.Result.{IfOk-weaker}
+use Rattle.std.proofs.lemmas.Result.{IfOk-weaker, on_ok_weaker}
 use Rattle.ae_num.proofs.StepLaws.{same_err}
 use Rattle.ae_rows.specs.Rows.{combination}
 use Rattle.ae_journal.specs.Licences.{combine_steps}
 use Rattle.ae_ineq.specs.Combining.{combined_of}
-use Rattle.ae_ineq.proofs.CombiningLaws.{combination_means, err_too, ok_too, in_first, in_second, in_last}
+use Rattle.ae_ineq.proofs.CombiningLaws.{combination_means, err_too, in_first, in_second, in_last}
 use Rattle.ae_ineq.proofs.combining.combine.Goals as goal
 
 pub returns-in_err-left-clause-wide : goal.returns-in_err-left-clause-wide
@@ -88,7 +88,7 @@ returns-clause-fits c =
     let r = c.in_ok-right.right in
     let left : l ≡ multiple_of (neg_ℤ (factor_of q.parts n)) q.den p = c.in_ok-left.ensures.form ∙ (λ i. multiple_of (top i) (bottom i) p) in
     let right : r ≡ multiple_of (factor_of p.parts n) p.den q = c.in_ok-right.ensures.form ∙ (λ i. multiple_of (top' i) (bottom' i) q) in
-    ok_too c.plus.result (first_wide (plus_steps l r) ≡ None) (first_wide (combine_steps p n q) ≡ None)
+    on_ok_weaker c.plus.result
     (λ h. in_last n p q here there ∙ subst (λ s. first_wide s ≡ None) (λ i. plus_steps (left i) (right i)) h) c.plus.ensures.fits
 
 pub returns-clause-wide : goal.returns-clause-wide

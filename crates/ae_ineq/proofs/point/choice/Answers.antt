@@ -26,4 +26,5 @@ returns-in-Some-upper-2-clause-chosen c =
 
 pub returns-clause-chosen : goal.returns-clause-chosen
 returns-clause-chosen c =
-    subst (λ (o : Option Lin). IsChosen o c.args.upper (amount c.zero.result)) (sym c.in-None.is) (subst (λ (o : Option Lin). IsChosen None o (amount c.zero.result)) (sym c.in-None-upper-2.is) (ap amount c.zero.ensures.form ∙ ratio_zero (pos 1)))
+    subst (λ (o : Option Lin). IsChosen o c.args.upper (amount c.zero.result)) (sym c.in-None.is)
+    (subst (λ (o : Option Lin). IsChosen None o (amount c.zero.result)) (sym c.in-None-upper-2.is) (ap amount c.zero.ensures.form ∙ ratio_zero (pos 1)))

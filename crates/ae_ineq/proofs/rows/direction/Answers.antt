@@ -13,5 +13,6 @@ returns-clause-multiple c =
     let l = c.args.form.now in
     let w : Lin = record { den = to_z w128 (of_z w128 c.content.result); parts = c.in_ok-from_slice.field-0; constant = to_z w128 (of_z w128 l.constant) } in
     if_ok_both c.reduced.result (Reduced w) IsNormal (λ f. IsMultiple (meaning l) (meaning f))
-    (λ (f : Lin) h n. direction_means l w f c.content.result (to_z-of_z w128 c.content.result (search rules)) (c.in_ok-from_slice.ensures ∙ c.as_slice.ensures) (to_z-of_z w128 l.constant (search rules)) c.requires c.content.ensures.positive h n)
+    (λ (f : Lin) h n. direction_means l w f c.content.result (to_z-of_z w128 c.content.result (search rules)) (c.in_ok-from_slice.ensures ∙ c.as_slice.ensures)
+    (to_z-of_z w128 l.constant (search rules)) c.requires c.content.ensures.positive h n)
     c.reduced.ensures.exact c.reduced.ensures.normal

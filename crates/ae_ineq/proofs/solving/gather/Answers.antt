@@ -27,11 +27,11 @@ loop-inequality-preserved c =
     record {
       gathered = subst (λ (n : ℕ). AreRowsOf given (take n given) c.match-judged.rows) one (
           elim c.match-judged.branch [
-            in-Open+in_ok-lin-in-Open+in_ok-row_of-in-Open+in_ok-push-in-Open w ↦
-              rows_open given k it c.loop-inequality-test.true c.inequality-item.is normal c.loop-inequality.rows c.match-judged.rows w.in_ok-row_of-in-Open.field-0 c.loop-inequality.invariant.gathered (c.judged.ensures.fine w.in-Open.is)
-              (w.in_ok-row_of-in-Open.ensures.form ∙ w.in_ok-lin-in-Open.ensures) w.in_ok-row_of-in-Open.ensures.strict w.in_ok-row_of-in-Open.ensures.known (w.rows-is ∙ w.in_ok-push-in-Open.ensures.ok)
+            | in-Open+in_ok-lin-in-Open+in_ok-row_of-in-Open+in_ok-push-in-Open w ↦
+                rows_open given k it c.loop-inequality-test.true c.inequality-item.is normal c.loop-inequality.rows c.match-judged.rows w.in_ok-row_of-in-Open.field-0 c.loop-inequality.invariant.gathered (c.judged.ensures.fine w.in-Open.is)
+                (w.in_ok-row_of-in-Open.ensures.form ∙ w.in_ok-lin-in-Open.ensures) w.in_ok-row_of-in-Open.ensures.strict w.in_ok-row_of-in-Open.ensures.known (w.rows-is ∙ w.in_ok-push-in-Open.ensures.ok)
             | in-Tight w ↦
-              let j = c.judged.ensures.tight w.in-Tight.is in
-              subst (AreRowsOf given (take (suc k) given)) (sym w.rows-is) (rows_zero given k it c.loop-inequality-test.true c.inequality-item.is normal c.loop-inequality.rows c.loop-inequality.invariant.gathered j.0 j.1 j.2)
+                let j = c.judged.ensures.tight w.in-Tight.is in
+                subst (AreRowsOf given (take (suc k) given)) (sym w.rows-is) (rows_zero given k it c.loop-inequality-test.true c.inequality-item.is normal c.loop-inequality.rows c.loop-inequality.invariant.gathered j.0 j.1 j.2)
           ]);
     }
