@@ -1,4 +1,5 @@
 -- Links and heads where links are added.
+use Rattle.std.proofs.lemmas.List.{length_push}
 use Rattle.std.specs.Prelude.{◌≡◌, ℕ, suc, ◌+◌, ◌-◌, ◌<◌, ◌≤◌, ◌⊎◌, true, ◌||◌, List, [], ◌∷◌, ◌++◌, length, slice_get, slice_index_or, Some, pos}
 use Rattle.std.specs.List.{Contains}
 use Rattle.std.proofs.lemmas.List.Elements.{Contains-push, Contains-append_left}
@@ -27,12 +28,8 @@ grows_same links = record { longer = omega arith; stays = λ p link s. s }
 pub grows_then : (a b c : List Link) → Grows a b → Grows b c → Grows a c
 grows_then a b c g h = record { longer = omega (arith, g.longer, h.longer); stays = λ p link s. h.stays p link (g.stays p link s) }
 
-length-push : (xs : List Link) (x : Link) → length (xs ++ x ∷ []) ≡ length xs + 1
-length-push [] x = refl
-length-push (y ∷ ys) x = let ih = length-push ys x in omega (arith, ih)
-
 pub grows_push : (links : List Link) (link : Link) → Grows links (links ++ link ∷ [])
-grows_push links link = record { longer = (let l = length-push links link in omega (arith, l)); stays = λ p other s. get_append links (link ∷ []) p other s }
+grows_push links link = record { longer = (let l = length_push links link in omega (arith, l)); stays = λ p other s. get_append links (link ∷ []) p other s }
 
 -- a link that leads to a place that is there
 pub linked_push : (links : List Link) (link : Link) → AreLinked links → link.next ≤ length links → AreLinked (links ++ link ∷ [])
@@ -47,7 +44,7 @@ linked_push links link a l = record { before = λ p other s. by_place p other s 
     by_place p other s (no n) = by_part (last_or_before links link p other s)
       where
         inside : p < length links
-        inside = let r = (get_read (links ++ link ∷ []) p other other s).1 in let k = length-push links link in omega (arith, r, k, n)
+        inside = let r = (get_read (links ++ link ∷ []) p other other s).1 in let k = length_push links link in omega (arith, r, k, n)
 
         by_part : (slice_get links p ≡ Some other) ⊎ (link ≡ other) → other.next ≤ p
         by_part (inl h) = a.before p other h
@@ -147,7 +144,7 @@ linking_more old links more from head next rows i d a l is e = subst (λ (w : Li
     }
       where
         at : next ≡ suc (length links)
-        at = let k = length-push links link in omega (arith, n, k)
+        at = let k = length_push links link in omega (arith, n, k)
 
         by_place : (j f : ℕ) → j < i + 1 → Dec (j ≡ i) → OccursFrom (links ++ link ∷ []) next (slice_index_or rows j f)
         by_place j f h (yes s) = here (length links) link at (get_seam links [] link) (get_or_default rows i d f l ∙ ap (λ (k : ℕ). slice_index_or rows k f) (sym s))

@@ -39,8 +39,10 @@ small_others (p ∷ ps) key k h = by_test (nat_eq p.key key) (small_others ps ke
 abbrev Within : ℤ → Type 0
 Within z = FitsLimits z
 
-one_times : (a : ℤ) → a *ℤ pos 1 ≡ a
-one_times a = omega (arith, ints)
+fits_once : (a : ℤ) → Within a → Within (a *ℤ pos 1)
+fits_once a h =
+    let once : a *ℤ pos 1 ≡ a = omega (arith, ints) in
+    subst Within (sym once) h
 
 zero_times : (c : ℤ) → c *ℤ pos 0 ≡ pos 0
 zero_times c = omega (arith, ints)
@@ -49,7 +51,7 @@ plus_zero : (a c : ℤ) → a *ℤ pos 1 +ℤ c *ℤ pos 0 ≡ a
 plus_zero a c = omega (arith, ints)
 
 crossed_fits : (a c : ℤ) → FitsLimits a → first_wide (crossed a (pos 1) c (pos 0)) ≡ None
-crossed_fits a c h = all_fit a (pos 1) c (pos 0) (subst Within (sym (one_times a)) h) (subst Within (sym (zero_times c)) (omega arith)) (subst Within (sym (plus_zero a c)) h)
+crossed_fits a c h = all_fit a (pos 1) c (pos 0) (fits_once a h) (subst Within (sym (zero_times c)) (omega arith)) (subst Within (sym (plus_zero a c)) h)
 
 all_crossed : (f : ℕ → List Step) (ys : List ℕ) (zs : List Step) → ((y : ℕ) → first_wide (f y) ≡ None) → first_wide (flat_map f ys ++ zs) ≡ first_wide zs
 all_crossed f [] zs h = refl
@@ -66,7 +68,7 @@ nothing_wide p key n = by_test (has_key p.parts key)
         ++ crossed p.constant (pos 1) (factor_of p.parts key) (pos 0)) []) ≡ None
     by_test false = refl
     by_test true =
-        past (Product p.den (pos 1)) (flat_map (λ y. crossed (factor_of (others p.parts key) y) (pos 1) (factor_of p.parts key) (pos 0)) (keys_of (others p.parts key) []) ++ crossed p.constant (pos 1) (factor_of p.parts key) (pos 0)) (fits (Product p.den (pos 1)) (subst Within (sym (one_times p.den)) n.within.0))
+        past (Product p.den (pos 1)) (flat_map (λ y. crossed (factor_of (others p.parts key) y) (pos 1) (factor_of p.parts key) (pos 0)) (keys_of (others p.parts key) []) ++ crossed p.constant (pos 1) (factor_of p.parts key) (pos 0)) (fits (Product p.den (pos 1)) (fits_once p.den n.within.0))
         ∙ all_crossed (λ y. crossed (factor_of (others p.parts key) y) (pos 1) (factor_of p.parts key) (pos 0)) (keys_of (others p.parts key) []) (crossed p.constant (pos 1) (factor_of p.parts key) (pos 0)) (λ y. crossed_fits (factor_of (others p.parts key) y) (factor_of p.parts key) (rest_small y))
         ∙ crossed_fits p.constant (factor_of p.parts key) n.within.1.0
 

@@ -1,4 +1,5 @@
 -- Rows in which a value is put for a name.
+use Rattle.std.proofs.lemmas.Bool.{cases_lt}
 use Rattle.std.specs.Prelude.{◌≡◌, ◌≢◌, ℕ, ◌+◌, ◌<◌, ◌≤◌, ◌⊎◌, pos, Bool, true, false, ◌||◌, nat_eq, List, [], ◌∷◌, length, slice_index_or, Option, Some, None, cond}
 use Rattle.std.specs.List.{AllByRecursion, Contains}
 use Rattle.std.specs.List.Sorted.{IsNonDecreasing}
@@ -75,14 +76,6 @@ normal_at (Some old) p name value row h e = let c : Some h.0 ≡ Some row = sym 
 pub old_at : (o p : Option Row) (name : ℕ) (value : Lin) (row : Row) → IsSubstitutedAt o name value p → p ≡ Some row → (old : Row) × (o ≡ Some old) × IsSubstituted old name value row
 old_at None p name value row h e = let c : None ≡ Some row = sym h ∙ e in cc
 old_at (Some old) p name value row h e = let c : Some h.0 ≡ Some row = sym h.1 ∙ e in let s : h.0 ≡ row = cc in (old, refl, subst (λ (r : Row). IsSubstituted old name value r) s h.2)
-
-cases_below : (m n : ℕ) → (m < n) ⊎ (n ≤ m)
-cases_below m n = by_case (cases_order m n)
-  where
-    by_case : (m ≡ n) ⊎ ((m < n) ⊎ (n < m)) → (m < n) ⊎ (n ≤ m)
-    by_case (inl e) = inr (omega (arith, e))
-    by_case (inr (inl l)) = inl l
-    by_case (inr (inr l)) = inr (omega (arith, l))
 
 no_steps : (row : Row) (x : ℕ) (q : Lin) → has_key row.value.parts x ≡ false → first_wide (subst_steps row.value x q) ≡ None
 no_steps row x q h = rw h refl
@@ -207,7 +200,7 @@ module _ (x : ℕ) (q : Lin) (nq : IsNormal q) (lacks : has_key q.parts x ≡ fa
             fit row (ap old t.2 ∙ e)
           where
             earlier : (k : ℕ) → k < length names → slice_index_or names k n ≡ n → k < i
-            earlier k inside_k is = by_order (cases_below k i)
+            earlier k inside_k is = by_order (cases_lt k i)
               where
                 by_order : (k < i) ⊎ (i ≤ k) → k < i
                 by_order (inl g) = g
