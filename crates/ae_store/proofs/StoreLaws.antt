@@ -1,7 +1,7 @@
 -- The term of a place, by its node.
-use Rattle.std.specs.Prelude.{ℕ, ℤ, zero, suc, ◌<◌, List, [], ◌∷◌, ◌≡◌, map, length, get_or, slice_get, Some}
+use Rattle.std.specs.Prelude.{ℕ, ℤ, ◌<◌, List, ◌≡◌, map, length, get_or, slice_get, Some}
 use Rattle.std.specs.List.{AllByRecursion}
-use Rattle.std.proofs.Common.{sym, ap, ◌∙◌, subst, arith}
+use Rattle.std.proofs.Common.{sym, ap, ◌∙◌, subst}
 use Rattle.ae_store.proofs.Gets.{below_at}
 use Rattle.ae_core.specs.Sorts.{same_sort}
 use Rattle.ae_base.specs.Options.{or_else}
