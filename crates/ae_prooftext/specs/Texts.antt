@@ -1,6 +1,7 @@
 -- How the values of proofs are spelled. Each function is total: what it gives of a value that no text stands for is of no meaning.
-use Rattle.std.specs.Prelude.{ℕ, suc, ℤ, pos, Bool, true, false, List, [], ◌∷◌, ◌++◌, map, decimal, Option, Some, None, slice_get, codes}
+use Rattle.std.specs.Prelude.{ℕ, suc, ℤ, pos, Bool, true, false, List, [], ◌∷◌, ◌++◌, map, decimal, Option, Some, None, slice_get, codes, unsigned_abs}
 use lib.IntN.{negsuc}
+use Rattle.std.specs.Fmt.{signed_decimal}
 use Rattle.ae_core.specs.declared.terms.Sort.{Sort, Sort-F, fold-Sort}
 use Rattle.ae_core.specs.declared.terms.Sort.TheOpen as sort_layer
 use Rattle.std.specs.List.{flat_map}
@@ -19,6 +20,7 @@ use Rattle.ae_core.specs.declared.formulas.Formula.{Formula, Formula-F, fold-For
 use Rattle.ae_core.specs.declared.formulas.Formula.TheOpen as formula_layer
 use Rattle.ae_core.specs.declared.formulas.Quant.{Quant, Quant-F, fold-Quant}
 use Rattle.ae_core.specs.declared.formulas.Lit.{Lit}
+use Rattle.ae_prooftext.specs.declared.proofs.ProofText.{ProofText}
 use Rattle.ae_codes.specs.Listings.{joined, listed_text, after_text}
 use Rattle.ae_prooftext.specs.Words.{type_names, symbol_name, has_variables, head_word, takes_sorts}
 
@@ -50,13 +52,9 @@ spaced types [] = []
 spaced types (s ∷ ss) = (32 ∷ sort_text types s) ++ spaced types ss
 
 -- ---- numerals: `5` of sort `int`, `5/1` and `-3/2` of sort `real`
-abbrev pub size : ℤ → ℕ
-size (pos n) = n
-size (negsuc n) = suc n
-
 abbrev pub below_text : ℤ → Bool → List ℕ
 below_text b false = []
-below_text b true = 47 ∷ decimal (size b)
+below_text b true = 47 ∷ decimal (unsigned_abs b)
 
 abbrev pub numeral_text : ℤ → ℤ → Bool → List ℕ
 numeral_text (pos n) b r = decimal n ++ below_text b r
@@ -161,19 +159,18 @@ module _ (sig : Signature) where
   literal_text x = sign x.positive ∷ formula_text x.formula
 
 -- ---- numbers, factors and sums, up to the end of their line
-abbrev pub integer_text : ℤ → List ℕ
-integer_text (pos n) = decimal n
-integer_text (negsuc n) = 45 ∷ decimal (suc n)
-
 abbrev pub scaled_text : Scaled → List ℕ
-scaled_text x = (integer_text x.factor ++ 32 ∷ []) ++ decimal x.line
+scaled_text x = (signed_decimal x.factor ++ 32 ∷ []) ++ decimal x.line
 
 -- each behind a blank
-abbrev pub numbers_text : List ℕ → List ℕ
+unfoldable pub numbers_text : List ℕ → List ℕ
 numbers_text ks = after_text 10 (map decimal ks)
 
+unfoldable pub parts_text : List Scaled → List ℕ
+parts_text xs = after_text 10 (map scaled_text xs)
+
 abbrev pub sum_text : ℤ → List Scaled → List ℕ
-sum_text d xs = integer_text d ++ after_text 10 (map scaled_text xs)
+sum_text d xs = signed_decimal d ++ parts_text xs
 
 -- a number that ends a line, and one that more follows
 abbrev pub number_line : ℕ → List ℕ
@@ -190,6 +187,11 @@ ending_text (Clash k) = codes "clash " ++ number_line k
 ending_text (Pred i j ks) = codes "pred " ++ (number_blank i ++ (decimal j ++ numbers_text ks))
 ending_text (Zero k) = codes "zero " ++ number_line k
 ending_text (Gcd k) = codes "gcd " ++ number_line k
+
+-- ---- the first lines of a proof text: version 1, or version 2 with the places of the axioms that the proof rests on
+abbrev pub heading_text : Option (List ℕ) → List ℕ
+heading_text None = codes "proof 1\n"
+heading_text (Some axioms) = codes "proof 2\naxioms [" ++ (listed_text 93 (map decimal axioms) ++ codes "\n")
 
 module _ (sig : Signature) where
   -- ---- derived lines: the relation, its two terms and the rule
@@ -234,3 +236,7 @@ module _ (sig : Signature) where
   -- ---- proofs: their clause lines and the line `end`
   unfoldable pub proof_lines_text : List ClauseLine → List ℕ
   proof_lines_text ls = flat_map line_text ls ++ codes "end\n"
+
+  -- a whole proof text
+  unfoldable pub proof_text : ProofText → List ℕ
+  proof_text p = heading_text p.axioms ++ proof_lines_text p.proof.lines

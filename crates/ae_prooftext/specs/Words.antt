@@ -5,6 +5,7 @@ use Rattle.std.specs.Str.{bytes_eq}
 use Rattle.ae_base.specs.Options.{or_else, ◌>>=◌}
 use Rattle.ae_core.specs.Signatures.{fields_of}
 use Rattle.ae_core.specs.declared.problems.Signature.{Signature}
+use Rattle.ae_core.specs.declared.problems.TypeEntry.{TypeEntry}
 use Rattle.ae_core.specs.declared.terms.Head.{Head}
 use Rattle.ae_core.specs.declared.terms.Head.TheVariants as head
 use Rattle.ae_core.specs.declared.terms.Op.{Op}
@@ -14,14 +15,17 @@ use Rattle.ae_core.specs.declared.terms.Op.TheVariants as op
 unfoldable pub type_names : Signature → List (List ℕ)
 type_names sig = map (λ e. e.name) sig.types
 
-unfoldable pub type_name : Signature → ℕ → List ℕ
+abbrev pub type_name : Signature → ℕ → List ℕ
 type_name sig n = or_else (slice_get sig.types n >>= λ e. Some e.name) []
 
-unfoldable pub symbol_name : Signature → ℕ → List ℕ
+abbrev pub symbol_name : Signature → ℕ → List ℕ
 symbol_name sig n = or_else (slice_get sig.symbols n >>= λ e. Some e.name) []
 
-unfoldable pub field_name : Signature → ℕ → ℕ → List ℕ
-field_name sig of place = or_else (slice_get sig.types of >>= λ e. slice_get (fields_of e) place >>= λ f. Some f.name) []
+abbrev pub field_in : TypeEntry → ℕ → List ℕ
+field_in e place = or_else (slice_get (fields_of e) place >>= λ f. Some f.name) []
+
+abbrev pub field_name : Signature → ℕ → ℕ → List ℕ
+field_name sig of place = or_else (slice_get sig.types of >>= λ e. Some (field_in e place)) []
 
 -- ---- what stands for a head: a sign, a symbol's name, `:p` for the record of type p, `.x` for its field x
 abbrev pub op_sign : Op → List ℕ
