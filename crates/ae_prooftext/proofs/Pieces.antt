@@ -1,6 +1,8 @@
 -- Lists as the writers put them: a blank before each value, and what closes the list.
-use Rattle.std.proofs.Common.{ℕ, ℤ, List, [], ◌∷◌, ◌++◌, ◌≡◌, Bool, true, false, map, decimal, length, ◌<◌, arith, sym, ap, ◌∙◌, append_assoc, append-nil, refl, codes}
+use Rattle.std.proofs.Common.{ℕ, ℤ, List, [], ◌∷◌, ◌++◌, ◌≡◌, Bool, true, false, not, ◌&&◌, suc, map, decimal, length, arith, sym, ap, ◌∙◌, append_assoc, append-nil, refl, codes}
 use Rattle.std.specs.List.{flat_map}
+use Rattle.std.specs.Bool.{◌==◌}
+use Rattle.std.proofs.lemmas.Bool.{eqb-true, eq-eqb}
 use Rattle.ae_core.specs.declared.problems.Signature.{Signature}
 use Rattle.ae_core.specs.declared.terms.Sort.{Sort}
 use Rattle.ae_core.specs.declared.terms.Term.{Term}
@@ -9,7 +11,7 @@ use Rattle.ae_core.specs.declared.proofs.Scaled.{Scaled}
 use Rattle.ae_codes.specs.Listings.{joined, listed_text, after_text}
 use Rattle.ae_prooftext.specs.Texts.{sort_text, term_text, scaled_text, numbers_text, parts_text, applied_text}
 use Rattle.ae_prooftext.specs.Words.{type_names, head_word, takes_sorts}
-use Rattle.ae_prooftext.specs.Inner.Pieces.{spaced_terms, sorts_bytes, sorts_part, bracket_bytes, application_bytes, spaced_numbers, spaced_scaled}
+use Rattle.ae_prooftext.specs.Inner.Pieces.{spaced_terms, sorts_part, is_lone, opening_bytes, args_bytes, application_bytes, spaced_numbers, spaced_scaled}
 
 module _ {X : Type 0} (t : X → List ℕ) where
   abbrev spaced : List X → List ℕ
@@ -42,38 +44,35 @@ unfolding parts_text
 parts_are xs = after_is scaled_text 10 xs
 
 module _ (sig : Signature) where
-  sorted_is : (w : List ℕ) (ss : List Sort) (ts : List Term) → applied_text true w (map (sort_text (type_names sig)) ss) (map (term_text sig) ts) ≡ bracket_bytes sig true w ss ts
-  unfolding bracket_bytes sorts_part
-  sorted_is w ss ts =
+  sorted_group : (w a b : List ℕ) → 40 ∷ ((w ++ 32 ∷ []) ++ (91 ∷ (a ++ (b ++ 41 ∷ [])))) ≡ ((40 ∷ w) ++ (32 ∷ 91 ∷ a)) ++ (b ++ 41 ∷ [])
+  sorted_group w a b = ap (λ z. 40 ∷ z) (append_assoc w (32 ∷ []) (91 ∷ (a ++ (b ++ 41 ∷ []))) ∙ sym (append_assoc w (32 ∷ 91 ∷ a) (b ++ 41 ∷ [])))
+
+  plain_group : (w a b : List ℕ) → 40 ∷ ((w ++ 32 ∷ []) ++ ((a ++ b) ++ 41 ∷ [])) ≡ ((40 ∷ w) ++ []) ++ (((32 ∷ a) ++ b) ++ 41 ∷ [])
+  plain_group w a b = ap (λ z. 40 ∷ z) (append_assoc w (32 ∷ []) ((a ++ b) ++ 41 ∷ []) ∙ ap (λ z. z ++ (32 ∷ ((a ++ b) ++ 41 ∷ []))) (sym (append-nil w)))
+
+  opens : (b : Bool) (w : List ℕ) (ss : List Sort) (ts : List Term) → (not b && (length ts == 0)) ≡ false
+      → applied_text b w (map (sort_text (type_names sig)) ss) (map (term_text sig) ts) ≡ ((40 ∷ w) ++ sorts_part sig b ss) ++ args_bytes sig ts
+  unfolding sorts_part
+  opens true w ss ts e =
       ap (λ z. 40 ∷ ((w ++ 32 ∷ []) ++ (91 ∷ (listed_text 93 (map (sort_text (type_names sig)) ss) ++ z)))) (after_is (term_text sig) 41 ts)
-      ∙ regroup w (listed_text 93 (map (sort_text (type_names sig)) ss)) (spaced_terms sig ts)
-    where
-      regroup : (w a b : List ℕ) → 40 ∷ ((w ++ 32 ∷ []) ++ (91 ∷ (a ++ (b ++ 41 ∷ [])))) ≡ (((40 ∷ w) ++ (32 ∷ 91 ∷ a)) ++ b) ++ 41 ∷ []
-      regroup w a b = ap (λ z. 40 ∷ z) (append_assoc w (32 ∷ []) (91 ∷ (a ++ (b ++ 41 ∷ []))) ∙ ap (λ z. w ++ (32 ∷ 91 ∷ z)) (sym (append_assoc a b (41 ∷ [])))
-          ∙ sym (append_assoc w (32 ∷ 91 ∷ (a ++ b)) (41 ∷ [])) ∙ ap (λ z. z ++ 41 ∷ []) (sym (append_assoc w (32 ∷ 91 ∷ a) b)))
-
-  plain_is : (w : List ℕ) (ss : List Sort) (t : Term) (ts : List Term) → applied_text false w (map (sort_text (type_names sig)) ss) (map (term_text sig) (t ∷ ts)) ≡ bracket_bytes sig false w ss (t ∷ ts)
-  unfolding bracket_bytes sorts_part
-  plain_is w ss t ts =
+      ∙ sorted_group w (listed_text 93 (map (sort_text (type_names sig)) ss)) (spaced_terms sig ts)
+  opens false w ss [] e = let z : (0 == 0) ≡ true = eq-eqb 0 0 refl in absurd cc
+  opens false w ss (t ∷ ts) e =
       ap (λ z. 40 ∷ ((w ++ 32 ∷ []) ++ z)) (joined_is (term_text sig) 41 t ts)
-      ∙ regroup w (term_text sig t) (spaced_terms sig ts)
-    where
-      regroup : (w a b : List ℕ) → 40 ∷ ((w ++ 32 ∷ []) ++ ((a ++ b) ++ 41 ∷ [])) ≡ (((40 ∷ w) ++ []) ++ ((32 ∷ a) ++ b)) ++ 41 ∷ []
-      regroup w a b = ap (λ z. 40 ∷ z) (append_assoc w (32 ∷ []) ((a ++ b) ++ 41 ∷ []) ∙ sym (append_assoc w (32 ∷ (a ++ b)) (41 ∷ [])) ∙ ap (λ z. (z ++ (32 ∷ (a ++ b))) ++ 41 ∷ []) (sym (append-nil w)))
+      ∙ plain_group w (term_text sig t) (spaced_terms sig ts)
 
-  pub application_sorted : (h : Head) (ss : List Sort) (ts : List Term) → takes_sorts sig h ≡ true → application_bytes sig h ss ts ≡ bracket_bytes sig true (head_word sig h) ss ts
-  unfolding application_bytes
-  application_sorted h ss ts e = ap (λ b. applied_text b (head_word sig h) (map (sort_text (type_names sig)) ss) (map (term_text sig) ts)) e ∙ sorted_is (head_word sig h) ss ts
+  alone : (b : Bool) (w : List ℕ) (ss : List Sort) (ts : List Term) → (not b && (length ts == 0)) ≡ true → applied_text b w (map (sort_text (type_names sig)) ss) (map (term_text sig) ts) ≡ w
+  alone true w ss ts e = absurd cc
+  alone false w ss [] e = refl
+  alone false w ss (t ∷ ts) e = let z : suc (length ts) ≡ 0 = eqb-true (suc (length ts)) 0 e in absurd (omega arith)
 
-  pub application_lone : (h : Head) (ss : List Sort) (ts : List Term) → takes_sorts sig h ≡ false → length ts ≡ 0 → application_bytes sig h ss ts ≡ head_word sig h
-  unfolding application_bytes
-  application_lone h ss [] e n = ap (λ b. applied_text b (head_word sig h) (map (sort_text (type_names sig)) ss) []) e
-  application_lone h ss (t ∷ ts) e n = absurd (omega (arith, n))
+  pub application_opens : (h : Head) (ss : List Sort) (ts : List Term) → is_lone sig h ts ≡ false → application_bytes sig h ss ts ≡ opening_bytes sig h ss ++ args_bytes sig ts
+  unfolding application_bytes opening_bytes
+  application_opens h ss ts e = opens (takes_sorts sig h) (head_word sig h) ss ts e
 
-  pub application_plain : (h : Head) (ss : List Sort) (ts : List Term) → takes_sorts sig h ≡ false → 0 < length ts → application_bytes sig h ss ts ≡ bracket_bytes sig false (head_word sig h) ss ts
+  pub application_lone : (h : Head) (ss : List Sort) (ts : List Term) → is_lone sig h ts ≡ true → application_bytes sig h ss ts ≡ head_word sig h
   unfolding application_bytes
-  application_plain h ss [] e n = absurd (omega (arith, n))
-  application_plain h ss (t ∷ ts) e n = ap (λ b. applied_text b (head_word sig h) (map (sort_text (type_names sig)) ss) (map (term_text sig) (t ∷ ts))) e ∙ plain_is (head_word sig h) ss t ts
+  application_lone h ss ts e = alone (takes_sorts sig h) (head_word sig h) ss ts e
 
 -- what was put last completes the text
 pub closed : (old mid new a b w : List ℕ) → mid ≡ old ++ a → w ≡ a ++ b → new ≡ mid ++ b → new ≡ old ++ w

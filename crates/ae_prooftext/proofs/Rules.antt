@@ -22,7 +22,7 @@ use Rattle.ae_core.specs.declared.formulas.Quant.{Quant}
 use Rattle.ae_codes.specs.Listings.{listed_text}
 use Rattle.ae_prooftext.specs.Texts.{sort_text, sort_text_step, name_or, get, term_text, term_text_step, numeral_text, kind_word, is_all, is_ex, bracketed, trigger_text, formula_text, formula_text_step, quant_text, quant_text_step}
 use Rattle.ae_prooftext.specs.Words.{type_names, type_name, head_word, takes_sorts}
-use Rattle.ae_prooftext.specs.Inner.Pieces.{spaced_sorts, compound_bytes, bound_bytes, numeral_bytes, fresh_bytes, application_bytes, relation_bytes, negation_bytes, pair_bytes, quant_bytes}
+use Rattle.ae_prooftext.specs.Inner.Pieces.{spaced_sorts, compound_bytes, bound_bytes, numeral_bytes, fresh_bytes, application_bytes, relation_bytes, negation_bytes, left_bytes, right_bytes, quant_bytes}
 use Rattle.ae_prooftext.specs.FormulaTexts.{quant_text_is}
 use Rattle.ae_prooftext.proofs.Pieces.{joined_is}
 
@@ -31,6 +31,9 @@ two_group w a b =
     sym (append_assoc w (a ++ 32 ∷ []) (b ++ 41 ∷ []))
     ∙ ap (λ z. z ++ (b ++ 41 ∷ [])) (sym (append_assoc w a (32 ∷ [])))
     ∙ sym (append_assoc ((w ++ a) ++ 32 ∷ []) b (41 ∷ []))
+
+halves : (w a b : List ℕ) → w ++ ((a ++ 32 ∷ []) ++ (b ++ 41 ∷ [])) ≡ ((w ++ a) ++ 32 ∷ []) ++ (b ++ 41 ∷ [])
+halves w a b = sym (append_assoc w (a ++ 32 ∷ []) (b ++ 41 ∷ [])) ∙ ap (λ z. z ++ (b ++ 41 ∷ [])) (sym (append_assoc w a (32 ∷ [])))
 
 quant_group : (w a b c : List ℕ) → w ++ (a ++ (32 ∷ 91 ∷ (b ++ (32 ∷ (c ++ 41 ∷ []))))) ≡ (((((w ++ a) ++ 32 ∷ 91 ∷ []) ++ b) ++ 32 ∷ []) ++ c) ++ 41 ∷ []
 quant_group w a b c =
@@ -143,21 +146,21 @@ module _ (sig : Signature) where
   unfolding formula_text
   text_not a = ap (formula_text sig) (sym (rolls-Not a)) ∙ fold-roll-Formula (List ℕ) (List ℕ) (formula_text_step sig) (quant_text_step sig) (formula_layer.Not a)
 
-  pub text_and : (a b : Formula) → formula_text sig (And a b) ≡ pair_bytes sig (codes "(@and ") a b
+  pub text_and : (a b : Formula) → formula_text sig (And a b) ≡ left_bytes sig (codes "(@and ") a ++ right_bytes sig b
   unfolding formula_text
-  text_and a b = ap (formula_text sig) (sym (rolls-And a b)) ∙ fold-roll-Formula (List ℕ) (List ℕ) (formula_text_step sig) (quant_text_step sig) (formula_layer.And a b) ∙ two_group (codes "(@and ") (formula_text sig a) (formula_text sig b)
+  text_and a b = ap (formula_text sig) (sym (rolls-And a b)) ∙ fold-roll-Formula (List ℕ) (List ℕ) (formula_text_step sig) (quant_text_step sig) (formula_layer.And a b) ∙ halves (codes "(@and ") (formula_text sig a) (formula_text sig b)
 
-  pub text_or : (a b : Formula) → formula_text sig (Or a b) ≡ pair_bytes sig (codes "(@or ") a b
+  pub text_or : (a b : Formula) → formula_text sig (Or a b) ≡ left_bytes sig (codes "(@or ") a ++ right_bytes sig b
   unfolding formula_text
-  text_or a b = ap (formula_text sig) (sym (rolls-Or a b)) ∙ fold-roll-Formula (List ℕ) (List ℕ) (formula_text_step sig) (quant_text_step sig) (formula_layer.Or a b) ∙ two_group (codes "(@or ") (formula_text sig a) (formula_text sig b)
+  text_or a b = ap (formula_text sig) (sym (rolls-Or a b)) ∙ fold-roll-Formula (List ℕ) (List ℕ) (formula_text_step sig) (quant_text_step sig) (formula_layer.Or a b) ∙ halves (codes "(@or ") (formula_text sig a) (formula_text sig b)
 
-  pub text_xor : (a b : Formula) → formula_text sig (Xor a b) ≡ pair_bytes sig (codes "(@xor ") a b
+  pub text_xor : (a b : Formula) → formula_text sig (Xor a b) ≡ left_bytes sig (codes "(@xor ") a ++ right_bytes sig b
   unfolding formula_text
-  text_xor a b = ap (formula_text sig) (sym (rolls-Xor a b)) ∙ fold-roll-Formula (List ℕ) (List ℕ) (formula_text_step sig) (quant_text_step sig) (formula_layer.Xor a b) ∙ two_group (codes "(@xor ") (formula_text sig a) (formula_text sig b)
+  text_xor a b = ap (formula_text sig) (sym (rolls-Xor a b)) ∙ fold-roll-Formula (List ℕ) (List ℕ) (formula_text_step sig) (quant_text_step sig) (formula_layer.Xor a b) ∙ halves (codes "(@xor ") (formula_text sig a) (formula_text sig b)
 
-  pub text_iff : (a b : Formula) → formula_text sig (Iff a b) ≡ pair_bytes sig (codes "(@iff ") a b
+  pub text_iff : (a b : Formula) → formula_text sig (Iff a b) ≡ left_bytes sig (codes "(@iff ") a ++ right_bytes sig b
   unfolding formula_text
-  text_iff a b = ap (formula_text sig) (sym (rolls-Iff a b)) ∙ fold-roll-Formula (List ℕ) (List ℕ) (formula_text_step sig) (quant_text_step sig) (formula_layer.Iff a b) ∙ two_group (codes "(@iff ") (formula_text sig a) (formula_text sig b)
+  text_iff a b = ap (formula_text sig) (sym (rolls-Iff a b)) ∙ fold-roll-Formula (List ℕ) (List ℕ) (formula_text_step sig) (quant_text_step sig) (formula_layer.Iff a b) ∙ halves (codes "(@iff ") (formula_text sig a) (formula_text sig b)
 
   pub text_all : (q : Quant) → formula_text sig (All q) ≡ quant_bytes sig (codes "(@all [") q
   unfolding formula_text quant_text

@@ -1,7 +1,7 @@
 //! Formulas, literals and clauses.
 ghost use Rattle.std.specs.Prelude.{◌≡◌, ◌++◌, OnOk};
 ghost use Rattle.ae_prooftext.specs.Texts.{formula_text, literal_text};
-ghost use Rattle.ae_prooftext.specs.Inner.Pieces.{relation_bytes, negation_bytes, pair_bytes, quant_bytes, spaced_literals, literals_bytes};
+ghost use Rattle.ae_prooftext.specs.Inner.Pieces.{relation_bytes, negation_bytes, left_bytes, right_bytes, quant_bytes, spaced_literals, literals_bytes};
 
 use crate::bytes::put;
 use crate::sorts::put_sorts;
@@ -32,10 +32,22 @@ pub fn put_formula(out: &mut Vec<u8>, signature: &Signature, formula: &Formula) 
             put_application(out, signature, head, sorts.as_slice(), args.as_slice())
         }
         Formula::Not(a) => put_negation(out, signature, a.get()),
-        Formula::And(a, b) => put_pair(out, signature, b"(@and ", a.get(), b.get()),
-        Formula::Or(a, b) => put_pair(out, signature, b"(@or ", a.get(), b.get()),
-        Formula::Xor(a, b) => put_pair(out, signature, b"(@xor ", a.get(), b.get()),
-        Formula::Iff(a, b) => put_pair(out, signature, b"(@iff ", a.get(), b.get()),
+        Formula::And(a, b) => {
+            put_left(out, signature, b"(@and ", a.get())?;
+            put_right(out, signature, b.get())
+        }
+        Formula::Or(a, b) => {
+            put_left(out, signature, b"(@or ", a.get())?;
+            put_right(out, signature, b.get())
+        }
+        Formula::Xor(a, b) => {
+            put_left(out, signature, b"(@xor ", a.get())?;
+            put_right(out, signature, b.get())
+        }
+        Formula::Iff(a, b) => {
+            put_left(out, signature, b"(@iff ", a.get())?;
+            put_right(out, signature, b.get())
+        }
         Formula::All(quant) => put_quant(out, signature, b"(@all [", quant),
         Formula::Ex(quant) => put_quant(out, signature, b"(@ex [", quant),
     }
@@ -67,21 +79,27 @@ fn put_negation(out: &mut Vec<u8>, signature: &Signature, formula: &Formula) -> 
     put(out, b")")
 }
 
-/// Puts a connective of two formulas, which begins so.
+/// Puts the word that a connective begins with, its left formula and a blank.
 #[cycle(put_formula)]
-fn put_pair(
+fn put_left(
     out: &mut Vec<u8>,
     signature: &Signature,
     word: &[u8],
-    left: &Formula,
-    right: &Formula,
+    formula: &Formula,
 ) -> Result<(), AllocError>
-    ensures { OnOk result (out.new.items ≡ out.old.items ++ pair_bytes signature.now word.now left.now right.now) }
+    ensures { OnOk result (out.new.items ≡ out.old.items ++ left_bytes signature.now word.now formula.now) }
 {
     put(out, word)?;
-    put_formula(out, signature, left)?;
-    put(out, b" ")?;
-    put_formula(out, signature, right)?;
+    put_formula(out, signature, formula)?;
+    put(out, b" ")
+}
+
+/// Puts the right formula of a connective and the bracket that closes it.
+#[cycle(put_formula)]
+fn put_right(out: &mut Vec<u8>, signature: &Signature, formula: &Formula) -> Result<(), AllocError>
+    ensures { OnOk result (out.new.items ≡ out.old.items ++ right_bytes signature.now formula.now) }
+{
+    put_formula(out, signature, formula)?;
     put(out, b")")
 }
 

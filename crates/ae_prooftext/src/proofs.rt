@@ -1,6 +1,7 @@
 //! Proof texts.
-ghost use Rattle.std.specs.Prelude.{◌≡◌, ◌++◌, OnOk, IfOk};
+ghost use Rattle.std.specs.Prelude.{◌≡◌, ◌++◌, codes, OnOk, IfOk};
 ghost use Rattle.ae_prooftext.specs.Texts.{heading_text, proof_text};
+ghost use Rattle.ae_prooftext.specs.Inner.Pieces.{numbers_bytes};
 
 use crate::bytes::{put, put_number_list};
 use crate::lines::put_lines;
@@ -23,12 +24,16 @@ fn put_heading(out: &mut Vec<u8>, axioms: &Option<List<usize>>) -> Result<(), Al
 {
     match axioms {
         None => put(out, b"proof 1\n"),
-        Some(places) => {
-            put(out, b"proof 2\naxioms [")?;
-            put_number_list(out, places.as_slice())?;
-            put(out, b"\n")
-        }
+        Some(places) => put_axioms(out, places.as_slice()),
     }
+}
+
+fn put_axioms(out: &mut Vec<u8>, places: &[usize]) -> Result<(), AllocError>
+    ensures { OnOk result (out.new.items ≡ out.old.items ++ (codes "proof 2\naxioms [" ++ (numbers_bytes places.now ++ codes "\n"))) }
+{
+    put(out, b"proof 2\naxioms [")?;
+    put_number_list(out, places)?;
+    put(out, b"\n")
 }
 
 /// Puts a proof text at the end; `Err` where there is no memory for it.

@@ -1,8 +1,7 @@
 //! Terms.
 ghost use Rattle.std.specs.Prelude.{◌≡◌, ◌++◌, decimal, OnOk};
 ghost use Rattle.ae_prooftext.specs.Texts.{below_text, term_text, trigger_text};
-ghost use Rattle.ae_prooftext.specs.Words.{head_word};
-ghost use Rattle.ae_prooftext.specs.Inner.Pieces.{bound_bytes, numeral_bytes, fresh_bytes, application_bytes, bracket_bytes, spaced_terms, terms_bytes, spaced_triggers, triggers_bytes};
+ghost use Rattle.ae_prooftext.specs.Inner.Pieces.{bound_bytes, numeral_bytes, fresh_bytes, is_lone, opening_bytes, args_bytes, application_bytes, spaced_terms, terms_bytes, spaced_triggers, triggers_bytes};
 
 use crate::bytes::{put, put_integer, put_number, put_size};
 use crate::names::{put_head, takes_sorts};
@@ -23,7 +22,11 @@ pub fn put_term(out: &mut Vec<u8>, signature: &Signature, term: &Term) -> Result
         Term::Num { top, bottom, real } => put_numeral(out, *top, *bottom, *real),
         Term::Fresh { number, sort } => put_fresh(out, signature, *number, sort.get()),
         Term::Apply { head, sorts, args } => {
-            put_application(out, signature, *head, sorts.as_slice(), args.as_slice())
+            if is_lone(signature, *head, args.as_slice()) {
+                return put_head(out, signature, *head);
+            }
+            put_opening(out, signature, *head, sorts.as_slice())?;
+            put_args(out, signature, args.as_slice())
         }
     }
 }
@@ -68,9 +71,38 @@ fn put_fresh(
     put(out, b")")
 }
 
-/// Puts a head with its sorts and arguments: its word alone where there are none.
+/// Whether a head's word stands alone.
+fn is_lone(signature: &Signature, head: Head, args: &[Term]) -> bool
+    ensures { result ≡ is_lone signature.now head args.now }
+{
+    !takes_sorts(signature, head) && args.is_empty()
+}
+
+/// Puts the bracket, the word of a head and its sorts, where they stand.
+#[tactic(auto, unfolding(crate::specs::Inner::Pieces::opening_bytes))]
+fn put_opening(
+    out: &mut Vec<u8>,
+    signature: &Signature,
+    head: Head,
+    sorts: &[Sort],
+) -> Result<(), AllocError>
+    ensures { OnOk result (out.new.items ≡ out.old.items ++ opening_bytes signature.now head sorts.now) }
+{
+    put(out, b"(")?;
+    put_head(out, signature, head)?;
+    put_sorts_part(out, signature, takes_sorts(signature, head), sorts)
+}
+
+/// Puts arguments, with a blank before each, and the bracket that closes them.
 #[cycle(put_term)]
-#[tactic(auto, using(crate::proofs::Pieces::application_sorted, crate::proofs::Pieces::application_lone, crate::proofs::Pieces::application_plain))]
+fn put_args(out: &mut Vec<u8>, signature: &Signature, args: &[Term]) -> Result<(), AllocError>
+    ensures { OnOk result (out.new.items ≡ out.old.items ++ args_bytes signature.now args.now) }
+{
+    put_spaced_terms(out, signature, args)?;
+    put(out, b")")
+}
+
+/// Puts a head with its sorts and arguments: its word alone where there are none.
 pub fn put_application(
     out: &mut Vec<u8>,
     signature: &Signature,
@@ -80,33 +112,11 @@ pub fn put_application(
 ) -> Result<(), AllocError>
     ensures { OnOk result (out.new.items ≡ out.old.items ++ application_bytes signature.now head sorts.now args.now) }
 {
-    if takes_sorts(signature, head) {
-        return put_bracketed(out, signature, true, head, sorts, args);
+    if is_lone(signature, head, args) {
+        return put_head(out, signature, head);
     }
-    match args.split_first() {
-        None => put_head(out, signature, head),
-        Some(_) => put_bracketed(out, signature, false, head, sorts, args),
-    }
-}
-
-/// Puts a head in brackets with its sorts, where they stand, and its arguments.
-#[cycle(put_term)]
-#[tactic(auto, unfolding(crate::specs::Inner::Pieces::bracket_bytes))]
-fn put_bracketed(
-    out: &mut Vec<u8>,
-    signature: &Signature,
-    stand: bool,
-    head: Head,
-    sorts: &[Sort],
-    args: &[Term],
-) -> Result<(), AllocError>
-    ensures { OnOk result (out.new.items ≡ out.old.items ++ bracket_bytes signature.now stand (head_word signature.now head) sorts.now args.now) }
-{
-    put(out, b"(")?;
-    put_head(out, signature, head)?;
-    put_sorts_part(out, signature, stand, sorts)?;
-    put_spaced_terms(out, signature, args)?;
-    put(out, b")")
+    put_opening(out, signature, head, sorts)?;
+    put_args(out, signature, args)
 }
 
 /// Puts terms, with a blank before each.

@@ -1,7 +1,8 @@
 -- What the writers put one after another: the same texts, cut where a writer calls another.
-use Rattle.std.specs.Prelude.{ℕ, ℤ, Bool, true, false, cond, List, [], ◌∷◌, ◌++◌, map, decimal, codes}
+use Rattle.std.specs.Prelude.{ℕ, ℤ, Bool, true, false, cond, not, ◌&&◌, length, List, [], ◌∷◌, ◌++◌, map, decimal, codes}
 use Rattle.std.specs.List.{flat_map}
 use Rattle.std.specs.Fmt.{signed_decimal}
+use Rattle.std.specs.Bool.{◌==◌}
 use Rattle.ae_core.specs.declared.terms.Head.{Head}
 use Rattle.ae_core.specs.declared.formulas.Formula.{Formula}
 use Rattle.ae_core.specs.declared.formulas.Quant.{Quant}
@@ -69,8 +70,12 @@ module _ (sig : Signature) where
   abbrev pub negation_bytes : Formula → List ℕ
   negation_bytes a = codes "(@not " ++ formula_text sig a ++ codes ")"
 
-  abbrev pub pair_bytes : List ℕ → Formula → Formula → List ℕ
-  pair_bytes w a b = w ++ formula_text sig a ++ codes " " ++ formula_text sig b ++ codes ")"
+  -- the two halves of a connective
+  abbrev pub left_bytes : List ℕ → Formula → List ℕ
+  left_bytes w a = w ++ formula_text sig a ++ codes " "
+
+  abbrev pub right_bytes : Formula → List ℕ
+  right_bytes a = formula_text sig a ++ codes ")"
 
   abbrev pub quant_bytes : List ℕ → Quant → List ℕ
   quant_bytes w q = w ++ sorts_bytes q.sorts ++ codes " [" ++ triggers_bytes q.triggers ++ codes " " ++ formula_text sig q.body ++ codes ")"
@@ -79,9 +84,16 @@ module _ (sig : Signature) where
   abbrev pub sides_bytes : List ℕ → Term → Term → List ℕ
   sides_bytes w s t = w ++ term_text sig s ++ codes " " ++ term_text sig t ++ codes " "
 
-  -- a word in brackets with its sorts and arguments
-  unfoldable pub bracket_bytes : Bool → List ℕ → List Sort → List Term → List ℕ
-  bracket_bytes b w ss ts = codes "(" ++ w ++ sorts_part b ss ++ spaced_terms ts ++ codes ")"
+  -- a head whose word stands alone: no sorts behind it, and no arguments
+  abbrev pub is_lone : Head → List Term → Bool
+  is_lone h ts = not (takes_sorts sig h) && (length ts == 0)
+
+  -- what stands before the arguments, and they
+  unfoldable pub opening_bytes : Head → List Sort → List ℕ
+  opening_bytes h ss = codes "(" ++ head_word sig h ++ sorts_part (takes_sorts sig h) ss
+
+  abbrev pub args_bytes : List Term → List ℕ
+  args_bytes ts = spaced_terms ts ++ codes ")"
 
 abbrev pub spaced_numbers : List ℕ → List ℕ
 spaced_numbers ns = flat_map (λ n. 32 ∷ decimal n) ns
