@@ -2,6 +2,7 @@
 use Rattle.std.specs.Prelude.{ℕ, ◌⊎◌, Bool, true, false, not, cond, List, [], ◌∷◌, ◌++◌, ◌≡◌, map, Some}
 use Rattle.std.specs.List.{find, filter}
 use Rattle.std.specs.Str.{bytes_eq}
+use Rattle.std.proofs.lemmas.Bool.{not-true}
 use Rattle.std.proofs.lemmas.Slice.Eq.{bytes_eq-Decides}
 use mathlib.Core.Path.{refl, sym, ap, ◌∙◌, subst}
 use mathlib.Core.Logic.{inl, inr}
@@ -76,10 +77,6 @@ module _ {A : Type 0} (fine : List ℕ → Bool) (table : List (List ℕ)) (ends
   filtered_pass test [] = tt
   filtered_pass test (a ∷ xs) = pass_cons test (test a) a (filter test xs) refl (filtered_pass test xs)
 
-not_so : (b : Bool) → not b ≡ true → b ≡ false
-not_so true e = absurd cc
-not_so false e = refl
-
 module _ (sig : Signature) (fine : List ℕ → Bool) (table : List (List ℕ)) (ends : ℕ → Bool) (w : List ℕ) where
   pub head_back : In fine table ends (map (head_word sig) (bracket_heads sig)) w → head_word sig (head_of sig w) ≡ w
   unfolding head_of
@@ -89,7 +86,7 @@ module _ (sig : Signature) (fine : List ℕ → Bool) (table : List (List ℕ)) 
   unfolding lone_head_of lone_heads takes_sorts
   lone_head_back i = (
     named_back fine table ends (head_word sig) head.Void (lone_heads sig) w i,
-    not_so _ (named_passes fine table ends (head_word sig) head.Void (λ h. not (takes_sorts sig h)) (lone_heads sig) w
+    not-true _ (named_passes fine table ends (head_word sig) head.Void (λ h. not (takes_sorts sig h)) (lone_heads sig) w
         (refl, (refl, (refl, filtered_pass fine table ends (head_word sig) head.Void (λ h. not (takes_sorts sig h)) (map (λ n. head.Symbol n) (symbols sig))))) i),
   )
 
@@ -101,7 +98,7 @@ module _ (sig : Signature) (fine : List ℕ → Bool) (table : List (List ℕ)) 
   unfolding lone_symbol_of lone_symbols
   lone_symbol_back i = (
     named_back fine table ends (symbol_name sig) 0 (lone_symbols sig) w i,
-    not_so _ (named_passes fine table ends (symbol_name sig) 0 (λ n. not (has_variables sig n)) (lone_symbols sig) w
+    not-true _ (named_passes fine table ends (symbol_name sig) 0 (λ n. not (has_variables sig n)) (lone_symbols sig) w
         (filtered_pass fine table ends (symbol_name sig) 0 (λ n. not (has_variables sig n)) (symbols sig)) i),
   )
 

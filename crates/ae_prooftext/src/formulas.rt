@@ -14,7 +14,11 @@ use std::alloc::AllocError;
 /// Puts a formula at the end.
 #[cycle(put_formula)]
 #[tactic(auto, using(crate::proofs::Rules::formula_rules))]
-pub fn put_formula(out: &mut Vec<u8>, signature: &Signature, formula: &Formula) -> Result<(), AllocError>
+pub fn put_formula(
+    out: &mut Vec<u8>,
+    signature: &Signature,
+    formula: &Formula,
+) -> Result<(), AllocError>
     ensures { OnOk result (out.new.items ≡ out.old.items ++ formula_text signature.now formula.now) }
 {
     match formula {
@@ -71,7 +75,11 @@ fn put_relation(
 }
 
 #[cycle(put_formula)]
-fn put_negation(out: &mut Vec<u8>, signature: &Signature, formula: &Formula) -> Result<(), AllocError>
+fn put_negation(
+    out: &mut Vec<u8>,
+    signature: &Signature,
+    formula: &Formula,
+) -> Result<(), AllocError>
     ensures { OnOk result (out.new.items ≡ out.old.items ++ negation_bytes signature.now formula.now) }
 {
     put(out, b"(@not ")?;
@@ -134,7 +142,11 @@ pub fn put_literal(out: &mut Vec<u8>, signature: &Signature, lit: &Lit) -> Resul
     put_formula(out, signature, &lit.formula)
 }
 
-fn put_spaced_literals(out: &mut Vec<u8>, signature: &Signature, lits: &[Lit]) -> Result<(), AllocError>
+fn put_spaced_literals(
+    out: &mut Vec<u8>,
+    signature: &Signature,
+    lits: &[Lit],
+) -> Result<(), AllocError>
     ensures { OnOk result (out.new.items ≡ out.old.items ++ spaced_literals signature.now lits.now) }
 {
     for lit in lits {
@@ -145,7 +157,11 @@ fn put_spaced_literals(out: &mut Vec<u8>, signature: &Signature, lits: &[Lit]) -
 }
 
 /// Puts literals with a blank between two, and the square bracket that closes them.
-pub fn put_literals(out: &mut Vec<u8>, signature: &Signature, lits: &[Lit]) -> Result<(), AllocError>
+pub fn put_literals(
+    out: &mut Vec<u8>,
+    signature: &Signature,
+    lits: &[Lit],
+) -> Result<(), AllocError>
     ensures { OnOk result (out.new.items ≡ out.old.items ++ literals_bytes signature.now lits.now) }
 {
     match lits.split_first() {

@@ -38,7 +38,12 @@ fn put_one_number(out: &mut Vec<u8>, word: &[u8], n: usize) -> Result<(), AllocE
 }
 
 /// Puts a word, two numbers and the end of their line.
-fn put_two_numbers(out: &mut Vec<u8>, word: &[u8], first: usize, second: usize) -> Result<(), AllocError>
+fn put_two_numbers(
+    out: &mut Vec<u8>,
+    word: &[u8],
+    first: usize,
+    second: usize,
+) -> Result<(), AllocError>
     ensures { OnOk result (out.new.items ≡ out.old.items ++ (word.now ++ (number_blank first ++ number_line second))) }
 {
     put(out, word)?;
@@ -74,7 +79,11 @@ fn put_sides(
 
 /// Puts a derived line of a block.
 #[tactic(auto, unfolding(crate::specs::Texts::derived_text))]
-pub fn put_derived(out: &mut Vec<u8>, signature: &Signature, line: &EqLine) -> Result<(), AllocError>
+pub fn put_derived(
+    out: &mut Vec<u8>,
+    signature: &Signature,
+    line: &EqLine,
+) -> Result<(), AllocError>
     ensures { OnOk result (out.new.items ≡ out.old.items ++ derived_text signature.now line.now) }
 {
     match line {
@@ -195,7 +204,11 @@ fn put_hypotheses(out: &mut Vec<u8>, signature: &Signature, lits: &[Lit]) -> Res
     Ok(())
 }
 
-fn put_derived_lines(out: &mut Vec<u8>, signature: &Signature, lines: &[EqLine]) -> Result<(), AllocError>
+fn put_derived_lines(
+    out: &mut Vec<u8>,
+    signature: &Signature,
+    lines: &[EqLine],
+) -> Result<(), AllocError>
     ensures { OnOk result (out.new.items ≡ out.old.items ++ flat_map (derived_text signature.now) lines.now) }
 {
     for line in lines {
@@ -214,7 +227,12 @@ pub fn put_block(out: &mut Vec<u8>, signature: &Signature, block: &Block) -> Res
     put_ending(out, &block.ending)
 }
 
-fn put_hyp(out: &mut Vec<u8>, signature: &Signature, place: usize, sorts: &[Sort]) -> Result<(), AllocError>
+fn put_hyp(
+    out: &mut Vec<u8>,
+    signature: &Signature,
+    place: usize,
+    sorts: &[Sort],
+) -> Result<(), AllocError>
     ensures { OnOk result (out.new.items ≡ out.old.items ++ (codes "hyp " ++ (number_blank place ++ (codes "[" ++ (sorts_bytes signature.now sorts.now ++ codes "\n"))))) }
 {
     put(out, b"hyp ")?;
@@ -275,7 +293,12 @@ fn put_exh(out: &mut Vec<u8>, signature: &Signature, term: &Term) -> Result<(), 
     put(out, b"\n")
 }
 
-fn put_tri(out: &mut Vec<u8>, signature: &Signature, left: &Term, right: &Term) -> Result<(), AllocError>
+fn put_tri(
+    out: &mut Vec<u8>,
+    signature: &Signature,
+    left: &Term,
+    right: &Term,
+) -> Result<(), AllocError>
     ensures { OnOk result (out.new.items ≡ out.old.items ++ (codes "tri " ++ ((term_text signature.now left.now ++ codes " ") ++ (term_text signature.now right.now ++ codes "\n")))) }
 {
     put(out, b"tri ")?;
@@ -307,7 +330,11 @@ fn put_rup(
 
 /// Puts a clause line, with the lines of its block where it is one.
 #[tactic(auto, unfolding(crate::specs::Texts::line_text))]
-pub fn put_line(out: &mut Vec<u8>, signature: &Signature, line: &ClauseLine) -> Result<(), AllocError>
+pub fn put_line(
+    out: &mut Vec<u8>,
+    signature: &Signature,
+    line: &ClauseLine,
+) -> Result<(), AllocError>
     ensures { OnOk result (out.new.items ≡ out.old.items ++ line_text signature.now line.now) }
 {
     match line {
@@ -325,7 +352,11 @@ pub fn put_line(out: &mut Vec<u8>, signature: &Signature, line: &ClauseLine) -> 
     }
 }
 
-fn put_clause_lines(out: &mut Vec<u8>, signature: &Signature, lines: &[ClauseLine]) -> Result<(), AllocError>
+fn put_clause_lines(
+    out: &mut Vec<u8>,
+    signature: &Signature,
+    lines: &[ClauseLine],
+) -> Result<(), AllocError>
     ensures { OnOk result (out.new.items ≡ out.old.items ++ flat_map (line_text signature.now) lines.now) }
 {
     for line in lines {
@@ -336,7 +367,11 @@ fn put_clause_lines(out: &mut Vec<u8>, signature: &Signature, lines: &[ClauseLin
 
 /// Puts the clause lines of a proof and its last line.
 #[tactic(auto, unfolding(crate::specs::Texts::proof_lines_text))]
-pub fn put_lines(out: &mut Vec<u8>, signature: &Signature, lines: &[ClauseLine]) -> Result<(), AllocError>
+pub fn put_lines(
+    out: &mut Vec<u8>,
+    signature: &Signature,
+    lines: &[ClauseLine],
+) -> Result<(), AllocError>
     ensures { OnOk result (out.new.items ≡ out.old.items ++ proof_lines_text signature.now lines.now) }
 {
     put_clause_lines(out, signature, lines)?;

@@ -10,7 +10,11 @@ use ae_core::terms::{Head, Op};
 use std::alloc::AllocError;
 
 /// Puts the name of the type of this number; nothing where there is none.
-pub fn put_type_name(out: &mut Vec<u8>, signature: &Signature, number: usize) -> Result<(), AllocError>
+pub fn put_type_name(
+    out: &mut Vec<u8>,
+    signature: &Signature,
+    number: usize,
+) -> Result<(), AllocError>
     ensures { OnOk result (out.new.items ≡ out.old.items ++ type_name signature.now number) }
 {
     match at(signature.types.as_slice(), number) {
@@ -20,7 +24,11 @@ pub fn put_type_name(out: &mut Vec<u8>, signature: &Signature, number: usize) ->
 }
 
 /// Puts the name of the symbol of this number; nothing where there is none.
-pub fn put_symbol_name(out: &mut Vec<u8>, signature: &Signature, number: usize) -> Result<(), AllocError>
+pub fn put_symbol_name(
+    out: &mut Vec<u8>,
+    signature: &Signature,
+    number: usize,
+) -> Result<(), AllocError>
     ensures { OnOk result (out.new.items ≡ out.old.items ++ symbol_name signature.now number) }
 {
     match at(signature.symbols.as_slice(), number) {

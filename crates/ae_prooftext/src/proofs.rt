@@ -38,7 +38,11 @@ fn put_axioms(out: &mut Vec<u8>, places: &[usize]) -> Result<(), AllocError>
 
 /// Puts a proof text at the end; `Err` where there is no memory for it.
 #[tactic(auto, unfolding(crate::specs::Texts::proof_text))]
-pub fn put_proof(out: &mut Vec<u8>, signature: &Signature, text: &ProofText) -> Result<(), AllocError>
+pub fn put_proof(
+    out: &mut Vec<u8>,
+    signature: &Signature,
+    text: &ProofText,
+) -> Result<(), AllocError>
     ensures text { OnOk result (out.new.items ≡ out.old.items ++ proof_text signature.now text.now) }
 {
     put_heading(out, &text.axioms)?;
@@ -46,7 +50,11 @@ pub fn put_proof(out: &mut Vec<u8>, signature: &Signature, text: &ProofText) -> 
 }
 
 /// The text of a proof: `proof 1` or `proof 2` with its axioms, the clause lines, and `end`. `Err` where there is no memory for it.
-pub fn write_proof(alloc: Global, signature: &Signature, text: &ProofText) -> Result<Vec<u8>, AllocError>
+pub fn write_proof(
+    alloc: Global,
+    signature: &Signature,
+    text: &ProofText,
+) -> Result<Vec<u8>, AllocError>
     ensures text { IfOk result (λ bytes. bytes.items ≡ proof_text signature.now text.now) }
 {
     let mut out = Vec::new(alloc);

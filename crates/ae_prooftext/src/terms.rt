@@ -121,7 +121,11 @@ pub fn put_application(
 
 /// Puts terms, with a blank before each.
 #[cycle(put_term)]
-fn put_spaced_terms(out: &mut Vec<u8>, signature: &Signature, terms: &[Term]) -> Result<(), AllocError>
+fn put_spaced_terms(
+    out: &mut Vec<u8>,
+    signature: &Signature,
+    terms: &[Term],
+) -> Result<(), AllocError>
     ensures { OnOk result (out.new.items ≡ out.old.items ++ spaced_terms signature.now terms.now) }
 {
     for term in terms {

@@ -12,4 +12,4 @@ returns-in-None c = on_ok_weaker c.put.result (λ e. e ∙ ap (λ z. c.args.out.
 pub returns-in_ok-put_spaced_sorts-in-Some : goal.returns-in_ok-put_spaced_sorts-in-Some
 returns-in_ok-put_spaced_sorts-in-Some c =
     on_ok_weaker c.put-in-Some.result (λ e. closed_twice c.args.out.now.items _ _ _ (sort_text (type_names c.args.signature.now) c.in-Some.first.now) (spaced_sorts c.args.signature.now c.in-Some.rest.now) (93 ∷ []) _
-        c.in_ok-put_sort-in-Some.ensures c.in_ok-put_spaced_sorts-in-Some.ensures (listed_first (sort_text (type_names c.args.signature.now)) 93 c.args.sorts.now c.in-Some.first.now c.in-Some.rest.now c.in-Some.ensures.cases.0) e) c.put-in-Some.ensures
+    c.in_ok-put_sort-in-Some.ensures c.in_ok-put_spaced_sorts-in-Some.ensures (listed_first (sort_text (type_names c.args.signature.now)) 93 c.args.sorts.now c.in-Some.first.now c.in-Some.rest.now c.in-Some.ensures.cases.0) e) c.put-in-Some.ensures

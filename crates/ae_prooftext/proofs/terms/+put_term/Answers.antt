@@ -22,11 +22,11 @@ open_text sig t h ss rs ts us vs e r q v l =
 pub put_term-returns-then-is_lone : goal.put_term-returns-then-is_lone
 put_term-returns-then-is_lone t c =
     on_ok_weaker c.put_head.result (λ e. e ∙ ap (λ z. c.args.out.now.items ++ z)
-        (sym (lone_text c.args.signature.now c.args.term.now c.in-Apply.head c.in-Apply.sorts c.in-Apply.args c.as_slice.result.now c.in-Apply.is c.as_slice.ensures (sym c.is_lone.ensures ∙ c.if-is_lone.true)))) c.put_head.ensures
+    (sym (lone_text c.args.signature.now c.args.term.now c.in-Apply.head c.in-Apply.sorts c.in-Apply.args c.as_slice.result.now c.in-Apply.is c.as_slice.ensures (sym c.is_lone.ensures ∙ c.if-is_lone.true)))) c.put_head.ensures
 
 pub put_term-returns-in_ok-put_opening-in-Apply : goal.put_term-returns-in_ok-put_opening-in-Apply
 put_term-returns-in_ok-put_opening-in-Apply t c =
     on_ok_weaker c.put_args.result (λ e. closed c.args.out.now.items _ _ (opening_bytes c.args.signature.now c.in-Apply.head c.as_slice-in-Apply.result.now) (args_bytes c.args.signature.now c.as_slice-in-Apply-2.result.now) _
-        c.in_ok-put_opening-in-Apply.ensures
-        (open_text c.args.signature.now c.args.term.now c.in-Apply.head c.in-Apply.sorts c.as_slice-in-Apply.result.now c.in-Apply.args c.as_slice.result.now c.as_slice-in-Apply-2.result.now
-            c.in-Apply.is c.as_slice-in-Apply.ensures c.as_slice.ensures c.as_slice-in-Apply-2.ensures (sym c.is_lone.ensures ∙ c.if-is_lone.false)) e) c.put_args.ensures
+    c.in_ok-put_opening-in-Apply.ensures
+    (open_text c.args.signature.now c.args.term.now c.in-Apply.head c.in-Apply.sorts c.as_slice-in-Apply.result.now c.in-Apply.args c.as_slice.result.now c.as_slice-in-Apply-2.result.now
+    c.in-Apply.is c.as_slice-in-Apply.ensures c.as_slice.ensures c.as_slice-in-Apply-2.ensures (sym c.is_lone.ensures ∙ c.if-is_lone.false)) e) c.put_args.ensures

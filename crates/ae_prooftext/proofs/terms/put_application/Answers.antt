@@ -11,4 +11,4 @@ returns-then-is_lone c =
 pub returns : goal.returns
 returns c =
     on_ok_weaker c.put_args.result (λ e. closed c.args.out.now.items _ _ (opening_bytes c.args.signature.now c.args.head c.args.sorts.now) (args_bytes c.args.signature.now c.args.args.now) _
-        c.in_ok-put_opening.ensures (application_opens c.args.signature.now c.args.head c.args.sorts.now c.args.args.now (sym c.is_lone.ensures ∙ c.if-is_lone.false)) e) c.put_args.ensures
+    c.in_ok-put_opening.ensures (application_opens c.args.signature.now c.args.head c.args.sorts.now c.args.args.now (sym c.is_lone.ensures ∙ c.if-is_lone.false)) e) c.put_args.ensures
