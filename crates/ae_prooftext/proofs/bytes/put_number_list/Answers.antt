@@ -1,0 +1,13 @@
+use Rattle.std.proofs.Common.{[], ◌∷◌, ◌++◌, decimal, sym, ap, ◌∙◌}
+use Rattle.std.proofs.lemmas.Result.{on_ok_weaker}
+use Rattle.ae_prooftext.specs.Inner.Pieces.{spaced_numbers}
+use Rattle.ae_prooftext.proofs.Pieces.{listed_empty, listed_first, closed_twice}
+use Rattle.ae_prooftext.proofs.bytes.put_number_list.Goals as goal
+
+pub returns-in-None : goal.returns-in-None
+returns-in-None c = on_ok_weaker c.put.result (λ e. e ∙ ap (λ z. c.args.out.now.items ++ z) (sym (listed_empty decimal 93 c.args.numbers.now c.in-None.ensures.cases))) c.put.ensures
+
+pub returns-in_ok-put_spaced_numbers-in-Some : goal.returns-in_ok-put_spaced_numbers-in-Some
+returns-in_ok-put_spaced_numbers-in-Some c =
+    on_ok_weaker c.put-in-Some.result (λ e. closed_twice c.args.out.now.items _ _ _ (decimal c.in-Some.first.now) (spaced_numbers c.in-Some.rest.now) (93 ∷ []) _
+    c.in_ok-put_number-in-Some.ensures c.in_ok-put_spaced_numbers-in-Some.ensures (listed_first decimal 93 c.args.numbers.now c.in-Some.first.now c.in-Some.rest.now c.in-Some.ensures.cases.0) e) c.put-in-Some.ensures
