@@ -158,7 +158,7 @@ fn texts_and_their_tokens(rt: HostRuntime) {
             panic!(rt; "a fault in {:?}", text);
         };
         assert_eq!(rt; found.len(), expected.len(), "in {:?}", text);
-        for (at, (kind, from, to)) in expected.iter().enumerate() {
+        for (at, (kind, from, to)) in (0..found.len()).zip(expected) {
             let token = Token {
                 kind: *kind,
                 from: *from,

@@ -47,14 +47,8 @@ fn solve(
     ensures err { IfErr result (λ clash. Blames nodes.now classes.old todo.old clash) }
     ensures rewinds { rewound classes.new log.new ≡ rewound classes.old log.old }
 {
-    match close(alloc, nodes, classes, log, todo) {
-        Ok(()) => {}
-        Err(clash) => return Err(clash),
-    }
-    match settle(alloc, nodes, classes.as_slice()) {
-        Ok(()) => Ok(()),
-        Err(clash) => Err(clash),
-    }
+    close(alloc, nodes, classes, log, todo)?;
+    settle(alloc, nodes, classes.as_slice())
 }
 
 // Makes two places one. A refusal leaves what was known.
@@ -97,10 +91,8 @@ fn equate_in(alloc: Global, graph: &mut Graph, left: &Sort, right: &Sort) -> Res
 {
     let first = enter(alloc, graph, left)?;
     let second = enter(alloc, graph, right)?;
-    match join(alloc, graph, first, second) {
-        Ok(()) => Ok(()),
-        Err(clash) => Err(clash),
-    }
+    join(alloc, graph, first, second)?;
+    Ok(())
 }
 
 // The sort with the bound sorts put for its variables.

@@ -178,10 +178,7 @@ pub fn close(
     ensures rewinds { rewound classes.new log.new ≡ rewound classes.old log.old }
 {
     while let Some(pair) = todo.pop() {
-        match step(alloc, nodes, classes, log, todo, pair) {
-            Ok(()) => {}
-            Err(clash) => return Err(clash),
-        }
+        step(alloc, nodes, classes, log, todo, pair)?;
     }
     flatten(classes, log)?;
     Ok(())

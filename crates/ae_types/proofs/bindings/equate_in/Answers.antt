@@ -1,4 +1,5 @@
 use Rattle.std.proofs.Common.{◌∷◌, [], ◌≡◌, ◌∙◌, ap, sym, subst}
+use Rattle.std.proofs.lemmas.Result.{err_from_is_err_and}
 use Rattle.ae_types.specs.Inner.Enters.{sheet}
 use Rattle.ae_types.specs.Bound.{bound, IsSound}
 use Rattle.ae_types.specs.Substitutions.{Respects, MakesEqual}
@@ -23,19 +24,19 @@ returns-in_err-second-clause-refused c =
     (bound_kept (sheet c.args.graph.now) (sheet c.enter-2.new.graph) c.requires.sound
     (grows_trans (sheet c.args.graph.now) (sheet c.enter.new.graph) (sheet c.enter-2.new.graph) c.in_ok-first.ensures.grows c.in_err-second.ensures.grows))
 
-pub returns-in-Ok-clause-sound : goal.returns-in-Ok-clause-sound
-returns-in-Ok-clause-sound c =
+pub returns-clause-sound : goal.returns-clause-sound
+returns-clause-sound c =
     let t = sheet c.enter-2.new.graph in
     let g = grows_trans (sheet c.args.graph.now) (sheet c.enter.new.graph) t c.in_ok-first.ensures.grows c.in_ok-second.ensures.grows in
-    let e = c.in-Ok.ensures in
+    let e = c.in_ok-join.ensures in
     subst IsSound (sheets_same t (sheet c.join.new.graph) e.nodes e.names)
     (joined_sound t (grown_sound (sheet c.args.graph.now) t c.requires.sound g) c.join.new.graph.classes (record { left = c.in_ok-first.first; right = c.in_ok-second.second } ∷ []) e.closed e.settled)
 
-pub returns-in-Ok-clause-respected : goal.returns-in-Ok-clause-respected
-returns-in-Ok-clause-respected c = λ f.
+pub returns-clause-respected : goal.returns-clause-respected
+returns-clause-respected c = λ f.
     (let t = sheet c.enter-2.new.graph in
     let g = grows_trans (sheet c.args.graph.now) (sheet c.enter.new.graph) t c.in_ok-first.ensures.grows c.in_ok-second.ensures.grows in
-    let e = c.in-Ok.ensures in
+    let e = c.in_ok-join.ensures in
     subst (λ x. (Respects f (bound x) → Respects f (bound (sheet c.args.graph.now)) × MakesEqual f c.args.left.now c.args.right.now)
     × (Respects f (bound (sheet c.args.graph.now)) × MakesEqual f c.args.left.now c.args.right.now → Respects f (bound x)))
     (sheets_same t (sheet c.join.new.graph) e.nodes e.names)
@@ -43,26 +44,27 @@ returns-in-Ok-clause-respected c = λ f.
     (stands_more (sheet c.enter.new.graph) t c.args.left.now c.in_ok-first.first c.in_ok-first.ensures.grows.well c.in_ok-second.ensures.grows c.in_ok-first.ensures.ok) c.in_ok-second.ensures.ok
     c.join.new.graph.classes e.closed e.settled f))
 
-pub returns-in-Err-clause-sound : goal.returns-in-Err-clause-sound
-returns-in-Err-clause-sound c =
+pub returns-in_err-join-clause-sound : goal.returns-in_err-join-clause-sound
+returns-in_err-join-clause-sound c =
     let t = sheet c.enter-2.new.graph in
     let g = grows_trans (sheet c.args.graph.now) (sheet c.enter.new.graph) t c.in_ok-first.ensures.grows c.in_ok-second.ensures.grows in
-    let e = c.in-Err.ensures in
+    let e = c.in_err-join.ensures in
     subst IsSound (ap (λ xs. record { nodes = t.nodes; classes = xs; names = t.names }) (sym e.err) ∙ sheets_same t (sheet c.join.new.graph) e.nodes e.names)
     (grown_sound (sheet c.args.graph.now) t c.requires.sound g)
 
-pub returns-in-Err-clause-refused : goal.returns-in-Err-clause-refused
-returns-in-Err-clause-refused c = λ n.
-    (let t = sheet c.enter-2.new.graph in
+pub returns-in_err-join-clause-refused : goal.returns-in_err-join-clause-refused
+returns-in_err-join-clause-refused c = on_err c.from_residual-in_err-join.result _ (λ n.
+    let t = sheet c.enter-2.new.graph in
     let g = grows_trans (sheet c.args.graph.now) (sheet c.enter.new.graph) t c.in_ok-first.ensures.grows c.in_ok-second.ensures.grows in
-    let e = c.in-Err.ensures in
+    let e = c.in_err-join.ensures in
     subst (λ x. bound x n ≡ bound (sheet c.args.graph.now) n) (ap (λ xs. record { nodes = t.nodes; classes = xs; names = t.names }) (sym e.err) ∙ sheets_same t (sheet c.join.new.graph) e.nodes e.names)
     (bound_kept (sheet c.args.graph.now) t c.requires.sound g n))
 
-pub returns-in-Err-clause-blamed : goal.returns-in-Err-clause-blamed
-returns-in-Err-clause-blamed c =
+pub returns-in_err-join-clause-blamed : goal.returns-in_err-join-clause-blamed
+returns-in_err-join-clause-blamed c =
+    let p = err_from_is_err_and c.from_residual-in_err-join.result c.from_residual-in_err-join.ensures.1 in
     let t = sheet c.enter-2.new.graph in
     let g = grows_trans (sheet c.args.graph.now) (sheet c.enter.new.graph) t c.in_ok-first.ensures.grows c.in_ok-second.ensures.grows in
-    blamed_pair (sheet c.args.graph.now) t c.requires.sound g c.args.left.now c.args.right.now c.in_ok-first.first c.in_ok-second.second
+    rw (p.1, p.2) (blamed_pair (sheet c.args.graph.now) t c.requires.sound g c.args.left.now c.args.right.now c.in_ok-first.first c.in_ok-second.second
     (stands_more (sheet c.enter.new.graph) t c.args.left.now c.in_ok-first.first c.in_ok-first.ensures.grows.well c.in_ok-second.ensures.grows c.in_ok-first.ensures.ok) c.in_ok-second.ensures.ok
-    c.in-Err.clash c.in-Err.ensures.blamed
+    c.in_err-join.field-0.0 c.in_err-join.ensures.blamed)

@@ -1,4 +1,5 @@
 use Rattle.std.proofs.Common.{rules, ◌≡◌, [], ◌∙◌, subst}
+use Rattle.std.proofs.lemmas.Result.{err_from_is_err_and}
 use Rattle.ae_types.specs.Inner.Joins.{Closing}
 use Rattle.ae_types.proofs.JoinLaws.{closing, closing_shortened, last_pair, blamed}
 use Rattle.ae_types.proofs.joins.close.Goals as goal
@@ -15,14 +16,15 @@ step-requires-clause-todo c = (last_pair _ c.pop.new.self c.loop-pair.todo c.in-
 pub loop-pair-preserved : goal.loop-pair-preserved
 loop-pair-preserved c = record {
   closing = closing c.args.nodes.now c.args.classes.now c.loop-pair.classes c.step.new.classes c.args.todo.now c.pop.new.self c.loop-pair.todo c.step.new.todo c.in-Some.pair
-      c.in-Some.ensures c.loop-pair.invariant.closing c.in-Ok.ensures.ok;
-  rewinds = c.in-Ok.ensures.rewinds ∙ c.loop-pair.invariant.rewinds;
+      c.in-Some.ensures c.loop-pair.invariant.closing c.in_ok-step.ensures.ok;
+  rewinds = c.in_ok-step.ensures.rewinds ∙ c.loop-pair.invariant.rewinds;
 }
 
-pub returns-in-Err-clause-err : goal.returns-in-Err-clause-err
-returns-in-Err-clause-err c =
-    blamed c.args.nodes.now c.args.classes.now c.loop-pair.classes c.args.todo.now c.pop.new.self c.loop-pair.todo c.in-Some.pair c.in-Err.clash
-    c.in-Some.ensures c.loop-pair.invariant.closing c.in-Err.ensures.err
+pub returns-in_err-step-clause-err : goal.returns-in_err-step-clause-err
+returns-in_err-step-clause-err c =
+    let p = err_from_is_err_and c.from_residual.result c.from_residual.ensures.1 in
+    rw (p.1, p.2) (blamed c.args.nodes.now c.args.classes.now c.loop-pair.classes c.args.todo.now c.pop.new.self c.loop-pair.todo c.in-Some.pair c.in_err-step.field-0.0
+    c.in-Some.ensures c.loop-pair.invariant.closing c.in_err-step.ensures.err)
 
 pub returns-clause-ok : goal.returns-clause-ok
 returns-clause-ok c =
