@@ -1,5 +1,5 @@
 -- Lists as the writers put them: a blank before each value, and what closes the list.
-use Rattle.std.proofs.Common.{ℕ, ℤ, List, [], ◌∷◌, ◌++◌, ◌≡◌, Bool, true, false, not, ◌&&◌, suc, map, decimal, length, arith, sym, ap, ◌∙◌, append_assoc, append-nil, refl, codes}
+use Rattle.std.proofs.Common.{ℕ, List, [], ◌∷◌, ◌++◌, ◌≡◌, Bool, true, false, not, ◌&&◌, suc, map, decimal, length, arith, sym, ap, ◌∙◌, append_assoc, append-nil, refl}
 use Rattle.std.specs.List.{flat_map}
 use Rattle.std.specs.Bool.{◌==◌}
 use Rattle.std.proofs.lemmas.Bool.{eqb-true, eq-eqb}

@@ -1,10 +1,10 @@
 -- What the tables of words give back: the word of what a word names is that word.
-use Rattle.std.specs.Prelude.{ℕ, ◌⊎◌, Bool, true, false, not, cond, List, [], ◌∷◌, ◌++◌, ◌≡◌, map, Some}
+use Rattle.std.specs.Prelude.{ℕ, ◌⊎◌, Bool, true, false, not, cond, List, [], ◌∷◌, ◌≡◌, map, Some}
 use Rattle.std.specs.List.{find, filter}
 use Rattle.std.specs.Str.{bytes_eq}
 use Rattle.std.proofs.lemmas.Bool.{not-true}
 use Rattle.std.proofs.lemmas.Slice.Eq.{bytes_eq-Decides}
-use mathlib.Core.Path.{refl, sym, ap, ◌∙◌, subst}
+use mathlib.Core.Path.{refl, sym}
 use mathlib.Core.Logic.{inl, inr}
 use Rattle.ae_base.specs.Options.{or_else}
 use Rattle.ae_codes.specs.Names.{In}

@@ -1,5 +1,5 @@
 -- The words of a signature: how texts name its types, symbols, records and fields, and which word names what.
-use Rattle.std.specs.Prelude.{ℕ, zero, suc, ◌⊎◌, Bool, true, false, not, cond, nat_eq, List, [], ◌∷◌, ◌++◌, ◌≡◌, length, map, slice_get, Option, Some, None, codes}
+use Rattle.std.specs.Prelude.{ℕ, Bool, false, not, nat_eq, List, [], ◌∷◌, ◌++◌, length, map, slice_get, Some, codes}
 use Rattle.std.specs.List.{find, filter, flat_map, range_with_len}
 use Rattle.std.specs.Str.{bytes_eq}
 use Rattle.ae_base.specs.Options.{or_else, ◌>>=◌}

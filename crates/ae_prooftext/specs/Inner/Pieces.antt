@@ -1,5 +1,5 @@
 -- What the writers put one after another: the same texts, cut where a writer calls another.
-use Rattle.std.specs.Prelude.{ℕ, ℤ, Bool, true, false, cond, not, ◌&&◌, length, List, [], ◌∷◌, ◌++◌, map, decimal, codes}
+use Rattle.std.specs.Prelude.{ℕ, ℤ, Bool, cond, not, ◌&&◌, length, List, [], ◌∷◌, ◌++◌, map, decimal, codes}
 use Rattle.std.specs.List.{flat_map}
 use Rattle.std.specs.Fmt.{signed_decimal}
 use Rattle.std.specs.Bool.{◌==◌}

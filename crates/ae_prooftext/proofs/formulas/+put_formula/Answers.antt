@@ -1,7 +1,7 @@
 use Rattle.std.proofs.Common.{◌≡◌, ◌++◌, List, ℕ, sym, ap, ◌∙◌, codes}
 use Rattle.std.proofs.lemmas.Result.{on_ok_weaker}
 use Rattle.ae_core.specs.declared.problems.Signature.{Signature}
-use Rattle.ae_core.specs.declared.formulas.Formula.{Formula, And, Or, Xor, Iff}
+use Rattle.ae_core.specs.declared.formulas.Formula.{Formula}
 use Rattle.ae_prooftext.specs.Texts.{formula_text}
 use Rattle.ae_prooftext.specs.Inner.Pieces.{left_bytes, right_bytes}
 use Rattle.ae_prooftext.proofs.Pieces.{closed}

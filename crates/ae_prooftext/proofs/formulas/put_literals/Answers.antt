@@ -1,7 +1,6 @@
-use Rattle.std.proofs.Common.{ℕ, List, [], ◌∷◌, ◌++◌, sym, ap, ◌∙◌}
+use Rattle.std.proofs.Common.{[], ◌∷◌, ◌++◌, sym, ap, ◌∙◌}
 use Rattle.std.proofs.lemmas.Result.{on_ok_weaker}
 use Rattle.ae_prooftext.specs.Texts.{literal_text}
-use Rattle.ae_prooftext.specs.Words.{type_names}
 use Rattle.ae_prooftext.specs.Inner.Pieces.{spaced_literals}
 use Rattle.ae_prooftext.proofs.Pieces.{listed_empty, listed_first, closed_twice}
 use Rattle.ae_prooftext.proofs.formulas.put_literals.Goals as goal

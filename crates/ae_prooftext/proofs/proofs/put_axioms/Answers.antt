@@ -1,5 +1,4 @@
 use Rattle.std.proofs.Common.{codes}
-use Rattle.std.specs.Prelude.{◌++◌}
 use Rattle.std.proofs.lemmas.Result.{on_ok_weaker}
 use Rattle.ae_prooftext.specs.Inner.Pieces.{numbers_bytes}
 use Rattle.ae_prooftext.proofs.Pieces.{closed_twice}

@@ -1,4 +1,4 @@
-use Rattle.std.proofs.Common.{length, ◌++◌, ◌≡◌, List, ℕ, Bool, true, false, sym, ap, ◌∙◌}
+use Rattle.std.proofs.Common.{◌++◌, ◌≡◌, List, true, false, sym, ap, ◌∙◌}
 use Rattle.std.proofs.lemmas.Result.{on_ok_weaker}
 use Rattle.ae_core.specs.declared.problems.Signature.{Signature}
 use Rattle.ae_core.specs.declared.terms.Sort.{Sort}
