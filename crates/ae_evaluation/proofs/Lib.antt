@@ -24,7 +24,7 @@ mod Exhausted
 mod PutForms
 mod Substitution
 mod Truths
-mod Literals
+pub mod Literals
 mod PutTruth
 mod GroundBlocks
 mod FreshValues

@@ -11,3 +11,4 @@ mod Decide
 mod Tests
 mod Overlaps
 mod WholeValues
+mod TwoEquations
