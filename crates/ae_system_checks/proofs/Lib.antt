@@ -12,3 +12,4 @@ mod Tests
 mod Overlaps
 mod WholeValues
 mod TwoEquations
+mod SaturatedTests

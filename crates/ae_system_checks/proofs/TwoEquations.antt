@@ -390,12 +390,12 @@ signs =
     each_literal (λ l. sign_of (tag l.formula) ≡ l.positive) (ap sign_of (tag_or _ _)) (ap sign_of (tag_eq (u 0 1) (constant 2) ∙ spot_u 0 1))
     (ap sign_of (tag_or _ _)) (ap sign_of (tag_eq (u 0 3) (constant 4) ∙ spot_u 0 3)) (ap sign_of (tag_eq (u 2 3) (u 4 1) ∙ spot_u 2 3))
 
-not_itself : (c : Bool) → c ≡ not c → ⊥
-not_itself true e = cc
-not_itself false e = cc
-
 consistent : (l : Lit) → Contains literals l → Contains literals (opposite l) → ⊥
 consistent l i j = not_itself l.positive (sym (signs l i) ∙ signs (opposite l) j)
+  where
+    not_itself : (c : Bool) → c ≡ not c → ⊥
+    not_itself true e = cc
+    not_itself false e = cc
 
 -- ---- the terms in them
 outside_or : (f g : Formula) → outside (Or f g) ≡ outside f ++ outside g
