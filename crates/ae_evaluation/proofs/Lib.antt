@@ -1,6 +1,6 @@
 mod Facts
 pub mod Decisions
-mod Sums
+pub mod Sums
 mod Linear
 mod Congruence
 pub mod Plainness
