@@ -2,7 +2,7 @@
 use Rattle.std.specs.Prelude.{ℕ, zero, suc, Bool, true, false, not, cond, nat_eq, nat_lt, ◌≡◌, ◌≢◌, List, [], ◌∷◌, ◌++◌, slice_get, Option, Some, None}
 use Rattle.std.specs.List.{AllByRecursion, Contains}
 use Rattle.std.proofs.Common.{inl, inr}
-use Rattle.std.proofs.lemmas.Bool.Decides.{nat_tests}
+use Rattle.std.proofs.lemmas.Bool.{ltb-true}
 use Rattle.std.proofs.lemmas.Option.{same_Some}
 use mathlib.Core.Path.{refl, sym, ap, subst, ◌∙◌}
 use native.Mathlib.Omega.{arith}
@@ -444,9 +444,6 @@ no_not_second = literal_not false second ∙ literal_eq true (u 0 3) (constant 4
 no_last : no_of last ≡ is_false last
 no_last = literal_eq false (u 2 3) (u 4 1)
 
-not_below : (k : ℕ) → nat_lt k 0 ≡ false
-not_below k = grind (arith, nat_tests)
-
 true_is_not_false : false ≡ true → ⊥
 true_is_not_false e = cc
 
@@ -454,7 +451,7 @@ no_hypothesis : (k : ℕ) (ss : List Sort) (f : Formula) → hypothesis problem 
 no_hypothesis k ss f e =
     let b = bind_some (only (nat_lt k 0) (slice_get problem.items k)) _ f e in
     let o = only_some (nat_lt k 0) (slice_get problem.items k) b.0 b.1 in
-    true_is_not_false (sym (not_below k) ∙ o.0)
+    let z = ltb-true k 0 o.0 in omega (arith, z)
 
 firsts : (l : Lit) → IsFirst problem 0 state l → Contains literals l
 firsts l (of_hypothesis k f e) = absurd (no_hypothesis k [] f e)
@@ -569,7 +566,7 @@ no_axiom : (k : ℕ) (q : Pattern) → pattern_of problem 0 (of_axiom k) ≡ Som
 no_axiom k q e =
     let b = bind_some (only (nat_lt k 0) (slice_get problem.items k)) _ q e in
     let o = only_some (nat_lt k 0) (slice_get problem.items k) b.0 b.1 in
-    true_is_not_false (sym (not_below k) ∙ o.0)
+    let z = ltb-true k 0 o.0 in omega (arith, z)
 
 reached : (n : ℕ) (l : Lit) → Comes problem 0 state (λ m. m) (HasGeneration problem 0 state (λ m. m) n) l → Contains literals l
 reached n l (comes_first a b) = b
