@@ -1,6 +1,6 @@
 mod Facts
 pub mod Decisions
-mod Sums
+pub mod Sums
 mod Linear
 mod Congruence
 pub mod Plainness
@@ -24,7 +24,7 @@ mod Exhausted
 mod PutForms
 mod Substitution
 mod Truths
-mod Literals
+pub mod Literals
 mod PutTruth
 mod GroundBlocks
 mod FreshValues

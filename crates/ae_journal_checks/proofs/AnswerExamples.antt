@@ -1,6 +1,6 @@
 -- Journals and widths that are answers, and some that are none.
-use Rattle.std.specs.Prelude.{ℕ, pos, false, ◌≡◌, List, [], ◌∷◌, Some, None}
-use Rattle.std.proofs.Common.{inl}
+use Rattle.std.specs.Prelude.{ℕ, pos, false, ◌≡◌, List, [], ◌∷◌, Some, None, ◌++◌, ◌⊎◌, length, Option}
+use Rattle.std.proofs.Common.{inl, inr}
 use Rattle.std.proofs.Math.Nat.{one-dvd}
 use Rattle.std.proofs.lemmas.Option.{same_Some}
 use Rattle.std.specs.List.{Contains}
@@ -23,17 +23,19 @@ use Rattle.ae_num.specs.Forms.{IsNormal}
 use Rattle.ae_journal.specs.Legal.{IsLegalJournal, setting}
 use Rattle.ae_journal.specs.Licences.{IsLicensed, IsLicensedStep}
 use Rattle.ae_journal.specs.Licences.IsLicensedPlus.{of_sum}
-use Rattle.ae_journal.specs.Licences.IsLicensedStep.{a_plus}
+use Rattle.ae_journal.specs.Licences.IsLicensedStep.{a_plus, a_scale, a_subst, a_combine, put_constant, make_bound, two_bounds, beyond_bound, take_mean}
+use Rattle.ae_journal.specs.declared.answers.NumStep.{NumStep}
+use Rattle.ae_journal.specs.declared.lines.Line.{Line}
 use Rattle.ae_journal.specs.Standing.{Setting, IsFormula, IsEntered, value_now}
 use Rattle.ae_journal.specs.Standing.IsBrought.{by_goal}
 use Rattle.ae_journal.specs.Standing.IsEntered.{of_formula}
 use Rattle.ae_journal.specs.Standing.IsFormula.{of_clause}
 use Rattle.ae_journal.specs.TermValues.{value_by, value_step}
-use Rattle.ae_journal.specs.Values.{Val, constant_val, sum_in}
+use Rattle.ae_journal.specs.Values.{Val, Sum, constant_val, sum_in, sum_of_lin}
 use Rattle.ae_journal.specs.declared.answers.NumStep.TheVariants as step
 use Rattle.ae_journal.proofs.Splits.{contains_here}
 use Rattle.ae_journal_checks.specs.Examples.{greatest, numeral, sum_goal, sum_problem, empty_story, sum_of, whole, signature}
-use Rattle.ae_journal_checks.specs.Laws.{StepsAnswer, OtherLimitIsRefused, RepetitionIsRefused, WidthAnswers, NoWidthIsRefused, EmptyProofIsRefused}
+use Rattle.ae_journal_checks.specs.Laws.{StepsAnswer, OtherLimitIsRefused, RepetitionIsRefused, WidthAnswers, NoWidthIsRefused, NamelessCombinationIsRefused, EmptyProofIsRefused}
 use Rattle.ae_journal_checks.proofs.Entered.{outside_eq}
 use Rattle.ae_journal_checks.proofs.NoBlocks.{NoBlock, equation, own_constants, no_name}
 use Rattle.ae_journal_checks.proofs.RuleJournal.{no_line, one_rule_is_legal, repeated_rule_is_refused}
@@ -113,6 +115,28 @@ width_answers bound = record { legal = legal bound; within = omega arith; licens
 
 pub no_width_is_refused : NoWidthIsRefused
 no_width_is_refused p g limit bound journal a = never_some (sum_of (pos 1)).wide (a.licensed.wide)
+
+-- the two rows of a combination share a name
+no_names : (x : Setting) (js : List Line) (s : NumStep) (f : Sum) (k : Option ℕ) (h : Sum) → IsLicensedStep x js s f k h → s ≡ step.Combine
+    → length x.names ≡ 0 → ⊥
+no_names x js _ f _ h (a_combine a b _ _ n c) e z = omega (arith, (c.largest).0.0, z)
+no_names x js _ f _ h (a_plus _ _ c) e z = cc
+no_names x js _ f _ _ (a_scale _ q c) e z = cc
+no_names x js _ f _ h (a_subst _ _ n c) e z = cc
+no_names x js _ f _ _ (put_constant cs n k strict row _ a b c d i) e z = cc
+no_names x js _ _ _ _ (make_bound cs n factor rest q a b c) e z = cc
+no_names x js _ _ _ _ (two_bounds cs n a b p q r c d g i) e z = cc
+no_names x js _ _ _ _ (beyond_bound cs n a p q c d g) e z = cc
+no_names x js _ _ _ _ (take_mean cs n p q c d g) e z = cc
+
+pub nameless_combination_is_refused : NamelessCombinationIsRefused
+nameless_combination_is_refused p g limit bound lines w e a = go a.licensed.forms
+  where
+    go : IsLicensedStep (setting p g (record { names = []; lines = lines }) (a.legal).fresh) lines w.step (sum_of_lin w.left) w.key (sum_of_lin w.right)
+        ⊎ ((before : List Line) × (last : Line) × (lines ≡ before ++ last ∷ [])
+        × IsLicensedStep (setting p g (record { names = []; lines = lines }) (a.legal).fresh) before w.step (sum_of_lin w.left) w.key (sum_of_lin w.right)) → ⊥
+    go (inl s) = no_names _ lines w.step _ w.key _ s e refl
+    go (inr (before, last, q, s)) = no_names _ before w.step _ w.key _ s e refl
 
 pub empty_proof_is_refused : EmptyProofIsRefused
 empty_proof_is_refused p g limit bound d = never_some [] d.empty

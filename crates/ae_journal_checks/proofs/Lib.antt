@@ -7,3 +7,4 @@ pub mod InstanceLine
 pub mod LearntJournal
 pub mod BackJournal
 mod AnswerExamples
+mod RefusedLines

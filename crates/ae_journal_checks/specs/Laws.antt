@@ -1,9 +1,20 @@
 -- The laws, as statements.
-use Rattle.std.specs.Prelude.{ℕ, pos, ◌<◌, [], ◌∷◌, ◌≡◌, ◌≢◌}
+use Rattle.std.specs.Prelude.{ℕ, pos, ◌<◌, ◌≤◌, Bool, List, [], ◌∷◌, ◌++◌, ◌≡◌, ◌≢◌}
+use Rattle.ae_math.specs.Fractions.{zero_ℚ}
+use Rattle.ae_num.specs.declared.forms.Lin.{Lin}
+use Rattle.ae_num.specs.declared.forms.Value.{Value}
+use Rattle.ae_journal.specs.Values.{Sum, Vals, number, leaf, fields, leaf_factor, meaning}
+use Rattle.ae_journal.specs.Standing.{Setting}
+use Rattle.ae_journal.specs.Rows.{MayCombine}
+use Rattle.ae_journal.specs.SolverLines.{MayOrientName}
+use Rattle.ae_journal.specs.declared.lines.Line.{Line}
+use Rattle.ae_journal.specs.declared.lines.Line.TheVariants as line
 use Rattle.ae_core.specs.declared.problems.Problem.{Problem}
 use Rattle.ae_core.specs.declared.formulas.Formula.{Formula}
 use Rattle.ae_journal.specs.Journals.{counted_in}
 use Rattle.ae_journal.specs.Answers.{IsAnswer}
+use Rattle.ae_journal.specs.declared.answers.NumStep.TheVariants as step
+use Rattle.ae_journal.specs.declared.answers.WideAt.{WideAt}
 use Rattle.ae_journal.specs.declared.answers.Answer.TheVariants.{Valid, Steps, Number}
 use Rattle.ae_journal.specs.declared.lines.Story.{Story}
 use Rattle.ae_journal.specs.Legal.{IsLegalLine, AreLegal, IsLegalJournal, setting}
@@ -59,6 +70,30 @@ WidthAnswers = (bound : ℕ) → IsAnswer sum_problem 0 0 bound (Number empty_st
 abbrev pub NoWidthIsRefused : Type 0
 NoWidthIsRefused = (p : Problem) (g limit bound : ℕ) (journal : Story) → ¬ IsAnswer p g limit bound (Number journal (sum_of (pos 1)))
 
+-- without names no two rows can be combined, whatever forms are given
+abbrev pub NamelessCombinationIsRefused : Type 0
+NamelessCombinationIsRefused =
+    (p : Problem) (g limit bound : ℕ) (lines : List Line) (w : WideAt) → w.step ≡ step.Combine
+    → ¬ IsAnswer p g limit bound (Number (record { names = []; lines = lines }) w)
+
 -- no list of lines without one is a derivation
 abbrev pub EmptyProofIsRefused : Type 0
 EmptyProofIsRefused = (p : Problem) (g limit bound : ℕ) → ¬ IsAnswer p g limit bound (Valid (record { lines = [] }))
+
+-- ---- lines that their rules refuse, whatever the journal
+-- a name doesn't get a leaf that isn't smaller
+abbrev pub NoLargerLeaf : Type 0
+NoLargerLeaf = (x : Setting) (js : List Line) (n m : ℕ) (v : Value) → meaning v ≡ leaf m → n ≤ m → ¬ MayOrientName x js n v
+
+-- a name doesn't get a sum in which it stands
+abbrev pub NoSumWithItself : Type 0
+NoSumWithItself =
+    (x : Setting) (js : List Line) (n : ℕ) (v : Value) (f : Sum) → meaning v ≡ number f → leaf_factor f.parts n ≢ zero_ℚ → ¬ MayOrientName x js n v
+
+-- a name doesn't get a record's value: its fields are solved one by one
+abbrev pub NoRecordIsSolved : Type 0
+NoRecordIsSolved = (x : Setting) (js : List Line) (n : ℕ) (v : Value) (vs : Vals) → meaning v ≡ fields vs → ¬ MayOrientName x js n v
+
+-- a combination isn't noted again after itself, strict or not
+abbrev pub NoSecondCombination : Type 0
+NoSecondCombination = (x : Setting) (js : List Line) (a b : Bool) (f : Lin) → ¬ MayCombine x (js ++ line.Combine a f ∷ []) b f

@@ -1,6 +1,7 @@
 //! Laws of examples.
 ghost use Rattle.ae_journal_checks.specs.Laws.{OneRuleIsLegal, RepeatedRuleIsRefused, NothingIsCounted, FourLinesAreLegal, OneDecisionIsLegal, OneInstanceMayCome, OneLearntClauseIsLegal, GoingBackIsLegal};
-ghost use Rattle.ae_journal_checks.specs.Laws.{StepsAnswer, OtherLimitIsRefused, RepetitionIsRefused, WidthAnswers, NoWidthIsRefused, EmptyProofIsRefused};
+ghost use Rattle.ae_journal_checks.specs.Laws.{StepsAnswer, OtherLimitIsRefused, RepetitionIsRefused, WidthAnswers, NoWidthIsRefused, NamelessCombinationIsRefused, EmptyProofIsRefused};
+ghost use Rattle.ae_journal_checks.specs.Laws.{NoLargerLeaf, NoSumWithItself, NoRecordIsSolved, NoSecondCombination};
 
 /// A journal of one rule is legal, with one counted line.
 pub fn one_rule_is_legal()
@@ -49,13 +50,26 @@ pub fn journals_answer()
     ensures repetition { RepetitionIsRefused }
 {}
 
-/// A sum of the operands of a named sum is an answer where it leaves the limits, and only there.
+/// A sum of the operands of a named sum is an answer where it leaves the limits, and only there. Without names no combination is one.
 pub fn widths_answer()
     ensures accepted { WidthAnswers }
     ensures within { NoWidthIsRefused }
+    ensures nameless { NamelessCombinationIsRefused }
 {}
 
 /// A proof without lines is no answer.
 pub fn empty_proofs_do_not_answer()
     ensures { EmptyProofIsRefused }
+{}
+
+/// What a name doesn't get by an `Orient` line.
+pub fn values_of_names_are_refused()
+    ensures larger_leaf { NoLargerLeaf }
+    ensures itself_in_sum { NoSumWithItself }
+    ensures records { NoRecordIsSolved }
+{}
+
+/// A combination of rows isn't noted again after itself.
+pub fn second_combination_is_refused()
+    ensures { NoSecondCombination }
 {}

@@ -20,6 +20,7 @@ use Rattle.ae_system_checks.specs.Clauses.{Part, Clause, FailsAlone, HasLeaves, 
 use Rattle.ae_system_checks.specs.Clauses.Part.{terms, leaves, computing, records, congruence, rules, reduction, overlaps, joins}
 use Rattle.ae_system_checks.specs.Examples.{signature, T, pair, rule, overlapping, second_leaf, equated, crossed, single_left, reducible, apart}
 use Rattle.ae_system_checks.specs.Laws.{NineClauses, LeafOfOther}
+use Rattle.ae_system_checks.proofs.Facts.{T_fields}
 use Rattle.ae_system_checks.proofs.Entries.{of_two}
 use Rattle.ae_system_checks.proofs.Symbols.{computed_of, records_of, own_leaf, leaf_tells}
 use Rattle.ae_system_checks.proofs.Rules.{of_two_rules, two_reduced, one_reduced, one_overlap, none_fit, none_reduced, none_overlap, stays, by_rule}
@@ -71,8 +72,8 @@ pair_others : (m n : ℕ) (rs : List RuleEntry) (missing : Part) → (leaves ≢
     → (part : Part) → part ≢ missing → Clause signature (pair m n rs) part
 pair_others m n rs missing l r d o terms not = pair_terms m n rs
 pair_others m n rs missing l r d o leaves not = l not
-pair_others m n rs missing l r d o computing not = computed_of (pair m n rs) (of_leaves m n rs)
-pair_others m n rs missing l r d o records not = records_of (pair m n rs) (of_leaves m n rs)
+pair_others m n rs missing l r d o computing not = computed_of signature T_fields (pair m n rs) (of_leaves m n rs)
+pair_others m n rs missing l r d o records not = records_of signature T_fields (pair m n rs) (of_leaves m n rs)
 pair_others m n rs missing l r d o congruence not = pair_congruent m n rs
 pair_others m n rs missing l r d o rules not = r not
 pair_others m n rs missing l r d o reduction not = d not
@@ -83,8 +84,8 @@ pair_all : (m n : ℕ) (rs : List RuleEntry) → HasLeaves signature (pair m n r
     → AllOverlapsJoin signature (pair m n rs) → (part : Part) → Clause signature (pair m n rs) part
 pair_all m n rs l r d o terms = pair_terms m n rs
 pair_all m n rs l r d o leaves = l
-pair_all m n rs l r d o computing = computed_of (pair m n rs) (of_leaves m n rs)
-pair_all m n rs l r d o records = records_of (pair m n rs) (of_leaves m n rs)
+pair_all m n rs l r d o computing = computed_of signature T_fields (pair m n rs) (of_leaves m n rs)
+pair_all m n rs l r d o records = records_of signature T_fields (pair m n rs) (of_leaves m n rs)
 pair_all m n rs l r d o congruence = pair_congruent m n rs
 pair_all m n rs l r d o rules = r
 pair_all m n rs l r d o reduction = d
@@ -94,7 +95,7 @@ pair_all m n rs l r d o joins = pair_joins m n rs
 without_rules : (m n : ℕ) → HasLeaves signature (pair m n []) → IsCompleted signature (pair m n [])
 without_rules m n l =
     completed_of signature (pair m n [])
-    (pair_all m n [] l (none_fit (pair m n []) no_entry) (none_reduced (pair m n []) no_entry) (none_overlap (pair m n []) no_entry))
+    (pair_all m n [] l (none_fit signature (pair m n []) no_entry) (none_reduced signature (pair m n []) no_entry) (none_overlap signature (pair m n []) no_entry))
 
 pub equated_completed : IsCompleted signature equated
 equated_completed = without_rules 0 0 (pair_leaves 0 0 [] (leaf_0 [] 0) (leaf_0 [] 0))
@@ -139,7 +140,7 @@ overlapping_completed =
 pub crossed_fails : FailsAlone signature crossed leaves
 crossed_fails = (
   λ h. no_leaf ((h.over T (leaf 1) 0 (first_has 1 0 [])).2),
-  pair_others 1 0 [] leaves (λ n. absurd (n refl)) (λ n. none_fit crossed no_entry) (λ n. none_reduced crossed no_entry) (λ n. none_overlap crossed no_entry),
+  pair_others 1 0 [] leaves (λ n. absurd (n refl)) (λ n. none_fit signature crossed no_entry) (λ n. none_reduced signature crossed no_entry) (λ n. none_overlap signature crossed no_entry),
 )
   where
     no_leaf : IsLeaf signature crossed T 1 → ⊥

@@ -1,5 +1,5 @@
 -- The entries of short lists, one by one.
-use Rattle.std.specs.Prelude.{ℕ, zero, suc, ◌≡◌, [], ◌∷◌, slice_get, Some}
+use Rattle.std.specs.Prelude.{ℕ, zero, suc, ◌≡◌, [], ◌∷◌, slice_get, Some, List}
 use Rattle.std.proofs.lemmas.Option.{same_Some}
 use mathlib.Core.Path.{subst}
 use Rattle.ae_evaluation.proofs.ExampleSystem.{no_entry}
@@ -27,3 +27,13 @@ of_four w x y z P o p q r (suc zero) e i = subst (P 1) (same_Some x e i) p
 of_four w x y z P o p q r (suc (suc zero)) e i = subst (P 2) (same_Some y e i) q
 of_four w x y z P o p q r (suc (suc (suc zero))) e i = subst (P 3) (same_Some z e i) r
 of_four w x y z P o p q r (suc (suc (suc (suc k)))) e i = absurd (no_entry k e i)
+
+-- something for each place of a list
+abbrev pub AllAt : {A : Type 0} → List A → (ℕ → A → Type 0) → Type 0
+AllAt [] P = Unit {0}
+AllAt (x ∷ xs) P = P 0 x × AllAt xs (λ k. P (suc k))
+
+pub places : {A : Type 0} (xs : List A) (P : ℕ → A → Type 0) → AllAt xs P → (k : ℕ) (e : A) → slice_get xs k ≡ Some e → P k e
+places [] P a k e i = absurd (no_entry k e i)
+places (x ∷ xs) P a zero e i = subst (P 0) (same_Some x e i) a.0
+places (x ∷ xs) P a (suc k) e i = places xs (λ k. P (suc k)) a.1 k e i

@@ -56,7 +56,7 @@ not_numeric =
 pub constant_sort : (n : ℕ) → head_sort signature (head.Symbol n) [] [] ≡ Some T → sort_of signature (Apply (head.Symbol n) [] []) ≡ Some T
 constant_sort n e = sort-Apply signature (head.Symbol n) [] [] ∙ e
 
-constant_result : (only (same_sorts [] []) (Some T) >>= λ s. Some (put_sort [] s)) ≡ Some T
+pub constant_result : (only (same_sorts [] []) (Some T) >>= λ s. Some (put_sort [] s)) ≡ Some T
 constant_result = ap (λ c. only c (Some T) >>= λ s. Some (put_sort [] s)) (yes_sorts []) ∙ ap (λ (s : Sort). Some s) put_T
 
 pub a_sort : sort_of signature a ≡ Some T
@@ -98,9 +98,9 @@ sorted_is_no_predicate sig t s e (p, ss, us, d, ok) =
     never_some s (sym (no_result sig p ss us ok ss) ∙ result_is sig (head.Symbol p) ss i.args s i.headed)
 
 -- a term of a sort without fields is no record
-pub no_record : (t : Term) (o s : Sort) (ss : List Sort) → record_fields signature o ≡ None → sort_of signature t ≡ Some o
-    → sort_of signature t ≡ Some s → record_fields signature s ≡ Some ss → ⊥
-no_record t o s ss n d e g = never_some ss (sym n ∙ ap (record_fields signature) (same_Some o s (sym d ∙ e)) ∙ g)
+pub no_record : (sig : Signature) (t : Term) (o s : Sort) (ss : List Sort) → record_fields sig o ≡ None → sort_of sig t ≡ Some o
+    → sort_of sig t ≡ Some s → record_fields sig s ≡ Some ss → ⊥
+no_record sig t o s ss n d e g = never_some ss (sym n ∙ ap (record_fields sig) (same_Some o s (sym d ∙ e)) ∙ g)
 
 -- ---- applications
 same_layer : (h i : Head) (ss ts : List Sort) (us vs : List Term) → Apply h ss us ≡ Apply i ts vs → layer.Apply h ss us ≡ layer.Apply i ts vs

@@ -11,3 +11,5 @@ mod Decide
 mod Tests
 mod Overlaps
 mod WholeValues
+mod TwoEquations
+mod SaturatedTests

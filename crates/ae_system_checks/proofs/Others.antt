@@ -74,18 +74,18 @@ none_some : {A : Type 0} (v : Val) → ◌≡◌ {A = Option Val} None (Some v) 
 none_some v e = never_some v e
 
 -- ---- one term with two names
-named_twice_leaves : IsOfLeaves named_twice
+named_twice_leaves : IsOfLeaves signature named_twice
 named_twice_leaves = record {
   lengths = refl;
   symbol =
-      of_two a a (λ k t. IsSymbolTerm t) (record { number = 0; args = []; is = refl; sort = a_sort })
+      of_two a a (λ k t. IsSymbolTerm signature t) (record { number = 0; args = []; is = refl; sort = a_sort })
       (record { number = 0; args = []; is = refl; sort = a_sort });
   leaf = of_two (Leaf 0) (Leaf 0) (λ k v. (j : ℕ) × (v ≡ Leaf j)) (0, refl) (0, refl);
 }
 
 named_twice_others : (part : Part) → part ≢ terms → Clause signature named_twice part
 named_twice_others terms n = absurd (n refl)
-named_twice_others leaves n = leaves_of named_twice named_twice_leaves is_leaf
+named_twice_others leaves n = leaves_of signature T_fields named_twice named_twice_leaves is_leaf
   where
     only : IsLeaf signature named_twice T 0
     only = make_leaf named_twice 0 a refl a_sort (ap (λ (v : Val). Some v) (leaf_at 0))
@@ -94,15 +94,15 @@ named_twice_others leaves n = leaves_of named_twice named_twice_leaves is_leaf
     is_leaf zero m e = at_leaf named_twice 0 0 m (ap (λ (v : Val). Some v) (leaf_at 0)) only e
     is_leaf (suc zero) m e = at_leaf named_twice 1 0 m (ap (λ (v : Val). Some v) (leaf_at 0)) only e
     is_leaf (suc (suc k)) m e = none_some (leaf m) e
-named_twice_others computing n = computed_of named_twice named_twice_leaves
-named_twice_others records n = records_of named_twice named_twice_leaves
+named_twice_others computing n = computed_of signature T_fields named_twice named_twice_leaves
+named_twice_others records n = records_of signature T_fields named_twice named_twice_leaves
 named_twice_others congruence n = λ j k h ss us ws vs s d e g p q. value j (Apply h ss us) d ∙ sym (value k (Apply h ss ws) e)
   where
     value : (k : ℕ) (t : Term) → IsName named_twice k t → value_at named_twice k ≡ Some (leaf 0)
     value = of_two a a (λ k t. value_at named_twice k ≡ Some (leaf 0)) (ap (λ (v : Val). Some v) (leaf_at 0)) (ap (λ (v : Val). Some v) (leaf_at 0))
-named_twice_others rules n = none_fit named_twice no_entry
-named_twice_others reduction n = none_reduced named_twice no_entry
-named_twice_others overlaps n = none_overlap named_twice no_entry
+named_twice_others rules n = none_fit signature named_twice no_entry
+named_twice_others reduction n = none_reduced signature named_twice no_entry
+named_twice_others overlaps n = none_overlap signature named_twice no_entry
 named_twice_others joins n =
     no_joins named_twice
     (of_two a a (λ k t. length (args_of (out-Term t)) < 2) (few_args named_twice (head.Symbol 0) [] [] (omega arith))
@@ -112,11 +112,11 @@ pub named_twice_fails : FailsAlone signature named_twice terms
 named_twice_fails = (λ h. let z : 0 ≡ 1 = h.apart 0 1 a refl refl in omega (arith, z), named_twice_others)
 
 -- ---- arguments of equal values, and applications of different values
-incongruent_leaves : IsOfLeaves incongruent
+incongruent_leaves : IsOfLeaves signature incongruent
 incongruent_leaves = record {
   lengths = refl;
   symbol =
-      of_four a b (f a) (f b) (λ k t. IsSymbolTerm t) (record { number = 0; args = []; is = refl; sort = a_sort })
+      of_four a b (f a) (f b) (λ k t. IsSymbolTerm signature t) (record { number = 0; args = []; is = refl; sort = a_sort })
       (record { number = 1; args = []; is = refl; sort = b_sort })
       (record { number = 2; args = a ∷ []; is = refl; sort = f_sort a a_sort })
       (record { number = 2; args = b ∷ []; is = refl; sort = f_sort b b_sort });
@@ -146,7 +146,7 @@ first_is n us ts = ap number_of (head_is (head.Symbol n) [] us)
 incongruent_others : (part : Part) → part ≢ congruence → Clause signature incongruent part
 unfolding first_of
 incongruent_others terms n =
-    terms_of incongruent incongruent_leaves (by_marks incongruent mark marks)
+    terms_of signature T_fields incongruent incongruent_leaves (by_marks incongruent mark marks)
     (subterms_of incongruent
     (of_four a b (f a) (f b) (λ k t. AllByRecursion (IsNamed incongruent) (args_of (out-Term t))) (args_named incongruent (head.Symbol 0) [] [] tt)
     (args_named incongruent (head.Symbol 1) [] [] tt) (args_named incongruent (head.Symbol 2) [] (a ∷ []) ((0, refl), tt))
@@ -156,7 +156,7 @@ incongruent_others terms n =
     marks =
         of_four a b (f a) (f b) (λ k t. mark t ≡ k) (mark_is 0 []) (mark_is 1 []) (mark_is 2 (a ∷ []) ∙ ap (λ k. 2 + k) (first_is 0 [] []))
         (mark_is 2 (b ∷ []) ∙ ap (λ k. 2 + k) (first_is 1 [] []))
-incongruent_others leaves n = leaves_of incongruent incongruent_leaves is_leaf
+incongruent_others leaves n = leaves_of signature T_fields incongruent incongruent_leaves is_leaf
   where
     is_leaf : (k m : ℕ) → value_at incongruent k ≡ Some (leaf m) → IsLeaf signature incongruent T m
     is_leaf zero m e =
@@ -172,12 +172,12 @@ incongruent_others leaves n = leaves_of incongruent incongruent_leaves is_leaf
         at_leaf incongruent 3 3 m (ap (λ (v : Val). Some v) (leaf_at 3))
         (make_leaf incongruent 3 (f b) refl (f_sort b b_sort) (ap (λ (v : Val). Some v) (leaf_at 3))) e
     is_leaf (suc (suc (suc (suc k)))) m e = none_some (leaf m) e
-incongruent_others computing n = computed_of incongruent incongruent_leaves
-incongruent_others records n = records_of incongruent incongruent_leaves
+incongruent_others computing n = computed_of signature T_fields incongruent incongruent_leaves
+incongruent_others records n = records_of signature T_fields incongruent incongruent_leaves
 incongruent_others congruence n = absurd (n refl)
-incongruent_others rules n = none_fit incongruent no_entry
-incongruent_others reduction n = none_reduced incongruent no_entry
-incongruent_others overlaps n = none_overlap incongruent no_entry
+incongruent_others rules n = none_fit signature incongruent no_entry
+incongruent_others reduction n = none_reduced signature incongruent no_entry
+incongruent_others overlaps n = none_overlap signature incongruent no_entry
 incongruent_others joins n =
     no_joins incongruent
     (of_four a b (f a) (f b) (λ k t. length (args_of (out-Term t)) < 2) (few_args incongruent (head.Symbol 0) [] [] (omega arith))
@@ -198,11 +198,11 @@ incongruent_fails = (
         omega (arith, z)
 
 -- ---- a name of an AC symbol without a rule
-without_rule_leaves : IsOfLeaves without_rule
+without_rule_leaves : IsOfLeaves signature without_rule
 without_rule_leaves = record {
   lengths = refl;
   symbol =
-      of_three a b (u a b) (λ k t. IsSymbolTerm t) (record { number = 0; args = []; is = refl; sort = a_sort })
+      of_three a b (u a b) (λ k t. IsSymbolTerm signature t) (record { number = 0; args = []; is = refl; sort = a_sort })
       (record { number = 1; args = []; is = refl; sort = b_sort })
       (record { number = 3; args = a ∷ b ∷ []; is = refl; sort = u_sort a b a_sort b_sort });
   leaf = of_three (Leaf 0) (Leaf 1) (Leaf 2) (λ k v. (j : ℕ) × (v ≡ Leaf j)) (0, refl) (1, refl) (2, refl);
@@ -247,12 +247,12 @@ stands k t h i e = record {
 
 without_rule_others : (part : Part) → part ≢ joins → Clause signature without_rule part
 without_rule_others terms n =
-    terms_of without_rule without_rule_leaves (by_marks without_rule (λ t. place (head_of (out-Term t))) without_rule_places)
+    terms_of signature T_fields without_rule without_rule_leaves (by_marks without_rule (λ t. place (head_of (out-Term t))) without_rule_places)
     (subterms_of without_rule
     (of_three a b (u a b) (λ k t. AllByRecursion (IsNamed without_rule) (args_of (out-Term t))) (args_named without_rule (head.Symbol 0) [] [] tt)
     (args_named without_rule (head.Symbol 1) [] [] tt)
     (args_named without_rule (head.Symbol 3) [] (a ∷ b ∷ []) ((0, refl), ((1, refl), tt)))))
-without_rule_others leaves n = leaves_of without_rule without_rule_leaves is_leaf
+without_rule_others leaves n = leaves_of signature T_fields without_rule without_rule_leaves is_leaf
   where
     its_leaf : (k : ℕ) (t : Term) → IsName without_rule k t → k < 3 → IsLeaf signature without_rule T k
     its_leaf k t i h = make_leaf without_rule k t i (without_rule_leaves.symbol k t i).sort (own_value k h)
@@ -262,12 +262,12 @@ without_rule_others leaves n = leaves_of without_rule without_rule_leaves is_lea
     is_leaf (suc zero) m e = subst (IsLeaf signature without_rule T) (is_own 1 m e) (its_leaf 1 b refl (omega arith))
     is_leaf (suc (suc zero)) m e = subst (IsLeaf signature without_rule T) (is_own 2 m e) (its_leaf 2 (u a b) refl (omega arith))
     is_leaf (suc (suc (suc k))) m e = none_some (leaf m) e
-without_rule_others computing n = computed_of without_rule without_rule_leaves
-without_rule_others records n = records_of without_rule without_rule_leaves
+without_rule_others computing n = computed_of signature T_fields without_rule without_rule_leaves
+without_rule_others records n = records_of signature T_fields without_rule without_rule_leaves
 without_rule_others congruence n = by_heads without_rule place without_rule_places
-without_rule_others rules n = none_fit without_rule no_entry
-without_rule_others reduction n = none_reduced without_rule no_entry
-without_rule_others overlaps n = none_overlap without_rule no_entry
+without_rule_others rules n = none_fit signature without_rule no_entry
+without_rule_others reduction n = none_reduced signature without_rule no_entry
+without_rule_others overlaps n = none_overlap signature without_rule no_entry
 without_rule_others joins n = absurd (n refl)
 
 pub without_rule_fails : FailsAlone signature without_rule joins
@@ -311,7 +311,7 @@ opaque_others terms n = record {
   sorted = λ n t i. inl (Real, sort n t i);
   apart = λ j k t d e. sym (zeros j t d) ∙ zeros k t e;
   subterms = λ n h ss us i. absurd (not_applied n h ss us i);
-  field_names = λ n t s ss i e g. absurd (no_record t Real s ss real_fields (sort n t i) e g);
+  field_names = λ n t s ss i e g. absurd (no_record signature t Real s ss real_fields (sort n t i) e g);
 }
   where
     sort : (n : ℕ) (t : Term) → IsName opaque_numeral n t → sort_of signature t ≡ Some Real
@@ -336,13 +336,13 @@ opaque_others leaves n = record {
         n h.term h.is h.sort h.value
 opaque_others computing n = absurd (n refl)
 opaque_others records n = record {
-  record_value = λ n t s ss i e g. absurd (no_record t Real s ss real_fields (of_one one (λ k t. sort_of signature t ≡ Some Real) one_sort n t i) e g);
+  record_value = λ n t s ss i e g. absurd (no_record signature t Real s ss real_fields (of_one one (λ k t. sort_of signature t ≡ Some Real) one_sort n t i) e g);
   written = λ n k place ss us w v i e g. absurd (not_applied n (head.Field k place) ss (Apply (head.Build k) ss us ∷ []) i);
 }
 opaque_others congruence n = λ j k h ss us ws vs s d e g p q. absurd (not_applied j h ss us d)
-opaque_others rules n = none_fit opaque_numeral no_entry
-opaque_others reduction n = none_reduced opaque_numeral no_entry
-opaque_others overlaps n = none_overlap opaque_numeral no_entry
+opaque_others rules n = none_fit signature opaque_numeral no_entry
+opaque_others reduction n = none_reduced signature opaque_numeral no_entry
+opaque_others overlaps n = none_overlap signature opaque_numeral no_entry
 opaque_others joins n = λ k h ss s t p q r i. absurd (not_applied k h ss (s ∷ t ∷ []) i)
 
 pub opaque_numeral_fails : FailsAlone signature opaque_numeral computing
@@ -409,10 +409,10 @@ other_others terms n = record {
   field_names =
       λ n t s ss i. each_field
       (λ k t. sort_of signature t ≡ Some s → record_fields signature s ≡ Some ss → AllByRecursion (IsNamed other_field) (field_terms s t (length ss)))
-      (λ e g. absurd (no_record a T s ss T_fields a_sort e g))
+      (λ e g. absurd (no_record signature a T s ss T_fields a_sort e g))
       (λ e g. of_built (λ q qs. AllByRecursion (IsNamed other_field) (field_terms q built (length qs))) s ss e g
       (subst (AllByRecursion (IsNamed other_field)) (sym built_fields) ((2, refl), tt)))
-      (λ e g. absurd (no_record field T s ss T_fields field_sort e g)) n t i;
+      (λ e g. absurd (no_record signature field T s ss T_fields field_sort e g)) n t i;
 }
 other_others leaves n = record {
   normal =
@@ -461,9 +461,9 @@ other_others computing n = record {
         (λ xs. ap (λ h. linear h xs) (head_is (head.Field 1 0) [] (built ∷ [])))
 other_others records n = absurd (n refl)
 other_others congruence n = by_heads other_field place other_places
-other_others rules n = none_fit other_field no_entry
-other_others reduction n = none_reduced other_field no_entry
-other_others overlaps n = none_overlap other_field no_entry
+other_others rules n = none_fit signature other_field no_entry
+other_others reduction n = none_reduced signature other_field no_entry
+other_others overlaps n = none_overlap signature other_field no_entry
 other_others joins n =
     no_joins other_field
     (each_field (λ k t. length (args_of (out-Term t)) < 2) (few_args other_field (head.Symbol 0) [] [] (omega arith))

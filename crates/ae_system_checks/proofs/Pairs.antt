@@ -18,7 +18,7 @@ use Rattle.ae_evaluation.proofs.ExampleSystem.{leaf_at}
 use Rattle.ae_system_checks.proofs.Entries.{of_two}
 use Rattle.ae_system_checks.specs.Clauses.{HasTerms, HasLeaves, IsCongruent, AllNamesJoin}
 use Rattle.ae_system_checks.specs.Examples.{signature, T, a, b, u_entry, pair, rule}
-use Rattle.ae_system_checks.proofs.Facts.{put_T, a_sort, b_sort, args_of, args_are, head_of, head_is}
+use Rattle.ae_system_checks.proofs.Facts.{T_fields, put_T, a_sort, b_sort, args_of, args_are, head_of, head_is}
 use Rattle.ae_system_checks.proofs.Symbols.{IsOfLeaves, IsSymbolTerm, terms_of, leaves_of, own_leaf, leaf_tells}
 
 -- the number of the symbol
@@ -30,11 +30,11 @@ module _ (m n : ℕ) (rs : List RuleEntry) where
   each_pair : (P : ℕ → Term → Type 0) → P 0 a → P 1 b → (k : ℕ) (t : Term) → IsName (pair m n rs) k t → P k t
   each_pair = of_two a b
 
-  pub of_leaves : IsOfLeaves (pair m n rs)
+  pub of_leaves : IsOfLeaves signature (pair m n rs)
   of_leaves = record {
     lengths = refl;
     symbol =
-        each_pair (λ k t. IsSymbolTerm t) (record { number = 0; args = []; is = refl; sort = a_sort })
+        each_pair (λ k t. IsSymbolTerm signature t) (record { number = 0; args = []; is = refl; sort = a_sort })
         (record { number = 1; args = []; is = refl; sort = b_sort });
     leaf = of_two (Leaf m) (Leaf n) (λ k v. (j : ℕ) × (v ≡ Leaf j)) (m, refl) (n, refl);
   }
@@ -53,7 +53,7 @@ module _ (m n : ℕ) (rs : List RuleEntry) where
       sym (args_are h ss us) ∙ each_pair (λ k t. args_of (out-Term t) ≡ []) (args_are (head.Symbol 0) [] []) (args_are (head.Symbol 1) [] []) k (Apply h ss us) i
 
   pub pair_terms : HasTerms signature (pair m n rs)
-  pair_terms = terms_of (pair m n rs) of_leaves one_place (λ k h ss us i. subst (AllByRecursion (IsNamed (pair m n rs))) (sym (no_args k h ss us i)) tt)
+  pair_terms = terms_of signature T_fields (pair m n rs) of_leaves one_place (λ k h ss us i. subst (AllByRecursion (IsNamed (pair m n rs))) (sym (no_args k h ss us i)) tt)
 
   pub pair_congruent : IsCongruent signature (pair m n rs)
   pair_congruent j k h ss us ws vs s d e g p q =
@@ -81,7 +81,7 @@ module _ (m n : ℕ) (rs : List RuleEntry) where
   which_leaf (suc (suc k)) w e = absurd (no_value k (leaf w) e)
 
   pub pair_leaves : IsLeaf signature (pair m n rs) T m → IsLeaf signature (pair m n rs) T n → HasLeaves signature (pair m n rs)
-  pair_leaves p q = leaves_of (pair m n rs) of_leaves (λ k w e. elim (which_leaf k w e) [ inl i ↦ subst (IsLeaf signature (pair m n rs) T) i p | inr i ↦ subst (IsLeaf signature (pair m n rs) T) i q ])
+  pair_leaves p q = leaves_of signature T_fields (pair m n rs) of_leaves (λ k w e. elim (which_leaf k w e) [ inl i ↦ subst (IsLeaf signature (pair m n rs) T) i p | inr i ↦ subst (IsLeaf signature (pair m n rs) T) i q ])
 
   pub first_has : Has signature (pair m n rs) T (leaf m) 0
   first_has = record { term = a; is = refl; sort = a_sort; value = first_value }

@@ -13,6 +13,7 @@ use Rattle.ae_journal.specs.declared.systems.RuleEntry.{RuleEntry}
 use Rattle.ae_system_checks.proofs.Entries.{of_one, of_two}
 use Rattle.ae_system_checks.specs.Clauses.{RulesFit, AreReduced, AllOverlapsJoin}
 use Rattle.ae_system_checks.specs.Examples.{pair, rule, signature}
+use Rattle.ae_core.specs.declared.problems.Signature.{Signature}
 
 -- ---- reduction
 -- what no rule reduces reduces to itself alone
@@ -100,14 +101,14 @@ two_reduced m n k p l r kl lk kp kr lp lr = record {
     right i j d e (inr x) (inr z) part = sides l r d.left e.right x.1 z.2 lr part
 
 -- ---- without rules
-module _ (y : System) (none : (k : ℕ) (e : RuleEntry) → slice_get y.rules k ≡ Some e → ⊥) where
-  pub none_fit : RulesFit signature y
+module _ (sig : Signature) (y : System) (none : (k : ℕ) (e : RuleEntry) → slice_get y.rules k ≡ Some e → ⊥) where
+  pub none_fit : RulesFit sig y
   none_fit k e i = absurd (none k e i)
 
-  pub none_reduced : AreReduced signature y
+  pub none_reduced : AreReduced sig y
   none_reduced = record { left_reduced = λ j k d e n p q s part. none j d p; right_reduced = λ j k d e p q s part. none j d p }
 
-  pub none_overlap : AllOverlapsJoin signature y
+  pub none_overlap : AllOverlapsJoin sig y
   none_overlap h ss l r m q x z different name s t = absurd (none x.0 (record { symbol = record { head = h; sorts = ss }; left = l; right = r }) x.1)
 
 -- ---- one rule

@@ -40,7 +40,7 @@ use Rattle.ae_journal.specs.declared.systems.System.{System}
 use Rattle.ae_system_checks.specs.Clauses.{HasTerms, HasLeaves, IsComputed, HasRecords, IsCongruent, RulesFit, AreReduced}
 use Rattle.ae_system_checks.proofs.Decide.{both, three, six, either, implied, denied, at_all, at_some, of_each, where_known, known_with, option_discrete, where_applied, applied_with, where_numeral}
 
-is_so : (c : Bool) → Dec (c ≡ true)
+pub is_so : (c : Bool) → Dec (c ≡ true)
 is_so true = yes refl
 is_so false = no (λ e. cc)
 
@@ -53,7 +53,7 @@ divides_more : (g k : ℕ) (ns : List ℕ) → k ∣ g → DividesAll g ns → D
 divides_more g k [] h a = tt
 divides_more g k (n ∷ ns) h a = (dvd_trans k h a.0, divides_more g k ns h a.1)
 
-divisor_of : (ns : List ℕ) → (g : ℕ) × IsCommonDivisor ns g
+pub divisor_of : (ns : List ℕ) → (g : ℕ) × IsCommonDivisor ns g
 divisor_of [] = (0, (tt, λ d a. dvd-zero d))
 divisor_of (n ∷ ns) =
     let r = divisor_of ns in
@@ -122,14 +122,14 @@ vals_there [] = refl
 vals_there (v ∷ vs) = ap (λ ws. v ∷ ws) (vals_there vs)
 
 module _ (sig : Signature) (y : System) where
-  sort_is : (t : Term) (s : Sort) → Dec (sort_of sig t ≡ Some s)
+  pub sort_is : (t : Term) (s : Sort) → Dec (sort_of sig t ≡ Some s)
   sort_is t s = option_discrete Sort_discrete (sort_of sig t) (Some s)
 
-  value_is : (n : ℕ) (v : Val) → Dec (value_at y n ≡ Some v)
+  pub value_is : (n : ℕ) (v : Val) → Dec (value_at y n ≡ Some v)
   value_is n v = option_discrete Val_discrete (value_at y n) (Some v)
 
   -- ---- names and their values
-  is_named : (t : Term) → Dec (IsNamed y t)
+  pub is_named : (t : Term) → Dec (IsNamed y t)
   is_named t =
       map_dec (λ (n, u, i, e). (n, i ∙ ap (λ (w : Term). Some w) e)) (λ (n, i). (n, t, i, refl)) (at_some y.names (λ n u. u ≡ t) (λ n u. Term_discrete u t))
 
@@ -138,14 +138,14 @@ module _ (sig : Signature) (y : System) where
       map_dec (λ (n, u, i, (e, w)). (n, i ∙ ap (λ (w : Term). Some w) e, w)) (λ (n, i, w). (n, t, i, (refl, w)))
       (at_some y.names (λ n u. (u ≡ t) × (value_at y n ≡ Some v)) (λ n u. both (Term_discrete u t) (value_is n v)))
 
-  have_values : (us : List Term) (vs : List Val) → Dec (ValuesOf y us vs)
+  pub have_values : (us : List Term) (vs : List Val) → Dec (ValuesOf y us vs)
   have_values [] [] = yes tt
   have_values [] (v ∷ vs) = no (λ e. e)
   have_values (t ∷ ts) [] = no (λ e. e)
   have_values (t ∷ ts) (v ∷ vs) = both (has_value t v) (have_values ts vs)
 
   -- what holds of all values of some terms
-  by_values : (us : List Term) (P : List Val → Type 0) → ((vs : List Val) → Dec (P vs)) → Dec ((vs : List Val) → ValuesOf y us vs → P vs)
+  pub by_values : (us : List Term) (P : List Val → Type 0) → ((vs : List Val) → Dec (P vs)) → Dec ((vs : List Val) → ValuesOf y us vs → P vs)
   by_values [] P d = map_dec alone (λ f. f [] tt) (d [])
     where
       alone : P [] → (vs : List Val) → ValuesOf y [] vs → P vs

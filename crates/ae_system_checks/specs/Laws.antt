@@ -10,6 +10,7 @@ use Rattle.ae_journal.specs.Answers.{IsAnswer}
 use Rattle.ae_journal.specs.declared.answers.Answer.TheVariants.{Unknown}
 use Rattle.ae_evaluation.specs.Consequences.{Stated}
 use Rattle.ae_evaluation.specs.Examples.{problem, state, system}
+use Rattle.ae_system_checks.specs.TwoEquations as two_equations
 use Rattle.ae_system_checks.specs.Clauses.{Part, Clause}
 use Rattle.ae_system_checks.specs.Examples.{signature, T, second_leaf, equated, equation}
 
@@ -35,3 +36,7 @@ StateAnswers = (limit bound : ℕ) → IsAnswer problem 1 limit bound (Unknown s
 
 abbrev pub NoLiteralsAreRefused : Type 0
 NoLiteralsAreRefused = (limit bound : ℕ) → ¬ IsAnswer problem 1 limit bound (Unknown (record { literals = []; system = system; point = [] }))
+
+-- the state of the two equations is an answer too
+abbrev pub TwoEquationsAnswer : Type 0
+TwoEquationsAnswer = (limit bound : ℕ) → IsAnswer two_equations.problem 0 limit bound (Unknown two_equations.state)

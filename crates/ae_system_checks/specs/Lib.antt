@@ -4,4 +4,5 @@ pub mod Clauses
 pub mod Tests
 pub mod Whole
 pub mod Examples
+pub mod TwoEquations
 pub mod Laws

@@ -6,8 +6,8 @@ ghost use Rattle.ae_system_checks.specs.Clauses.{FailsAlone};
 ghost use Rattle.ae_system_checks.specs.Clauses.Part.{terms, leaves, computing, records, congruence, rules, reduction, overlaps, joins};
 ghost use Rattle.ae_system_checks.specs.Examples.{signature, overlapping, second_leaf, equated, equation};
 ghost use Rattle.ae_system_checks.specs.Examples.{named_twice, crossed, opaque_numeral, other_field, incongruent, single_left, reducible, apart, without_rule};
-ghost use Rattle.ae_system_checks.specs.Tests.{HasTest, ClauseHasTest, OverlapsHaveTest, JoinsHaveTest};
-ghost use Rattle.ae_system_checks.specs.Laws.{NineClauses, LeafOfOther, EquationsFollowPlainly, EquationsFollow, StateAnswers, NoLiteralsAreRefused};
+ghost use Rattle.ae_system_checks.specs.Tests.{HasTest, ClauseHasTest, SaturatedHasTest, OverlapsHaveTest, JoinsHaveTest};
+ghost use Rattle.ae_system_checks.specs.Laws.{NineClauses, LeafOfOther, EquationsFollowPlainly, EquationsFollow, StateAnswers, TwoEquationsAnswer, NoLiteralsAreRefused};
 
 /// A system is completed exactly where each of the nine clauses holds of it.
 pub fn completed_by_nine_clauses()
@@ -62,8 +62,15 @@ pub fn completed_can_be_tested()
     ensures all { HasTest IsCompleted }
 {}
 
+/// Whether a state is saturated can be tested, where no literal that stands is quantified and no axiom before the goal has
+/// type variables.
+pub fn saturated_can_be_tested()
+    ensures { SaturatedHasTest }
+{}
+
 /// A saturated state is an answer; a state in which the hypotheses and the goal's negation don't stand is none.
 pub fn saturated_states_answer()
     ensures accepted { StateAnswers }
+    ensures two_equations { TwoEquationsAnswer }
     ensures no_literals { NoLiteralsAreRefused }
 {}

@@ -1,4 +1,4 @@
-use Rattle.ae_journal_checks.proofs.AnswerExamples.{width_answers, no_width_is_refused}
+use Rattle.ae_journal_checks.proofs.AnswerExamples.{width_answers, no_width_is_refused, nameless_combination_is_refused}
 use Rattle.ae_journal_checks.proofs.laws.widths_answer.Goals as goal
 
 pub returns-clause-accepted : goal.returns-clause-accepted
@@ -6,3 +6,6 @@ returns-clause-accepted c = width_answers
 
 pub returns-clause-within : goal.returns-clause-within
 returns-clause-within c = no_width_is_refused
+
+pub returns-clause-nameless : goal.returns-clause-nameless
+returns-clause-nameless c = nameless_combination_is_refused
