@@ -1,5 +1,6 @@
 -- A decision for the clauses on overlaps and on names of AC symbols, where the rules fit.
-use Rattle.std.specs.Prelude.{ℕ, ◌<◌, ◌≤◌, min, ◌≡◌, ◌⊎◌, List, [], ◌∷◌, length, slice_get, Some}
+use Rattle.std.proofs.Math.Bool.{Bool-discrete}
+use Rattle.std.specs.Prelude.{false, ℕ, ◌<◌, ◌≤◌, min, ◌≡◌, ◌⊎◌, List, [], ◌∷◌, length, slice_get, Some}
 use Rattle.std.specs.List.Sorted.{IsNonDecreasing}
 use Rattle.std.proofs.Common.{inl, inr}
 use Rattle.std.proofs.lemmas.List.Sorted.{IsNonDecreasingBy-short}
@@ -33,7 +34,7 @@ use Rattle.ae_system_checks.specs.Clauses.{Part, Clause, RulesFit, AllOverlapsJo
 use Rattle.ae_system_checks.specs.Clauses.Part.{terms, leaves, computing, records, congruence, rules, reduction, overlaps, joins}
 use Rattle.ae_system_checks.proofs.Completed.{clauses_of, completed_of}
 use Rattle.ae_system_checks.proofs.Decide.{both, implied, at_all, known_with}
-use Rattle.ae_system_checks.proofs.Tests.{decide_terms, decide_leaves, decide_computed, decide_records, decide_congruence, decide_rules, decide_reduction, each_applied, has_value, is_ac_symbol, is_not_so, represents, symbol_discrete}
+use Rattle.ae_system_checks.proofs.Tests.{decide_terms, decide_leaves, decide_computed, decide_records, decide_congruence, decide_rules, decide_reduction, each_applied, has_value, is_ac_symbol, represents, symbol_discrete}
 
 numbers_discrete : Discrete (List ℕ)
 numbers_discrete = List-discrete ℕ_discrete
@@ -64,8 +65,8 @@ module _ (sig : Signature) (y : System) where
 
   is_join : (h : Head) (a b : Term) → Dec (IsJoin sig h a b)
   is_join (head.Symbol n) a b = is_ac_symbol sig y n
-  is_join (head.Int op.Mul) a b = both (is_not_so (is_number (form a))) (is_not_so (is_number (form b)))
-  is_join (head.Real op.Mul) a b = both (is_not_so (is_number (form a))) (is_not_so (is_number (form b)))
+  is_join (head.Int op.Mul) a b = both (Bool-discrete (is_number (form a)) false) (Bool-discrete (is_number (form b)) false)
+  is_join (head.Real op.Mul) a b = both (Bool-discrete (is_number (form a)) false) (Bool-discrete (is_number (form b)) false)
   is_join (head.Int op.Add) a b = no (λ e. e)
   is_join (head.Int op.Sub) a b = no (λ e. e)
   is_join (head.Int op.Neg) a b = no (λ e. e)

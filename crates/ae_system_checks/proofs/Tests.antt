@@ -1,4 +1,5 @@
 -- A decision for each clause of a completed system.
+use Rattle.std.proofs.Math.Bool.{Bool-discrete}
 use Rattle.std.specs.Prelude.{ℕ, zero, suc, ℤ, pos, ◌<◌, ◌≤◌, Bool, true, false, ◌≡◌, ◌≢◌, ◌⊎◌, ◌<ℤ◌, List, [], ◌∷◌, length, slice_get, Option, Some, None}
 use Rattle.std.specs.Int.{◌∣◌}
 use Rattle.std.specs.List.{AllByRecursion}
@@ -43,10 +44,6 @@ use Rattle.ae_system_checks.proofs.Decide.{both, three, six, either, implied, de
 pub is_so : (c : Bool) → Dec (c ≡ true)
 is_so true = yes refl
 is_so false = no (λ e. cc)
-
-pub is_not_so : (c : Bool) → Dec (c ≡ false)
-is_not_so true = no (λ e. cc)
-is_not_so false = yes refl
 
 -- ---- numbers
 divides_more : (g k : ℕ) (ns : List ℕ) → k ∣ g → DividesAll g ns → DividesAll k ns
@@ -250,7 +247,7 @@ module _ (sig : Signature) (y : System) where
   mutual
     is_over : (s : Sort) (v : Val) → Dec (IsOver sig y s v)
     is_over s (number g) = both (numeric s) (of_each (λ p. IsLeaf sig y s p.0) (λ p. has s (own s p.0) p.0) g.parts)
-    is_over s (leaf n) = three (is_not_so (is_numeric s)) (no_fields s) (has s (own s n) n)
+    is_over s (leaf n) = three (Bool-discrete (is_numeric s) false) (no_fields s) (has s (own s n) n)
     is_over s (fields vs) = known_with (record_fields sig s) (λ ss. AreOver sig y ss vs) (λ ss. are_over ss vs)
 
     are_over : (ss : List Sort) (vs : Vals) → Dec (AreOver sig y ss vs)
