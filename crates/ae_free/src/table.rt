@@ -4,7 +4,7 @@ ghost use Rattle.ae_pmap.specs.Pairs.{found, put_in};
 ghost use Rattle.ae_pmap.specs.Forest.{present, map_at, StandsFor, IsRoot, Lasts};
 ghost use Rattle.ae_free.specs.Collisions.{AreEntered, IsLeastCollision, IsCollision};
 ghost use Rattle.ae_free.specs.Indexes as spec;
-ghost use Rattle.ae_free.specs.Indexes.{IsIndex, IsGrown};
+ghost use Rattle.ae_free.specs.Indexes.{IsIndex, StandsAt, AreKept, IsGrown};
 
 use crate::collisions::collides;
 use ae_core::lists::List;
@@ -80,27 +80,51 @@ fn is_collision(
     }
 }
 
-/// The names at a number, and one more.
+/// Whether a name is entered with representatives of this number.
+fn stands_at(by_name: &Pmap<List<usize>>, key: usize, name: usize) -> bool
+    ensures { IsTrue result ↔ StandsAt (present by_name.now) key name }
+{
+    match by_name.get(name) {
+        None => false,
+        Some(args) => key_of(args.as_slice()) == key,
+    }
+}
+
+/// Those of these names that stand at a number still, but for one name.
+fn standing(
+    alloc: Global,
+    by_name: &Pmap<List<usize>>,
+    key: usize,
+    name: usize,
+    old: &[usize],
+) -> Result<List<usize>, AllocError>
+    ensures { IfOk result (λ names. AreKept (present by_name.now) key name old.now names) }
+{
+    let mut names = List::new(alloc);
+    for other in old {
+        if *other != name && stands_at(by_name, key, *other) {
+            names.push(*other)?;
+        }
+    }
+    Ok(names)
+}
+
+/// The names that stand at a number still, and one more.
 fn with_name(
     alloc: Global,
+    by_name: &Pmap<List<usize>>,
     by_key: &Pmap<List<usize>>,
     key: usize,
     name: usize,
 ) -> Result<List<usize>, AllocError>
-    ensures { IfOk result (λ names. IsGrown (found (present by_key.now) key) names name) }
+    ensures { IfOk result (λ names. IsGrown (present by_name.now) key (found (present by_key.now) key) names name) }
 {
-    match by_key.get(key) {
-        Some(old) => {
-            let mut names = List::from_slice(alloc, old.as_slice())?;
-            names.push(name)?;
-            Ok(names)
-        }
-        None => {
-            let mut names = List::new(alloc);
-            names.push(name)?;
-            Ok(names)
-        }
-    }
+    let mut names = match by_key.get(key) {
+        Some(old) => standing(alloc, by_name, key, name, old.as_slice())?,
+        None => List::new(alloc),
+    };
+    names.push(name)?;
+    Ok(names)
 }
 
 impl Table {
@@ -127,7 +151,7 @@ impl Table {
     {
         let list = List::from_slice(self.alloc, args)?;
         let key = key_of(args);
-        let names = with_name(self.alloc, &self.by_key, key, name)?;
+        let names = with_name(self.alloc, &self.by_name, &self.by_key, key, name)?;
         self.by_key.insert(key, names)?;
         self.by_name.insert(name, list)?;
         Ok(())
