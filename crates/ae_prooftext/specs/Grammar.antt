@@ -7,14 +7,15 @@ use Rattle.ae_core.specs.declared.terms.Sort.{Sort, Real}
 use Rattle.ae_core.specs.declared.terms.Term.{Term}
 use Rattle.ae_core.specs.declared.formulas.Lit.{Lit}
 use Rattle.ae_core.specs.declared.proofs.Block.{Block}
-use Rattle.ae_core.specs.declared.proofs.Proof.{Proof}
 use Rattle.ae_codes.specs.Codes.{Code}
 use Rattle.ae_prooftext.specs.SortTexts.{Close, SortEnd, sort, some_type}
 use Rattle.ae_prooftext.specs.TermTexts.{TermEnd, term}
 use Rattle.ae_prooftext.specs.FormulaTexts.{FormulaEnd}
 use Rattle.ae_prooftext.specs.Formulas.{formula}
 use Rattle.ae_prooftext.specs.Clauses.{literals}
-use Rattle.ae_prooftext.specs.Proofs.{block, proof}
+use Rattle.ae_prooftext.specs.Proofs.{block}
+use Rattle.ae_prooftext.specs.ProofTexts as proofs
+use Rattle.ae_prooftext.specs.declared.proofs.ProofText.{ProofText}
 use Rattle.ae_prooftext.specs.Words.{type_names}
 
 -- under variables of the sorts env, the term is of sort `real`: a sign before it is then the operation on `real`
@@ -39,6 +40,6 @@ module _ (sig : Signature) where
   abbrev pub block_code : Code Block
   block_code = block sig (is_real sig)
 
-  -- a whole proof, version 1
-  abbrev pub proof_code : Code Proof
-  proof_code = proof sig (is_real sig)
+  -- a whole proof text, of either version
+  abbrev pub proof_code : Code ProofText
+  proof_code = proofs.proof_code sig (is_real sig)

@@ -20,7 +20,6 @@ use Rattle.ae_core.specs.declared.formulas.Formula.{Formula, Formula-F, fold-For
 use Rattle.ae_core.specs.declared.formulas.Formula.TheOpen as formula_layer
 use Rattle.ae_core.specs.declared.formulas.Quant.{Quant, Quant-F, fold-Quant}
 use Rattle.ae_core.specs.declared.formulas.Lit.{Lit}
-use Rattle.ae_core.specs.declared.proofs.Proof.{Proof}
 use Rattle.ae_prooftext.specs.declared.proofs.ProofText.{ProofText}
 use Rattle.ae_codes.specs.Listings.{joined, listed_text, after_text}
 use Rattle.ae_prooftext.specs.Words.{type_names, symbol_name, has_variables, head_word, takes_sorts}
@@ -241,7 +240,3 @@ module _ (sig : Signature) where
   -- a whole proof text
   unfoldable pub proof_text : ProofText → List ℕ
   proof_text p = heading_text p.axioms ++ proof_lines_text p.proof.lines
-
--- a proof alone, of version 1
-abbrev pub first_version : Proof → ProofText
-first_version p = record { axioms = None; proof = p }
