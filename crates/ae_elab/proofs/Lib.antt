@@ -12,3 +12,6 @@ pub mod WalkLaws
 pub mod WeightLaws
 pub mod PartRules
 pub mod Weighing
+pub mod EachLaws
+pub mod IndexLaws
+pub mod NumberingRules

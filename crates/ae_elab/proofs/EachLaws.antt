@@ -1,0 +1,48 @@
+-- Walks along lists, and walks of a rule that is another one.
+use Rattle.std.proofs.Common.{ℕ, List, [], ◌∷◌, ◌++◌, ◌≡◌, refl, sym, ap, ◌∙◌, subst}
+use Rattle.std.proofs.lemmas.List.{append_assoc, append-nil}
+use Rattle.ae_core.specs.declared.terms.Sort.{Sort}
+use Rattle.ae_elab.specs.declared.faults.TypeFault.{TypeFault}
+use Rattle.ae_elab.specs.Rules.{Passed, Rule, give, ◌>>◌, each}
+use Rattle.ae_elab.specs.Steps.{AreMet, AreNotMet, IsWalked, IsStopped}
+use Rattle.ae_elab.proofs.WalkLaws.{give_walked, then_walked, then_stops, then_stops_later}
+
+-- ---- a rule that states the same
+pub walked_as : {A : Type 0} (r s : Rule A) (m w : ℕ → Sort) (p q : Passed) (x : A) → r p ≡ s p → IsWalked r m w p q x → IsWalked s m w p q x
+walked_as r s m w p q x e a = record {
+  met = subst (λ z. AreMet z.conditions m w) e a.met;
+  value = subst (λ z. z.value ≡ x) e a.value;
+  passed = subst (λ z. z.passed ≡ q) e a.passed;
+}
+
+pub stopped_as : {A : Type 0} (r s : Rule A) (m : ℕ → Sort) (p : Passed) (e : TypeFault) → r p ≡ s p → IsStopped r m p e → IsStopped s m p e
+stopped_as r s m p e h a = subst (λ z. AreNotMet z.conditions m e) h a
+
+-- ---- along a list: what the rest comes to, the whole comes to with what is done
+pub record Goes {A B : Type 0} (f : A → Rule B) (xs : List A) (m u : ℕ → Sort) (start now : Passed) (done : List B) (rest : List A) : Type 0 where
+  pub walks : (w : ℕ → Sort) (q : Passed) (ys : List B) → IsWalked (each f rest) u w now q ys → IsWalked (each f xs) m w start q (done ++ ys)
+  pub stops : (e : TypeFault) → IsStopped (each f rest) u now e → IsStopped (each f xs) m start e
+
+pub goes_start : {A B : Type 0} (f : A → Rule B) (xs : List A) (m : ℕ → Sort) (p : Passed) → Goes f xs m m p p [] xs
+goes_start f xs m p = record { walks = λ w q ys a. a; stops = λ e a. a }
+
+pub goes_on : {A B : Type 0} (f : A → Rule B) (xs : List A) (m u v : ℕ → Sort) (start now next : Passed) (done : List B) (x : A) (rest : List A) (y : B)
+    → Goes f xs m u start now done (x ∷ rest) → IsWalked (f x) u v now next y → Goes f xs m v start next (done ++ y ∷ []) rest
+goes_on {A} {B} f xs m u v start now next done x rest y g a = record {
+  walks = λ w q ys b. subst (λ z. IsWalked (each f xs) m w start q z) (sym (append_assoc done (y ∷ []) ys)) (g.walks w q (y ∷ ys) (both w q ys b));
+  stops = λ e b. g.stops e (then_stops_later (f x) after u v now next y e a (then_stops (each f rest) (λ ys. give (y ∷ ys)) v next e b));
+}
+  where
+    after : B → Rule (List B)
+    after z = each f rest >> λ ys. give (z ∷ ys)
+
+    both : (w : ℕ → Sort) (q : Passed) (ys : List B) → IsWalked (each f rest) v w next q ys → IsWalked (each f (x ∷ rest)) u w now q (y ∷ ys)
+    both w q ys b = then_walked (f x) after u v w now next q y (y ∷ ys) a (then_walked (each f rest) (λ zs. give (y ∷ zs)) v w w next q q ys (y ∷ ys) b (give_walked (y ∷ ys) w q))
+
+pub goes_stop : {A B : Type 0} (f : A → Rule B) (xs : List A) (m u : ℕ → Sort) (start now : Passed) (done : List B) (x : A) (rest : List A) (e : TypeFault)
+    → Goes f xs m u start now done (x ∷ rest) → IsStopped (f x) u now e → IsStopped (each f xs) m start e
+goes_stop f xs m u start now done x rest e g a = g.stops e (then_stops (f x) (λ z. each f rest >> λ ys. give (z ∷ ys)) u now e a)
+
+pub goes_end : {A B : Type 0} (f : A → Rule B) (xs : List A) (m u : ℕ → Sort) (start now : Passed) (done : List B)
+    → Goes f xs m u start now done [] → IsWalked (each f xs) m u start now done
+goes_end f xs m u start now done g = subst (λ z. IsWalked (each f xs) m u start now z) (append-nil done) (g.walks u now [] (give_walked [] u now))
