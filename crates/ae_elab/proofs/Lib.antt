@@ -14,4 +14,5 @@ pub mod PartRules
 pub mod Weighing
 pub mod EachLaws
 pub mod IndexLaws
+pub mod TypeRules
 pub mod NumberingRules
