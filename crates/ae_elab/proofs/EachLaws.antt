@@ -1,6 +1,6 @@
 -- Walks along lists, and walks of a rule that is another one.
-use Rattle.std.proofs.Common.{ℕ, List, [], ◌∷◌, ◌++◌, ◌≡◌, refl, sym, ap, ◌∙◌, subst}
-use Rattle.std.proofs.lemmas.List.{append_assoc, append-nil}
+use Rattle.std.proofs.Common.{ℕ, ◌+◌, ◌<◌, ◌≤◌, List, [], ◌∷◌, ◌++◌, ◌≡◌, length, drop, get_or, refl, sym, ap, ◌∙◌, subst}
+use Rattle.std.proofs.lemmas.List.{append_assoc, append-nil, drop_more, drop_all}
 use Rattle.ae_core.specs.declared.terms.Sort.{Sort}
 use Rattle.ae_elab.specs.declared.faults.TypeFault.{TypeFault}
 use Rattle.ae_elab.specs.Rules.{Passed, Rule, give, ◌>>◌, each}
@@ -46,3 +46,21 @@ goes_stop f xs m u start now done x rest e g a = g.stops e (then_stops (f x) (λ
 pub goes_end : {A B : Type 0} (f : A → Rule B) (xs : List A) (m u : ℕ → Sort) (start now : Passed) (done : List B)
     → Goes f xs m u start now done [] → IsWalked (each f xs) m u start now done
 goes_end f xs m u start now done g = subst (λ z. IsWalked (each f xs) m u start now z) (append-nil done) (g.walks u now [] (give_walked [] u now))
+
+-- ---- along a list by places
+module _ {A B : Type 0} (f : A → Rule B) (xs : List A) (m u : ℕ → Sort) (start now : Passed) (done : List B) (i : ℕ) where
+  pub goes_begin : Goes f xs m m start start [] (drop 0 xs)
+  goes_begin = goes_start f xs m start
+
+  at_place : (x : A) → i < length xs → x ≡ get_or xs i x → Goes f xs m u start now done (drop i xs) → Goes f xs m u start now done (x ∷ drop (i + 1) xs)
+  at_place x l e g = subst (Goes f xs m u start now done) (drop_more xs i x l ∙ ap (λ z. z ∷ drop (i + 1) xs) (sym e)) g
+
+  pub goes_next : (v : ℕ → Sort) (next : Passed) (x : A) (y : B) → i < length xs → x ≡ get_or xs i x → Goes f xs m u start now done (drop i xs) → IsWalked (f x) u v now next y
+      → Goes f xs m v start next (done ++ y ∷ []) (drop (i + 1) xs)
+  goes_next v next x y l e g a = goes_on f xs m u v start now next done x (drop (i + 1) xs) y (at_place x l e g) a
+
+  pub goes_halt : (x : A) (e : TypeFault) → i < length xs → x ≡ get_or xs i x → Goes f xs m u start now done (drop i xs) → IsStopped (f x) u now e → IsStopped (each f xs) m start e
+  goes_halt x e l d g a = goes_stop f xs m u start now done x (drop (i + 1) xs) e (at_place x l d g) a
+
+  pub goes_whole : length xs ≤ i → Goes f xs m u start now done (drop i xs) → IsWalked (each f xs) m u start now done
+  goes_whole l g = goes_end f xs m u start now done (subst (Goes f xs m u start now done) (drop_all i xs l) g)

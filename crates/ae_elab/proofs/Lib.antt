@@ -15,4 +15,5 @@ pub mod Weighing
 pub mod EachLaws
 pub mod IndexLaws
 pub mod TypeRules
+pub mod TypeSizes
 pub mod NumberingRules

@@ -1,8 +1,8 @@
 -- The rules of written types, as functions follow them.
-use Rattle.std.proofs.Common.{◌≡◌, ◌∙◌, ℕ, zero, suc, Bool, true, false, List, [], ◌∷◌, ◌++◌, map, length, Option, Some, None, refl, sym, ap, subst, true≢false, slice_get}
+use Rattle.std.proofs.Common.{◌≡◌, ◌∙◌, ℕ, zero, suc, Bool, true, false, List, [], ◌∷◌, ◌++◌, map, length, Option, Some, None, refl, sym, ap, subst, true≢false, slice_get, get_or, ◌<◌}
 use Rattle.std.specs.List.{AllByRecursion}
 use Rattle.std.specs.Option.{option_map}
-use Rattle.std.proofs.lemmas.Option.{none-some, same_Some, slice_get-map}
+use Rattle.std.proofs.lemmas.Option.{none-some, same_Some, slice_get-map, slice_get-get_or}
 use Rattle.ae_base.proofs.AllOf.{all_front, all_back}
 use Rattle.std.specs.Str.{bytes_eq}
 use Rattle.ae_core.specs.declared.problems.Signature.{Signature}
@@ -202,3 +202,8 @@ module _ (P : Span → Type 0) (w : WrittenType) (h : AllByRecursion P (names_in
 
   pub arg_named : (n : Span) (ws : List WrittenType) (k : ℕ) (v : WrittenType) → w.kind ≡ kind.Named n ws → slice_get ws k ≡ Some v → AllByRecursion P (names_in_type v)
   arg_named n ws k v e g = among P (map names_in_type ws) k (names_in_type v) (named_names n ws e).1 (slice_get-map names_in_type ws k ∙ ap (option_map names_in_type) g)
+
+pub arg_ready : (P : Span → Type 0) (w : WrittenType) (n : Span) (ws us : List WrittenType) (k : ℕ) (v : WrittenType) → AllByRecursion P (names_in_type w) → w.kind ≡ kind.Named n ws → us ≡ ws
+    → k < length us → v ≡ get_or us k v → AllByRecursion P (names_in_type v)
+arg_ready P w n ws us k v h e s l g =
+    arg_named P w h n us k v (e ∙ ap (kind.Named n) (sym s)) (slice_get-get_or us k v l ∙ ap Some (sym g))
