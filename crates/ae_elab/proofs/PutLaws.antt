@@ -1,4 +1,5 @@
 -- Laws of sorts that are put for unknowns: what two most general typings have in common.
+use Rattle.ae_base.proofs.ListFacts.{cons_head, cons_tail}
 use Rattle.std.proofs.Common.{◌≡◌, ℕ, List, [], ◌∷◌, map, refl, ap, sym, ◌∙◌, arith}
 use Rattle.std.specs.List.{AllByRecursion}
 use Rattle.ae_core.specs.Inner.Induction.{by_sorts}
@@ -84,18 +85,12 @@ from_var g = by_sorts (λ t. (n : ℕ) → put g t ≡ Var n → (k : ℕ) × (t
 abbrev pub zeros : ℕ → Sort
 zeros n = Var 0
 
-pub head_same : (x y : Sort) (xs ys : List Sort) → x ∷ xs ≡ y ∷ ys → x ≡ y
-head_same x y xs ys e = ap (λ l. elim l [ [] ↦ x | z ∷ zs ↦ z ]) e
-
-pub tail_same : (x y : Sort) (xs ys : List Sort) → x ∷ xs ≡ y ∷ ys → xs ≡ ys
-tail_same x y xs ys e = ap (λ l. elim l [ [] ↦ xs | z ∷ zs ↦ zs ]) e
-
 blanks_same : (f g : ℕ → Sort) (ss : List Sort) → AllByRecursion (λ s. put g (put f s) ≡ s → blank (put f s) ≡ blank s) ss
     → map (put g) (map (put f) ss) ≡ ss → map (put zeros) (map (put f) ss) ≡ map (put zeros) ss
 blanks_same f g [] a e = refl
 blanks_same f g (s ∷ ss) a e =
-    let x = a.0 (head_same (put g (put f s)) s (map (put g) (map (put f) ss)) ss e) in
-    let xs = blanks_same f g ss a.1 (tail_same (put g (put f s)) s (map (put g) (map (put f) ss)) ss e) in
+    let x = a.0 (cons_head (put g (put f s)) s (map (put g) (map (put f) ss)) ss e) in
+    let xs = blanks_same f g ss a.1 (cons_tail (put g (put f s)) s (map (put g) (map (put f) ss)) ss e) in
     ap (λ y. y ∷ map (put zeros) (map (put f) ss)) x ∙ ap (λ ys. blank s ∷ ys) xs
 
 blank_var : (t : Sort) → (k : ℕ) × (t ≡ Var k) → blank t ≡ Var 0

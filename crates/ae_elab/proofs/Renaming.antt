@@ -15,8 +15,10 @@ use Rattle.ae_elab.specs.Scope.{first_place, after_one}
 use Rattle.ae_elab.specs.Elaboration.{head_on}
 use Rattle.ae_elab.specs.Numbering.{open_sorts, once_more, variables_among_sorts, by_place, numbered_sort}
 use Rattle.ae_elab.proofs.NumberRules.{open_var, open_rigid, open_int, open_real, open_bool, open_unit, open_named, number_var, number_rigid, number_int, number_real, number_bool, number_unit, number_named}
-use Rattle.ae_elab.proofs.PutLaws.{put_rigid, put_int, put_real, put_bool, put_unit, put_named, from_var, named_args, head_same, tail_same}
-use Rattle.ae_elab.proofs.SortsIn.{joined, flat_moved, both_of}
+use Rattle.ae_elab.proofs.PutLaws.{put_rigid, put_int, put_real, put_bool, put_unit, put_named, from_var, named_args}
+use Rattle.ae_base.proofs.ListFacts.{cons_head, cons_tail}
+use Rattle.ae_elab.proofs.SortsIn.{joined, flat_moved}
+use Rattle.ae_base.proofs.AllOf.{all_append}
 
 decided_same : {P Q : Type 0} (d : Dec P) (e : Dec Q) → (P → Q) → (Q → P) → decided d ≡ decided e
 decided_same (yes p) (yes q) f g = refl
@@ -32,7 +34,7 @@ module _ (m w : ℕ → Sort) where
   pub backs_in : (ss : List Sort) → map (put m) (map (put w) ss) ≡ ss → AllByRecursion Back ss
   backs_in [] e = tt
   backs_in (s ∷ ss) e =
-      (head_same (put m (put w s)) s (map (put m) (map (put w) ss)) ss e, backs_in ss (tail_same (put m (put w s)) s (map (put m) (map (put w) ss)) ss e))
+      (cons_head (put m (put w s)) s (map (put m) (map (put w) ss)) ss e, backs_in ss (cons_tail (put m (put w s)) s (map (put m) (map (put w) ss)) ss e))
 
   args_back : (h : ℕ) (ss : List Sort) → Back (Named h ss) → AllByRecursion Back ss
   args_back h ss e =
@@ -82,7 +84,7 @@ module _ (m w : ℕ → Sort) where
 
   backs_joined : (ss : List Sort) → AllByRecursion (λ s. AllByRecursion Back (open_sorts s)) ss → AllByRecursion Back (flat_map open_sorts ss)
   backs_joined [] a = tt
-  backs_joined (s ∷ ss) a = both_of Back (open_sorts s) (flat_map open_sorts ss) a.0 (backs_joined ss a.1)
+  backs_joined (s ∷ ss) a = all_append Back (open_sorts s) (flat_map open_sorts ss) a.0 (backs_joined ss a.1)
 
   pub open_back : (s : Sort) → Back s → AllByRecursion Back (open_sorts s)
   open_back = by_sorts (λ s. Back s → AllByRecursion Back (open_sorts s))
@@ -136,7 +138,7 @@ module _ (m w : ℕ → Sort) where
       (map (put w) (once_more seen ss)) (map (put w) (once_more (seen ++ s ∷ []) ss))
       (any_moved s seen b.0 a)
       (once_moved seen ss a b.1)
-      (ap (λ x. once_more x (map (put w) ss)) (sym (snoc_moved seen s)) ∙ once_moved (seen ++ s ∷ []) ss (both_of Back seen (s ∷ []) a (b.0, tt)) b.1)
+      (ap (λ x. once_more x (map (put w) ss)) (sym (snoc_moved seen s)) ∙ once_moved (seen ++ s ∷ []) ss (all_append Back seen (s ∷ []) a (b.0, tt)) b.1)
       ∙ pull (list_any (same_sort s) seen) (once_more seen ss) (once_more (seen ++ s ∷ []) ss)
 
   keep_by : (y : Bool) (a b : List Sort) → AllByRecursion Back a → AllByRecursion Back b → AllByRecursion Back (elim y as (λ q. List Sort) [ true ↦ a | false ↦ b ])
@@ -147,7 +149,7 @@ module _ (m w : ℕ → Sort) where
   once_back seen [] a b = a
   once_back seen (s ∷ ss) a b =
       keep_by (list_any (same_sort s) seen) (once_more seen ss) (once_more (seen ++ s ∷ []) ss) (once_back seen ss a b.1)
-      (once_back (seen ++ s ∷ []) ss (both_of Back seen (s ∷ []) a (b.0, tt)) b.1)
+      (once_back (seen ++ s ∷ []) ss (all_append Back seen (s ∷ []) a (b.0, tt)) b.1)
 
   -- ---- the type variables of a list of sorts
   all_open : (ss : List Sort) → AllByRecursion Back ss → AllByRecursion OpenMoves ss

@@ -1,6 +1,7 @@
 -- The sorts of a formula whose sorts were changed are the changed sorts; and changes that agree on a formula's sorts give one formula.
 use Rattle.std.proofs.Common.{◌≡◌, List, [], ◌∷◌, ◌++◌, map, refl, ap, sym, ◌∙◌, subst}
 use Rattle.std.proofs.lemmas.List.{map-append}
+use Rattle.ae_base.proofs.AllOf.{all_front, all_back}
 use Rattle.std.specs.List.{AllByRecursion, flat_map}
 use Rattle.ae_core.specs.Inner.Induction.{by_terms, by_formulas}
 use Rattle.ae_core.specs.declared.terms.Sort.{Sort}
@@ -24,18 +25,6 @@ flat_moved r f g t (x ∷ xs) a =
 pub all_of_list : {X : Type 0} (P : X → Type 0) (h : (x : X) → P x) (xs : List X) → AllByRecursion P xs
 all_of_list P h [] = tt
 all_of_list P h (x ∷ xs) = (h x, all_of_list P h xs)
-
-pub front_of : {X : Type 0} (P : X → Type 0) (xs ys : List X) → AllByRecursion P (xs ++ ys) → AllByRecursion P xs
-front_of P [] ys a = tt
-front_of P (x ∷ xs) ys a = (a.0, front_of P xs ys a.1)
-
-pub back_of : {X : Type 0} (P : X → Type 0) (xs ys : List X) → AllByRecursion P (xs ++ ys) → AllByRecursion P ys
-back_of P [] ys a = a
-back_of P (x ∷ xs) ys a = back_of P xs ys a.1
-
-pub both_of : {X : Type 0} (P : X → Type 0) (xs ys : List X) → AllByRecursion P xs → AllByRecursion P ys → AllByRecursion P (xs ++ ys)
-both_of P [] ys a b = b
-both_of P (x ∷ xs) ys a b = (a.0, both_of P xs ys a.1 b)
 
 -- ---- the sorts of a formula whose sorts were changed
 module _ (r : Sort → Sort) where
@@ -117,8 +106,8 @@ module _ (r n k : Sort → Sort) where
       → map (with_sorts_term n) (map (with_sorts_term r) us) ≡ map (with_sorts_term k) us
   args_agree [] a h = refl
   args_agree (u ∷ us) a h =
-      ap (λ x. x ∷ map (with_sorts_term n) (map (with_sorts_term r) us)) (a.0 (front_of Agrees (sorts_in_term u) (flat_map sorts_in_term us) h))
-      ∙ ap (λ xs. with_sorts_term k u ∷ xs) (args_agree us a.1 (back_of Agrees (sorts_in_term u) (flat_map sorts_in_term us) h))
+      ap (λ x. x ∷ map (with_sorts_term n) (map (with_sorts_term r) us)) (a.0 (all_front Agrees (sorts_in_term u) (flat_map sorts_in_term us) h))
+      ∙ ap (λ xs. with_sorts_term k u ∷ xs) (args_agree us a.1 (all_back Agrees (sorts_in_term u) (flat_map sorts_in_term us) h))
 
   pub terms_agree : (t : Term) → AgreesIn t
   terms_agree = by_terms AgreesIn
@@ -127,8 +116,8 @@ module _ (r n k : Sort → Sort) where
       (λ i s h. ap (with_sorts_term n) (with_fresh r i s) ∙ with_fresh n i (r s) ∙ ap (Fresh i) (subst (AllByRecursion Agrees) (in_fresh i s) h).0 ∙ sym (with_fresh k i s))
       (λ x ss us a h.
       (let all = subst (AllByRecursion Agrees) (in_apply x ss us) h in
-      let e = sorts_agree ss (front_of Agrees ss (flat_map (λ u. u) (map sorts_in_term us)) all) in
-      let rest = subst (AllByRecursion Agrees) (joined sorts_in_term us) (back_of Agrees ss (flat_map (λ u. u) (map sorts_in_term us)) all) in
+      let e = sorts_agree ss (all_front Agrees ss (flat_map (λ u. u) (map sorts_in_term us)) all) in
+      let rest = subst (AllByRecursion Agrees) (joined sorts_in_term us) (all_back Agrees ss (flat_map (λ u. u) (map sorts_in_term us)) all) in
       ap (with_sorts_term n) (with_apply r x ss us) ∙ with_apply n x (map r ss) (map (with_sorts_term r) us)
       ∙ ap (λ xs. Apply x xs (map (with_sorts_term n) (map (with_sorts_term r) us))) e
       ∙ ap (Apply x (map k ss)) (args_agree us a rest) ∙ sym (with_apply k x ss us)))
@@ -141,8 +130,8 @@ module _ (r n k : Sort → Sort) where
   triggers_agree [] h = refl
   triggers_agree (us ∷ ts) h =
       ap (λ x. x ∷ map (map (with_sorts_term n)) (map (map (with_sorts_term r)) ts))
-      (lists_agree us (front_of Agrees (flat_map sorts_in_term us) (flat_map (flat_map sorts_in_term) ts) h))
-      ∙ ap (λ xs. map (with_sorts_term k) us ∷ xs) (triggers_agree ts (back_of Agrees (flat_map sorts_in_term us) (flat_map (flat_map sorts_in_term) ts) h))
+      (lists_agree us (all_front Agrees (flat_map sorts_in_term us) (flat_map (flat_map sorts_in_term) ts) h))
+      ∙ ap (λ xs. map (with_sorts_term k) us ∷ xs) (triggers_agree ts (all_back Agrees (flat_map sorts_in_term us) (flat_map (flat_map sorts_in_term) ts) h))
 
   abbrev AgreesAll : Formula → Type 0
   AgreesAll f = AllByRecursion Agrees (sorts_in f) → with_sorts n (with_sorts r f) ≡ with_sorts k f
@@ -155,15 +144,15 @@ module _ (r n k : Sort → Sort) where
       → AllByRecursion Agrees (sorts_in_term a ++ sorts_in_term b) → with_sorts n (with_sorts r (C a b)) ≡ with_sorts k (C a b)
   pair_agrees C a b rule h =
       ap (with_sorts n) (rule r a b) ∙ rule n (with_sorts_term r a) (with_sorts_term r b)
-      ∙ ap (λ x. C x (with_sorts_term n (with_sorts_term r b))) (terms_agree a (front_of Agrees (sorts_in_term a) (sorts_in_term b) h))
-      ∙ ap (C (with_sorts_term k a)) (terms_agree b (back_of Agrees (sorts_in_term a) (sorts_in_term b) h)) ∙ sym (rule k a b)
+      ∙ ap (λ x. C x (with_sorts_term n (with_sorts_term r b))) (terms_agree a (all_front Agrees (sorts_in_term a) (sorts_in_term b) h))
+      ∙ ap (C (with_sorts_term k a)) (terms_agree b (all_back Agrees (sorts_in_term a) (sorts_in_term b) h)) ∙ sym (rule k a b)
 
   two_agree : (C : Formula → Formula → Formula) (a b : Formula) (rule : (g : Sort → Sort) (x y : Formula) → with_sorts g (C x y) ≡ C (with_sorts g x) (with_sorts g y))
       → AgreesAll a → AgreesAll b → AllByRecursion Agrees (sorts_in a ++ sorts_in b) → with_sorts n (with_sorts r (C a b)) ≡ with_sorts k (C a b)
   two_agree C a b rule x y h =
       ap (with_sorts n) (rule r a b) ∙ rule n (with_sorts r a) (with_sorts r b)
-      ∙ ap (λ z. C z (with_sorts n (with_sorts r b))) (x (front_of Agrees (sorts_in a) (sorts_in b) h))
-      ∙ ap (C (with_sorts k a)) (y (back_of Agrees (sorts_in a) (sorts_in b) h)) ∙ sym (rule k a b)
+      ∙ ap (λ z. C z (with_sorts n (with_sorts r b))) (x (all_front Agrees (sorts_in a) (sorts_in b) h))
+      ∙ ap (C (with_sorts k a)) (y (all_back Agrees (sorts_in a) (sorts_in b) h)) ∙ sym (rule k a b)
 
   abbrev made_block : List Sort → List (List Term) → Formula → Quant
   made_block ss ts f = record { sorts = ss; triggers = ts; body = f }
@@ -171,14 +160,14 @@ module _ (r n k : Sort → Sort) where
   block_agrees : (q : Quant) → AgreesAll q.body → AgreesBlock q
   block_agrees q b h =
       let all = subst (AllByRecursion Agrees) (in_block q) h in
-      let rest = back_of Agrees q.sorts (flat_map (flat_map sorts_in_term) q.triggers ++ sorts_in q.body) all in
+      let rest = all_back Agrees q.sorts (flat_map (flat_map sorts_in_term) q.triggers ++ sorts_in q.body) all in
       ap (with_sorts_block n) (with_block r q) ∙ with_block n (made_block (map r q.sorts) (map (map (with_sorts_term r)) q.triggers) (with_sorts r q.body))
       ∙ ap (λ xs. made_block xs (map (map (with_sorts_term n)) (map (map (with_sorts_term r)) q.triggers)) (with_sorts n (with_sorts r q.body)))
-      (sorts_agree q.sorts (front_of Agrees q.sorts (flat_map (flat_map sorts_in_term) q.triggers ++ sorts_in q.body) all))
+      (sorts_agree q.sorts (all_front Agrees q.sorts (flat_map (flat_map sorts_in_term) q.triggers ++ sorts_in q.body) all))
       ∙ ap (λ xs. made_block (map k q.sorts) xs (with_sorts n (with_sorts r q.body)))
-      (triggers_agree q.triggers (front_of Agrees (flat_map (flat_map sorts_in_term) q.triggers) (sorts_in q.body) rest))
+      (triggers_agree q.triggers (all_front Agrees (flat_map (flat_map sorts_in_term) q.triggers) (sorts_in q.body) rest))
       ∙ ap (made_block (map k q.sorts) (map (map (with_sorts_term k)) q.triggers))
-      (b (back_of Agrees (flat_map (flat_map sorts_in_term) q.triggers) (sorts_in q.body) rest))
+      (b (all_back Agrees (flat_map (flat_map sorts_in_term) q.triggers) (sorts_in q.body) rest))
       ∙ sym (with_block k q)
 
   pub formulas_agree : (f : Formula) → AgreesAll f
@@ -191,8 +180,8 @@ module _ (r n k : Sort → Sort) where
       (λ p ss us h.
       (let all = subst (AllByRecursion Agrees) (in_pred p ss us) h in
       ap (with_sorts n) (with_pred r p ss us) ∙ with_pred n p (map r ss) (map (with_sorts_term r) us)
-      ∙ ap (λ xs. Pred p xs (map (with_sorts_term n) (map (with_sorts_term r) us))) (sorts_agree ss (front_of Agrees ss (flat_map sorts_in_term us) all))
-      ∙ ap (Pred p (map k ss)) (lists_agree us (back_of Agrees ss (flat_map sorts_in_term us) all)) ∙ sym (with_pred k p ss us)))
+      ∙ ap (λ xs. Pred p xs (map (with_sorts_term n) (map (with_sorts_term r) us))) (sorts_agree ss (all_front Agrees ss (flat_map sorts_in_term us) all))
+      ∙ ap (Pred p (map k ss)) (lists_agree us (all_back Agrees ss (flat_map sorts_in_term us) all)) ∙ sym (with_pred k p ss us)))
       (λ a x h. ap (with_sorts n) (with_not r a) ∙ with_not n (with_sorts r a) ∙ ap Not (x (subst (AllByRecursion Agrees) (in_not a) h)) ∙ sym (with_not k a))
       (λ a b x y h. two_agree And a b with_and x y (subst (AllByRecursion Agrees) (in_and a b) h))
       (λ a b x y h. two_agree Or a b with_or x y (subst (AllByRecursion Agrees) (in_or a b) h))

@@ -492,6 +492,11 @@ module _ (nodes : List Node) (old mid low new : List Class) (todo after : List P
   blame_backward clash d = λ given f q. differs nodes low r l given clash low_well right_within left_within b.known left_known
       (both.onward nodes (Some given) (origin nodes) f) (same_sym (Some given) (origin nodes l.place) (origin nodes r.place) (roots_same given f q)) d
 
+-- what an answer says follows from what it says
+pub on_ok : (r : Result (Unit {0}) Clash) (P Q : Type 0) → (P → Q) → OnOk r P → OnOk r Q
+on_ok (Ok u) P Q f h = f h
+on_ok (Err e) P Q f h = h
+
 -- links were shortened at the end
 pub closing_shortened : (nodes : List Node) (old mid new : List Class) (todo after : List Pair) → Closing nodes old mid todo after → Shortened mid new → Closing nodes old new todo after
 closing_shortened nodes old mid new todo after c s = record {

@@ -47,8 +47,14 @@ fn solve(
     ensures err { IfErr result (λ clash. Blames nodes.now classes.old todo.old clash) }
     ensures rewinds { rewound classes.new log.new ≡ rewound classes.old log.old }
 {
-    close(alloc, nodes, classes, log, todo)?;
-    settle(alloc, nodes, classes.as_slice())
+    match close(alloc, nodes, classes, log, todo) {
+        Ok(()) => {}
+        Err(clash) => return Err(clash),
+    }
+    match settle(alloc, nodes, classes.as_slice()) {
+        Ok(()) => Ok(()),
+        Err(clash) => Err(clash),
+    }
 }
 
 // Makes two places one. A refusal leaves what was known.
@@ -91,7 +97,10 @@ fn equate_in(alloc: Global, graph: &mut Graph, left: &Sort, right: &Sort) -> Res
 {
     let first = enter(alloc, graph, left)?;
     let second = enter(alloc, graph, right)?;
-    join(alloc, graph, first, second)
+    match join(alloc, graph, first, second) {
+        Ok(()) => Ok(()),
+        Err(clash) => Err(clash),
+    }
 }
 
 // The sort with the bound sorts put for its variables.

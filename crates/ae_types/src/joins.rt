@@ -178,7 +178,10 @@ pub fn close(
     ensures rewinds { rewound classes.new log.new ≡ rewound classes.old log.old }
 {
     while let Some(pair) = todo.pop() {
-        step(alloc, nodes, classes, log, todo, pair)?;
+        match step(alloc, nodes, classes, log, todo, pair) {
+            Ok(()) => {}
+            Err(clash) => return Err(clash),
+        }
     }
     flatten(classes, log)?;
     Ok(())

@@ -1,6 +1,6 @@
 use Rattle.std.proofs.Common.{◌<◌, arith}
-use Rattle.std.proofs.lemmas.Result.{IfErr-weaker, on_ok_weaker}
-use Rattle.ae_types.proofs.JoinLaws.{found_same, step_forward, step_backward, blame_forward, blame_backward}
+use Rattle.std.proofs.lemmas.Result.{IfErr-weaker}
+use Rattle.ae_types.proofs.JoinLaws.{found_same, step_forward, step_backward, blame_forward, blame_backward, on_ok}
 use Rattle.ae_types.proofs.joins.step.Goals as goal
 
 pub returns-then-left-right-clause-ok : goal.returns-then-left-right-clause-ok
@@ -10,7 +10,7 @@ returns-then-left-right-clause-ok c =
 
 pub returns-then-left-right-2-clause-ok : goal.returns-then-left-right-2-clause-ok
 returns-then-left-right-2-clause-ok c =
-    on_ok_weaker c.unite.result
+    on_ok c.unite.result _ _
     (step_forward c.args.nodes.now c.args.classes.now c.find.new.classes c.find-2.new.classes c.unite.new.classes c.args.todo.now c.unite.new.todo c.args.pair c.in_ok-left.left c.in_ok-right.right
     c.requires.well c.in_ok-left.ensures.found c.in_ok-right.ensures.found c.requires.todo c.if-left-right-2.true)
     c.unite.ensures.ok
@@ -25,7 +25,7 @@ returns-then-left-right-2-clause-err c =
 pub returns-else-left-right-2-clause-ok : goal.returns-else-left-right-2-clause-ok
 returns-else-left-right-2-clause-ok c =
     let a : c.in_ok-right.right.place < c.in_ok-left.left.place = grind arith in
-    on_ok_weaker c.unite-else-left-right-2.result
+    on_ok c.unite-else-left-right-2.result _ _
     (step_backward c.args.nodes.now c.args.classes.now c.find.new.classes c.find-2.new.classes c.unite-else-left-right-2.new.classes c.args.todo.now c.unite-else-left-right-2.new.todo c.args.pair c.in_ok-left.left c.in_ok-right.right
     c.requires.well c.in_ok-left.ensures.found c.in_ok-right.ensures.found c.requires.todo a)
     c.unite-else-left-right-2.ensures.ok
