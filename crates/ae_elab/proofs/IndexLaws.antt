@@ -1,5 +1,8 @@
 -- Where a name stands first, and an index with one more name.
-use Rattle.std.proofs.Common.{◌≡◌, ◌∙◌, ℕ, suc, Bool, true, false, cond, List, [], ◌∷◌, ◌++◌, map, length, Option, Some, None, refl, sym, ap, subst, true≢false}
+use Rattle.std.proofs.Common.{◌≡◌, ◌∙◌, ℕ, suc, Bool, true, false, cond, List, [], ◌∷◌, ◌++◌, map, length, Option, Some, None, refl, sym, ap, subst, true≢false, ◌||◌, reverse}
+use Rattle.std.specs.List.{list_any}
+use Rattle.std.specs.Option.{is_some}
+use Rattle.std.proofs.lemmas.List.{reverse-append}
 use Rattle.std.specs.Ordering.{is_eq, nat_cmp}
 use Rattle.std.specs.Cmp.Lexicographic.{slice_cmp}
 use Rattle.std.specs.Str.{bytes_eq}
@@ -59,3 +62,53 @@ grown names name old new i h u s =
     ∙ ap (λ b. cond b (Some (length names)) (old s)) (is_eq-slice_cmp name s)
     ∙ ap (cond (bytes_eq name s) (Some (length names))) (i s)
     ∙ at_end names name s h
+
+-- ---- a name that is there once more
+is_there : (o : Option ℕ) → is_some o ≡ true → (n : ℕ) × (o ≡ Some n)
+is_there None e = absurd (true≢false (sym e))
+is_there (Some n) e = (n, refl)
+
+choose_some : (b : Bool) (o p : Option ℕ) (n : ℕ) → ((k : ℕ) → o ≡ Some k → p ≡ Some k) → choose b o ≡ Some n → choose b p ≡ Some n
+choose_some true o p n h e = e
+choose_some false None p n h e = absurd (none-some n e)
+choose_some false (Some k) p n h e = ap after_one (h k refl) ∙ e
+
+pub first_stays : {A : Type 0} (p : A → Bool) (xs ys : List A) (n : ℕ) → first_place p xs ≡ Some n → first_place p (xs ++ ys) ≡ Some n
+first_stays p [] ys n e = absurd (none-some n e)
+first_stays p (x ∷ xs) ys n e = choose_some (p x) (first_place p xs) (first_place p (xs ++ ys)) n (λ k. first_stays p xs ys k) e
+
+pub repeated : (names : List (List ℕ)) (name : List ℕ) (found : List ℕ → Option ℕ) → IsIndex names found → is_some (first_place (bytes_eq name) names) ≡ true → IsIndex (names ++ name ∷ []) found
+repeated names name found i t s = i s ∙ by_test (bytes_eq s name) refl
+  where
+    stands : (n : ℕ) × (first_place (bytes_eq name) names ≡ Some n)
+    stands = is_there (first_place (bytes_eq name) names) t
+
+    by_test : (b : Bool) → bytes_eq s name ≡ b → first_place (bytes_eq s) names ≡ first_place (bytes_eq s) (names ++ name ∷ [])
+    by_test true e =
+        let here : first_place (bytes_eq s) names ≡ Some stands.0 = ap (λ (k : List ℕ). first_place (bytes_eq k) names) ((bytes_eq-Decides s name).0 e) ∙ stands.1 in
+        here ∙ sym (first_stays (bytes_eq s) names (name ∷ []) stands.0 here)
+    by_test false e = sym (not_at_end (bytes_eq s) names name e)
+
+-- ---- whether a name is among others, in whatever order
+swapped : (a b c : Bool) → (a || (b || c)) ≡ (b || (a || c))
+swapped true true c = refl
+swapped true false c = refl
+swapped false true c = refl
+swapped false false c = refl
+
+any_end : {A : Type 0} (p : A → Bool) (xs : List A) (x : A) → list_any p (xs ++ x ∷ []) ≡ (p x || list_any p xs)
+any_end p [] x = refl
+any_end p (y ∷ xs) x = ap (λ b. p y || b) (any_end p xs x) ∙ swapped (p y) (p x) (list_any p xs)
+
+choose_here : (b : Bool) (o : Option ℕ) → is_some (choose b o) ≡ (b || is_some o)
+choose_here true o = refl
+choose_here false None = refl
+choose_here false (Some n) = refl
+
+pub among_reversed : {A : Type 0} (p : A → Bool) (xs : List A) → list_any p (reverse xs) ≡ is_some (first_place p xs)
+among_reversed p [] = refl
+among_reversed p (x ∷ xs) =
+    ap (list_any p) (reverse-append (x ∷ []) xs)
+    ∙ any_end p (reverse xs) x
+    ∙ ap (λ b. p x || b) (among_reversed p xs)
+    ∙ sym (choose_here (p x) (first_place p xs))

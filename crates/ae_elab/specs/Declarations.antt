@@ -1,5 +1,6 @@
 -- The typing rules of declarations, one for each production, and of a whole file.
 use Rattle.std.specs.Prelude.{ℕ, zero, suc, Bool, true, false, not, ◌||◌, List, [], ◌∷◌, ◌++◌, map, length, Option, Some, None}
+use Rattle.std.specs.Option.{is_some}
 use Rattle.ae_core.specs.declared.terms.Sort.{Sort, Sort-F, Var, Rigid, Int, Real, Bool as BoolSort, Unit as UnitSort, Named, fold-Sort}
 use Rattle.ae_core.specs.declared.terms.Sort.TheOpen as sort_layer
 use Rattle.ae_core.specs.declared.terms.Head.TheVariants as head
@@ -53,18 +54,14 @@ abbrev pub drafted : Signature → Span → Bool → List ℕ → Claim → Rule
 drafted sig place is_goal name f = give (record { signature = sig; drafts = record { place = place; is_goal = is_goal; name = name; claim = f } ∷ [] })
 
 -- ---- names that are declared once
-abbrev pub is_here : Option ℕ → Bool
-is_here (Some n) = true
-is_here None = false
-
 abbrev pub twice : List ℕ → Span → TypeFault
 twice text s = fault.Twice (name_in text s) s.from s.to
 
 abbrev pub new_type : List ℕ → Signature → Span → Condition
-new_type text sig s = test (not (is_here (type_number sig (name_in text s)))) (twice text s)
+new_type text sig s = test (not (is_some (type_number sig (name_in text s)))) (twice text s)
 
 abbrev pub new_symbol : List ℕ → Signature → Span → Condition
-new_symbol text sig s = test (not (is_here (symbol_number sig (name_in text s)))) (twice text s)
+new_symbol text sig s = test (not (is_some (symbol_number sig (name_in text s)))) (twice text s)
 
 abbrev pub has_field : List TypeEntry → List ℕ → Bool
 has_field es name = elim (field_place (record { types = es; symbols = [] }) name) [ Some f ↦ true | None ↦ false ]
@@ -141,7 +138,7 @@ constructors_from text of place (c ∷ cs) =
 abbrev pub new_symbols : List ℕ → Signature → List (List ℕ) → List Span → List Condition
 new_symbols text sig seen [] = []
 new_symbols text sig seen (c ∷ cs) =
-    test (not (is_here (symbol_number sig (name_in text c)) || is_among (name_in text c) seen)) (twice text c)
+    test (not (is_some (symbol_number sig (name_in text c)) || is_among (name_in text c) seen)) (twice text c)
     ∷ new_symbols text sig (name_in text c ∷ seen) cs
 
 abbrev pub count_from : {A : Type 0} → ℕ → List A → List ℕ

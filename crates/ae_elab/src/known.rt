@@ -1,14 +1,14 @@
 //! The declarations so far, with an index of their names.
 
-ghost use Rattle.std.specs.Prelude.{◌≡◌, List, ℕ, Option, OnOk, length};
+ghost use Rattle.std.specs.Prelude.{◌≡◌, ◌++◌, ◌∷◌, [], List, OnOk};
 ghost use Rattle.ae_core.specs.Sorts as sort;
 ghost use Rattle.ae_elab.specs.Declarations as declared;
 ghost use Rattle.ae_elab.specs.Scope as scope;
 
 use crate::names::Names;
 use ae_core::lists::List;
-use ae_core::problems::Signature;
-use std::alloc::Global;
+use ae_core::problems::{Signature, SymbolEntry, TypeEntry};
+use std::alloc::{AllocError, Global};
 use std::marker::Model;
 
 /// The declarations so far, and an index of their names.
@@ -32,6 +32,16 @@ impl<'a> Model for Known<'a> {
     ghost view = { λ k. k.signature };
 
     ghost invariant = { λ k. (map (λ e. e.name) k.signature.types ≡ k.types) × (map (λ e. e.name) k.signature.symbols ≡ k.symbols) };
+}
+
+// Drops the last element.
+fn drop_last<T: Drop>(items: &mut List<T>)
+    ensures { (kept : List T) (last : T) → items.old ≡ kept ++ last ∷ [] → items.new ≡ kept }
+{
+    match items.pop() {
+        Some(_last) => {}
+        None => {}
+    }
 }
 
 impl<'a> Known<'a> {
@@ -77,6 +87,36 @@ impl<'a> Known<'a> {
         match self.signature.types.as_slice().get(number) {
             Some(entry) => entry.arity == count,
             None => false,
+        }
+    }
+
+    /// A type behind the others. `name` is its name in the text.
+    pub fn push_type(&mut self, name: &'a str, entry: TypeEntry) -> Result<(), AllocError>
+        requires name { entry.name ≡ name.now }
+        ensures types { OnOk result (self.new ≡ declared.with_types self.old (entry ∷ [])) }
+    {
+        self.signature.types.push(entry)?;
+        match self.types.push(name) {
+            Ok(()) => Ok(()),
+            Err(error) => {
+                drop_last(&mut self.signature.types);
+                Err(error)
+            }
+        }
+    }
+
+    /// A symbol behind the others. `name` is its name in the text.
+    pub fn push_symbol(&mut self, name: &'a str, entry: SymbolEntry) -> Result<(), AllocError>
+        requires name { entry.name ≡ name.now }
+        ensures symbols { OnOk result (self.new ≡ declared.with_symbols self.old (entry ∷ [])) }
+    {
+        self.signature.symbols.push(entry)?;
+        match self.symbols.push(name) {
+            Ok(()) => Ok(()),
+            Err(error) => {
+                drop_last(&mut self.signature.symbols);
+                Err(error)
+            }
         }
     }
 }

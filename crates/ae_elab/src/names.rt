@@ -1,6 +1,7 @@
 //! Names: what stands at a place of the text, and names that are numbered in their order.
 
-ghost use Rattle.std.specs.Prelude.{◌≡◌, ◌++◌, ◌∷◌, [], Some, None, List, ℕ, length, IfOk, OnOk};
+ghost use Rattle.std.specs.Prelude.{◌≡◌, ◌++◌, ◌∷◌, [], Some, None, List, ℕ, true, length, IfOk, OnOk, OnErr};
+ghost use Rattle.std.specs.Option.{is_some};
 ghost use Rattle.std.specs.Cmp.{partial_equiv_from_equiv, partial_order_from_agreeing_total};
 ghost use Rattle.std.specs.Cmp.Lexicographic.{slice_cmp};
 ghost use Rattle.std.specs.Ordering.{eq_by_cmp, nat_cmp};
@@ -93,7 +94,7 @@ impl<'a> PartialEq for Name<'a> {
     }
 }
 
-/// Names of the text in an order of their own, each once. A name's number is its place, from 0.
+/// Names of the text in an order of their own. A name's number is the place where it stands first, from 0.
 #[derive(Drop)]
 pub struct Names<'a> {
     names: List<Name<'a>>,
@@ -152,10 +153,11 @@ impl<'a> Names<'a> {
         self.places.get(&Name { text: name }).copied()
     }
 
-    /// A name that isn't there, behind the others.
-    pub fn push(&mut self, name: &'a str) -> Result<(), AllocError>
+    // A name that isn't there, behind the others.
+    fn push_new(&mut self, name: &'a str) -> Result<(), AllocError>
         requires new { first_place (bytes_eq name.now) self.old ≡ None }
         ensures names { OnOk result (self.new ≡ self.old ++ name.now ∷ []) }
+        ensures err { OnErr result (self.new ≡ self.old) }
     {
         let place = self.names.len();
         self.names.push(Name { text: name })?;
@@ -165,6 +167,27 @@ impl<'a> Names<'a> {
                 drop_last(&mut self.names);
                 Err(AllocError::from(failed))
             }
+        }
+    }
+
+    // A name that is there, behind the others once more. It keeps its number.
+    fn push_again(&mut self, name: &'a str) -> Result<(), AllocError>
+        requires stands { is_some (first_place (bytes_eq name.now) self.old) ≡ true }
+        ensures names { OnOk result (self.new ≡ self.old ++ name.now ∷ []) }
+        ensures err { OnErr result (self.new ≡ self.old) }
+    {
+        self.names.push(Name { text: name })?;
+        Ok(())
+    }
+
+    /// A name behind the others.
+    pub fn push(&mut self, name: &'a str) -> Result<(), AllocError>
+        ensures names { OnOk result (self.new ≡ self.old ++ name.now ∷ []) }
+        ensures err { OnErr result (self.new ≡ self.old) }
+    {
+        match self.number_of(name) {
+            Some(_number) => self.push_again(name),
+            None => self.push_new(name),
         }
     }
 }

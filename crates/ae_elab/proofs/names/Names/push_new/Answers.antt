@@ -7,7 +7,7 @@ use Rattle.std.specs.Str.{bytes_eq}
 use Rattle.ae_elab.specs.Scope.{first_place}
 use Rattle.ae_elab.specs.Inner.Index.{IsIndex}
 use Rattle.ae_elab.proofs.IndexLaws.{grown}
-use Rattle.ae_elab.proofs.names.Names.push.Goals as goal
+use Rattle.ae_elab.proofs.names.Names.push_new.Goals as goal
 
 pub invariant_of-self-in-Ok : goal.invariant_of-self-in-Ok
 invariant_of-self-in-Ok c =
