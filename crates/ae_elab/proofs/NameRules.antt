@@ -57,9 +57,9 @@ module _ (text : List ℕ) (sig : Signature) (seen : List (List ℕ)) (x : Span)
   name_failed : (m : ℕ → Sort) → taken ≡ true → IsNotMet condition m (twice text x)
   name_failed m e = test_not_met (not written) (twice text x) m (λ h. true≢false (sym h ∙ same_test true e))
 
-  module _ (whole : List Condition) (xs : List Span) (i : ℕ) (m : ℕ → Sort) (l : i < length xs) (e : x ≡ get_or xs i x) (f : Follows whole (new_symbols text sig (reverse seen) (drop i xs)) m) where
+  module _ (whole : List Condition) (xs : List Span) (i : ℕ) (d : Span) (m : ℕ → Sort) (l : i < length xs) (e : x ≡ get_or xs i d) (f : Follows whole (new_symbols text sig (reverse seen) (drop i xs)) m) where
     at_name : Follows whole (condition ∷ new_symbols text sig (name_in text x ∷ reverse seen) (drop (i + 1) xs)) m
-    at_name = subst (λ (ys : List Span). Follows whole (new_symbols text sig (reverse seen) ys) m) (drop_more xs i x l ∙ ap (λ z. z ∷ drop (i + 1) xs) (sym e)) f
+    at_name = subst (λ (ys : List Span). Follows whole (new_symbols text sig (reverse seen) ys) m) (drop_more xs i d l ∙ ap (λ z. z ∷ drop (i + 1) xs) (sym e)) f
 
     pub names_next : taken ≡ false → Follows whole (new_symbols text sig (reverse (seen ++ n ∷ [])) (drop (i + 1) xs)) m
     names_next h =
