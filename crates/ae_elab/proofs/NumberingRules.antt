@@ -1,10 +1,10 @@
 -- Rules of numbers and of written type variables, as functions follow them.
-use Rattle.std.proofs.Common.{◌≡◌, ℕ, suc, List, [], ◌∷◌, ◌++◌, length, Option, Some, None, refl, sym, ap, subst}
+use Rattle.std.proofs.Common.{◌≡◌, ℕ, suc, List, [], ◌∷◌, ◌++◌, length, Some, None, refl, sym, ap}
 use Rattle.std.specs.Str.{bytes_eq}
-use Rattle.ae_core.specs.declared.terms.Sort.{Sort, Rigid}
+use Rattle.ae_core.specs.declared.terms.Sort.{Rigid}
 use Rattle.ae_elab.specs.Scope.{first_place}
-use Rattle.ae_elab.specs.Rules.{Passed, Rule, give, fresh, occurrence, written_variable, count_written}
-use Rattle.ae_elab.specs.Steps.{IsWalked, IsTaken}
+use Rattle.ae_elab.specs.Rules.{Passed, give, fresh, occurrence, written_variable, count_written}
+use Rattle.ae_elab.specs.Steps.{IsTaken}
 use Rattle.ae_elab.proofs.WalkLaws.{none_met, give_walked}
 use Rattle.ae_elab.proofs.EachLaws.{walked_as}
 

@@ -1,11 +1,10 @@
 -- The rules of written types, as functions follow them.
-use Rattle.std.proofs.Common.{◌≡◌, ◌∙◌, ℕ, zero, suc, Bool, true, false, List, [], ◌∷◌, ◌++◌, map, length, Option, Some, None, refl, sym, ap, subst, true≢false, slice_get, get_or, ◌<◌}
+use Rattle.std.proofs.Common.{◌≡◌, ◌∙◌, ℕ, zero, suc, Bool, true, false, List, [], ◌∷◌, map, length, Option, Some, None, refl, sym, ap, subst, true≢false, slice_get, get_or, ◌<◌}
 use Rattle.std.specs.List.{AllByRecursion}
 use Rattle.std.specs.Option.{option_map}
 use Rattle.std.proofs.lemmas.Option.{none-some, same_Some, slice_get-map, slice_get-get_or}
 use Rattle.ae_base.proofs.AllOf.{all_front, all_back}
 use Rattle.std.specs.Str.{bytes_eq}
-use Rattle.ae_core.specs.declared.problems.Signature.{Signature}
 use Rattle.ae_core.specs.declared.terms.Sort.{Sort, Var, Int, Real, Bool as BoolSort, Unit as UnitSort, Named}
 use Rattle.ae_core.specs.Sorts.{type_fits}
 use Rattle.ae_syntax.specs.declared.spans.Span.{Span}
@@ -20,9 +19,9 @@ use Rattle.ae_elab.specs.declared.grounds.Ground.{Ground}
 use Rattle.ae_elab.specs.declared.grounds.Ground.TheVariants.{Free, InField}
 use Rattle.ae_elab.specs.Conditions.{test}
 use Rattle.ae_elab.specs.Names.{names_step, names_in_type, joined}
-use Rattle.ae_elab.specs.Rules.{Passed, Rule, Stated, give, ◌>>◌, ◌⇒◌, refuse, each, written_variable}
+use Rattle.ae_elab.specs.Rules.{Passed, Rule, give, ◌>>◌, ◌⇒◌, refuse, each, written_variable}
 use Rattle.ae_elab.specs.Scope.{Scope, name_at, first_place, type_number}
-use Rattle.ae_elab.specs.Steps.{IsWalked, IsStopped, IsTaken, IsHalted}
+use Rattle.ae_elab.specs.Steps.{IsTaken, IsHalted}
 use Rattle.ae_elab.specs.WrittenTypes.{TypeRule, type_step, type_rule, parameter, variable_rule, is_other, named_rule}
 use Rattle.ae_elab.proofs.WalkLaws.{give_walked, then_walked, then_stops, then_stops_later, demand_walked, demand_stops, demand_stops_later, refuse_stops, test_met, test_not_met}
 use Rattle.ae_elab.proofs.EachLaws.{walked_as, stopped_as}

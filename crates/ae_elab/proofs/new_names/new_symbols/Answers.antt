@@ -2,7 +2,6 @@ use Rattle.std.proofs.Common.{arith, ◌≡◌, ◌∙◌, ℕ, ◌+◌, List, [
 use Rattle.std.specs.List.{AllByRecursion}
 use Rattle.std.proofs.lemmas.Option.{slice_get-get_or}
 use Rattle.ae_base.proofs.AllOf.{all_at}
-use Rattle.ae_core.specs.declared.terms.Sort.{Sort}
 use Rattle.ae_syntax.specs.declared.spans.Span.{Span}
 use Rattle.ae_elab.specs.declared.faults.TypeFault.{TypeFault}
 use Rattle.ae_elab.specs.declared.faults.TypeFault.TheVariants as fault
@@ -33,7 +32,7 @@ returns-then-is_taken-clause-fault c m =
     subst (λ (ys : List Span). AreNotMet (new_symbols text c.args.known.now [] ys) m c.in_ok-twice.field-0) c.as_slice-place-items.ensures
     (subst (λ (e : TypeFault). AreNotMet (new_symbols text c.args.known.now [] xs) m e) (sym shows)
     (names_stop text c.args.known.now c.loop-place.seen x c.name_at-name.result.now name (new_symbols text c.args.known.now [] xs) xs i nowhere m c.loop-place-test.true refl
-      (c.loop-place.invariant m) (sym c.if-is_taken.ensures)))
+    (c.loop-place.invariant m) (sym c.if-is_taken.ensures)))
 
 pub loop-place-preserved : goal.loop-place-preserved
 loop-place-preserved c m =
@@ -44,7 +43,7 @@ loop-place-preserved c m =
     let whole = new_symbols text c.args.known.now [] xs in
     subst (λ (ns : List (List ℕ)). Follows whole (new_symbols text c.args.known.now (reverse ns) (drop (i + 1) xs)) m) (sym c.in_ok-push.ensures.names)
     (names_next text c.args.known.now c.loop-place.seen x c.name_at-name.result.now c.name_at-name.ensures whole xs i nowhere m c.loop-place-test.true refl
-      (c.loop-place.invariant m) (sym c.if-is_taken.ensures))
+    (c.loop-place.invariant m) (sym c.if-is_taken.ensures))
 
 pub returns-clause-met : goal.returns-clause-met
 returns-clause-met c m =

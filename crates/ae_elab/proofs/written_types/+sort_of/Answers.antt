@@ -1,4 +1,4 @@
-use Rattle.std.proofs.Common.{arith, ◌≡◌, ◌∙◌, ℕ, ◌+◌, ◌<◌, List, IfOk, IfErr, drop, sym, ap, subst}
+use Rattle.std.proofs.Common.{arith, ◌≡◌, ◌∙◌, ◌+◌, ◌<◌, List, drop, sym, ap, subst}
 use Rattle.std.proofs.lemmas.Result.{IfOk-weaker, IfErr-weaker}
 use Rattle.ae_core.specs.declared.terms.Sort.{Sort}
 use Rattle.ae_syntax.specs.declared.types.TypeKind as kind
@@ -56,8 +56,7 @@ sort_of-requires t c =
     let v = c.arg-item.result in
     let k = c.loop-arg.arg-index in
     let n = c.in-Named.name in
-    let view = c.as_slice-arg-items.ensures in
-    (
+    let view = c.as_slice-arg-items.ensures in (
       subst (λ m. size-WrittenType v < m) c.decreases (arg_falls w n c.in-Named.args us k v c.in-Named.is view c.loop-arg-test.true c.arg-item.is),
       arg_ready (IsName c.args.text.now) w n c.in-Named.args us k v c.requires.names c.in-Named.is view c.loop-arg-test.true c.arg-item.is,
     )
@@ -70,7 +69,7 @@ returns-in-Err-clause-fault t c locals m =
     let is : c.args.written.now.kind ≡ kind.Named c.in-Named.name ws = c.in-Named.is ∙ ap (kind.Named c.in-Named.name) (sym c.as_slice-arg-items.ensures) in
     args_halt c.args.written.now g sc c.in-Named.name ws is c.args.passing.now c.in-Err.fault
     (λ k. goes_halt (arg_rule g sc) ws k k c.args.passing.now c.loop-arg.passing c.loop-arg.sorts c.loop-arg.arg-index c.arg-item.result c.in-Err.fault
-      c.loop-arg-test.true c.arg-item.is (c.loop-arg.invariant locals k) (c.in-Err.ensures.fault locals k)) m
+    c.loop-arg-test.true c.arg-item.is (c.loop-arg.invariant locals k) (c.in-Err.ensures.fault locals k)) m
 
 pub loop-arg-preserved : goal.loop-arg-preserved
 loop-arg-preserved t c locals m =
@@ -78,7 +77,7 @@ loop-arg-preserved t c locals m =
     let f = arg_rule c.args.ground.now (scope_with c.args.text.now c.args.known.now locals) in
     subst (λ (ss : List Sort). Goes f ws m m c.args.passing.now c.sort_of.new.passing ss (drop (c.loop-arg.arg-index + 1) ws)) (sym c.in_ok-push-in-Ok.ensures.ok)
     (goes_next f ws m m c.args.passing.now c.loop-arg.passing c.loop-arg.sorts c.loop-arg.arg-index m c.sort_of.new.passing c.arg-item.result c.in-Ok.sort
-      c.loop-arg-test.true c.arg-item.is (c.loop-arg.invariant locals m) (c.in-Ok.ensures.sort locals m))
+    c.loop-arg-test.true c.arg-item.is (c.loop-arg.invariant locals m) (c.in-Ok.ensures.sort locals m))
 
 pub returns-after-loop-arg-clause-sort : goal.returns-after-loop-arg-clause-sort
 returns-after-loop-arg-clause-sort t c =
@@ -90,8 +89,8 @@ returns-after-loop-arg-clause-sort t c =
     IfOk-weaker c.named_sort.result _
     (λ (s : Sort). (locals : List Local) → IsTaken (rule.type_rule c.args.written.now g (scope_with c.args.text.now c.args.known.now locals)) p q s)
     (λ s h locals. (let sc = scope_with c.args.text.now c.args.known.now locals in
-      name_taken c.args.written.now g sc c.in-Named.name ws is p q c.loop-arg.sorts s
-      (λ k. goes_whole (arg_rule g sc) ws k k p q c.loop-arg.sorts c.loop-arg.arg-index (omega (arith, c.loop-arg-test.false)) (c.loop-arg.invariant locals k)) (h q locals)))
+    name_taken c.args.written.now g sc c.in-Named.name ws is p q c.loop-arg.sorts s
+    (λ k. goes_whole (arg_rule g sc) ws k k p q c.loop-arg.sorts c.loop-arg.arg-index (omega (arith, c.loop-arg-test.false)) (c.loop-arg.invariant locals k)) (h q locals)))
     c.named_sort.ensures.sort
 
 pub returns-after-loop-arg-clause-fault : goal.returns-after-loop-arg-clause-fault
@@ -104,6 +103,6 @@ returns-after-loop-arg-clause-fault t c =
     IfErr-weaker c.named_sort.result _
     (λ (x : TypeFault). (locals : List Local) → IsHalted (rule.type_rule c.args.written.now g (scope_with c.args.text.now c.args.known.now locals)) p x)
     (λ x h locals. (let sc = scope_with c.args.text.now c.args.known.now locals in
-      name_halts c.args.written.now g sc c.in-Named.name ws is p q c.loop-arg.sorts x
-      (λ k. goes_whole (arg_rule g sc) ws k k p q c.loop-arg.sorts c.loop-arg.arg-index (omega (arith, c.loop-arg-test.false)) (c.loop-arg.invariant locals k)) (h q locals)))
+    name_halts c.args.written.now g sc c.in-Named.name ws is p q c.loop-arg.sorts x
+    (λ k. goes_whole (arg_rule g sc) ws k k p q c.loop-arg.sorts c.loop-arg.arg-index (omega (arith, c.loop-arg-test.false)) (c.loop-arg.invariant locals k)) (h q locals)))
     c.named_sort.ensures.fault
