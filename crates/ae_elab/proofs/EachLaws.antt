@@ -1,11 +1,12 @@
 -- Walks along lists, and walks of a rule that is another one.
-use Rattle.std.proofs.Common.{ℕ, ◌+◌, ◌<◌, ◌≤◌, List, [], ◌∷◌, ◌++◌, ◌≡◌, length, drop, get_or, sym, ap, ◌∙◌, subst}
+use Rattle.std.proofs.Common.{ℕ, ◌+◌, ◌<◌, ◌≤◌, List, [], ◌∷◌, ◌++◌, ◌≡◌, length, drop, get_or, refl, sym, ap, ◌∙◌, subst}
 use Rattle.std.proofs.lemmas.List.{append_assoc, append-nil, drop_more, drop_all}
 use Rattle.ae_core.specs.declared.terms.Sort.{Sort}
 use Rattle.ae_elab.specs.declared.faults.TypeFault.{TypeFault}
-use Rattle.ae_elab.specs.Rules.{Passed, Rule, give, ◌>>◌, each}
+use Rattle.ae_elab.specs.Conditions.{Condition}
+use Rattle.ae_elab.specs.Rules.{Passed, Rule, give, ◌>>◌, all_of, each}
 use Rattle.ae_elab.specs.Steps.{AreMet, AreNotMet, IsWalked, IsStopped}
-use Rattle.ae_elab.proofs.WalkLaws.{give_walked, then_walked, then_stops, then_stops_later}
+use Rattle.ae_elab.proofs.WalkLaws.{both_met, first_stops, second_stops, give_walked, then_walked, then_stops, then_stops_later}
 
 -- ---- a rule that states the same
 pub walked_as : {A : Type 0} (r s : Rule A) (m w : ℕ → Sort) (p q : Passed) (x : A) → r p ≡ s p → IsWalked r m w p q x → IsWalked s m w p q x
@@ -64,3 +65,30 @@ module _ {A B : Type 0} (f : A → Rule B) (xs : List A) (m u : ℕ → Sort) (s
 
   pub goes_whole : length xs ≤ i → Goes f xs m u start now done (drop i xs) → IsWalked (each f xs) m u start now done
   goes_whole l g = goes_end f xs m u start now done (subst (Goes f xs m u start now done) (drop_all i xs l) g)
+
+-- ---- conditions before a rule
+module _ {A : Type 0} (r : Rule A) (p : Passed) where
+  conditions_before : (ds : List Condition) → (all_of ds r p).conditions ≡ ds ++ (r p).conditions
+  conditions_before [] = refl
+  conditions_before (d ∷ ds) = ap (λ es. d ∷ es) (conditions_before ds)
+
+  value_after : (ds : List Condition) → (all_of ds r p).value ≡ (r p).value
+  value_after [] = refl
+  value_after (d ∷ ds) = value_after ds
+
+  passed_after : (ds : List Condition) → (all_of ds r p).passed ≡ (r p).passed
+  passed_after [] = refl
+  passed_after (d ∷ ds) = passed_after ds
+
+  pub all_walked : (ds : List Condition) (m u w : ℕ → Sort) (q : Passed) (x : A) → AreMet ds m u → IsWalked r u w p q x → IsWalked (all_of ds r) m w p q x
+  all_walked ds m u w q x a b = record {
+    met = subst (λ es. AreMet es m w) (sym (conditions_before ds)) (both_met ds (r p).conditions m u w a b.met);
+    value = value_after ds ∙ b.value;
+    passed = passed_after ds ∙ b.passed;
+  }
+
+  pub all_stop : (ds : List Condition) (m : ℕ → Sort) (e : TypeFault) → AreNotMet ds m e → IsStopped (all_of ds r) m p e
+  all_stop ds m e a = subst (λ es. AreNotMet es m e) (sym (conditions_before ds)) (first_stops ds (r p).conditions m e a)
+
+  pub all_stop_later : (ds : List Condition) (m u : ℕ → Sort) (e : TypeFault) → AreMet ds m u → IsStopped r u p e → IsStopped (all_of ds r) m p e
+  all_stop_later ds m u e a b = subst (λ es. AreNotMet es m e) (sym (conditions_before ds)) (second_stops ds (r p).conditions m u e a b)

@@ -1,5 +1,5 @@
 -- Conditions on names that are declared once, as functions follow them.
-use Rattle.std.proofs.Common.{◌≡◌, ◌∙◌, ℕ, ◌+◌, ◌<◌, ◌≤◌, Bool, true, false, not, ◌||◌, List, [], ◌∷◌, ◌++◌, length, reverse, drop, get_or, sym, ap, subst, true≢false}
+use Rattle.std.proofs.Common.{◌≡◌, ◌∙◌, ℕ, ◌+◌, ◌<◌, ◌≤◌, Bool, true, false, not, ◌||◌, Option, Some, None, List, [], ◌∷◌, ◌++◌, length, reverse, drop, get_or, sym, ap, subst, true≢false}
 use Rattle.std.specs.Option.{is_some}
 use Rattle.std.specs.Str.{bytes_eq}
 use Rattle.std.proofs.lemmas.List.{reverse-append, drop_more, drop_all}
@@ -8,9 +8,9 @@ use Rattle.ae_core.specs.declared.problems.Signature.{Signature}
 use Rattle.ae_syntax.specs.declared.spans.Span.{Span}
 use Rattle.ae_elab.specs.declared.faults.TypeFault.{TypeFault}
 use Rattle.ae_elab.specs.Conditions.{Condition, test}
-use Rattle.ae_elab.specs.Scope.{name_in, first_place, symbol_number, is_among}
-use Rattle.ae_elab.specs.Declarations.{new_symbols, twice}
-use Rattle.ae_elab.specs.Steps.{IsMet, IsNotMet, AreMet, AreNotMet}
+use Rattle.ae_elab.specs.Scope.{name_in, first_place, symbol_number, type_number, is_among}
+use Rattle.ae_elab.specs.Declarations.{new_symbols, new_type, twice}
+use Rattle.ae_elab.specs.Steps.{IsMet, IsNotMet, AreMet, AreNotMet, AreHeld, AreFailed}
 use Rattle.ae_elab.proofs.IndexLaws.{among_reversed}
 use Rattle.ae_elab.proofs.WalkLaws.{none_met, one_met, one_stops, later_stops, test_met, test_not_met}
 
@@ -72,3 +72,17 @@ module _ (text : List ℕ) (sig : Signature) (seen : List (List ℕ)) (x : Span)
 pub names_end : (text : List ℕ) (sig : Signature) (seen : List (List ℕ)) (whole : List Condition) (xs : List Span) (i : ℕ) (m : ℕ → Sort) → length xs ≤ i
     → Follows whole (new_symbols text sig seen (drop i xs)) m → AreMet whole m m
 names_end text sig seen whole xs i m l f = follow_end whole m (subst (λ (ys : List Span). Follows whole (new_symbols text sig seen ys) m) (drop_all i xs l) f)
+
+-- ---- a type's name
+module _ (text : List ℕ) (sig : Signature) (x : Span) (n : List ℕ) (same : n ≡ name_in text x) where
+  abbrev free : Bool
+  free = not (is_some (type_number sig (name_in text x)))
+
+  pub type_held : type_number sig n ≡ None → AreHeld (new_type text sig x ∷ [])
+  type_held e m =
+      one_met (new_type text sig x) [] m m m (test_met free (twice text x) m (ap (λ o. not (is_some o)) (ap (λ (k : List ℕ). type_number sig k) (sym same) ∙ e))) (none_met m)
+
+  pub type_failed : (k : ℕ) → type_number sig n ≡ Some k → AreFailed (new_type text sig x ∷ []) (twice text x)
+  type_failed k e m =
+      one_stops (new_type text sig x) [] m (twice text x)
+      (test_not_met free (twice text x) m (λ h. true≢false (sym h ∙ ap (λ o. not (is_some o)) (ap (λ (k : List ℕ). type_number sig k) (sym same) ∙ e))))

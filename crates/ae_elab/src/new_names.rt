@@ -60,3 +60,21 @@ pub fn new_symbols<'a>(
     }
     Ok(())
 }
+
+/// No declared type has the name at a place.
+pub fn new_type<'a>(
+    alloc: Global,
+    text: &'a [u8],
+    known: &Known<'a>,
+    place: Span,
+) -> Result<(), TypeFault>
+    requires { IsName text.now place }
+    ensures met { OnOk result (AreHeld (rule.new_type text.now known.now place ∷ [])) }
+    ensures fault { IfErr result (AreFailed (rule.new_type text.now known.now place ∷ [])) }
+{
+    let name = name_at(text, place);
+    match known.type_number(name) {
+        Some(_number) => Err(twice(alloc, name, place)?),
+        None => Ok(()),
+    }
+}

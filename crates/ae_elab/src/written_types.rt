@@ -5,7 +5,7 @@ ghost use Rattle.std.specs.List.{AllByRecursion};
 ghost use Rattle.ae_core.specs.declared.problems.Signature.{Signature};
 ghost use Rattle.ae_elab.specs.declared.faults.TypeFault.TheVariants as fault;
 ghost use Rattle.ae_elab.specs.Names.{IsName, names_in_type};
-ghost use Rattle.ae_elab.specs.Rules.{Passed};
+ghost use Rattle.ae_elab.specs.Rules.{Passed, each};
 ghost use Rattle.ae_elab.specs.Scope.{Local, name_in, scope_with, type_number};
 ghost use Rattle.ae_elab.specs.Steps.{IsTaken, IsHalted};
 ghost use Rattle.ae_elab.specs.WrittenTypes as rule;
@@ -129,4 +129,27 @@ pub fn sort_of<'a>(
             named_sort(alloc, text, known, ground, *name, sorts)
         }
     }
+}
+
+/// The sorts that written types are, from left to right.
+pub fn sorts_of<'a>(
+    alloc: Global,
+    text: &'a [u8],
+    known: &Known<'a>,
+    ground: &Ground<'a>,
+    passing: &mut Passing<'a>,
+    written: &List<WrittenType>,
+) -> Result<List<Sort>, TypeFault>
+    requires names { AllByRecursion (λ w. AllByRecursion (IsName text.now) (names_in_type w)) written.now }
+    ensures sorts { IfOk result (λ ss. (locals : List Local) → IsTaken (each (λ w. rule.type_rule w ground.now (scope_with text.now known.now locals)) written.now) passing.old passing.new ss) }
+    ensures fault { IfErr result (λ e. (locals : List Local) → IsHalted (each (λ w. rule.type_rule w ground.now (scope_with text.now known.now locals)) written.now) passing.old e) }
+{
+    let mut sorts = List::new(alloc);
+    for item in written.as_slice() {
+        match sort_of(alloc, text, known, ground, passing, item) {
+            Ok(sort) => sorts.push(sort)?,
+            Err(fault) => return Err(fault),
+        }
+    }
+    Ok(sorts)
 }
