@@ -1,8 +1,7 @@
-use Rattle.std.proofs.Common.{◌≡◌, ◌∙◌, ℕ, List, [], ◌∷◌, Option, Some, None, sym, ap, subst}
+use Rattle.std.proofs.Common.{◌≡◌, ◌∙◌, ℕ, List, [], ◌∷◌, sym, ap, subst}
 use Rattle.ae_elab.specs.declared.faults.TypeFault.{TypeFault}
 use Rattle.ae_elab.specs.declared.faults.TypeFault.TheVariants as fault
 use Rattle.ae_elab.specs.Declarations.{new_type, twice}
-use Rattle.ae_elab.specs.Scope.{type_number}
 use Rattle.ae_elab.specs.Steps.{AreNotMet}
 use Rattle.ae_elab.proofs.NameRules.{type_held, type_failed}
 use Rattle.ae_elab.proofs.new_names.new_type.Goals as goal

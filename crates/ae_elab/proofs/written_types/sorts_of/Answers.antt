@@ -1,4 +1,4 @@
-use Rattle.std.proofs.Common.{arith, ◌≡◌, ◌∙◌, ℕ, ◌+◌, List, Some, drop, sym, ap, subst}
+use Rattle.std.proofs.Common.{arith, ◌∙◌, ℕ, ◌+◌, List, Some, drop, sym, ap, subst}
 use Rattle.std.specs.List.{AllByRecursion}
 use Rattle.std.proofs.lemmas.Option.{slice_get-get_or}
 use Rattle.ae_base.proofs.AllOf.{all_at}
@@ -22,7 +22,7 @@ sort_of-requires c =
     let i = c.loop-item.item-index in
     record {
       names = all_at (IsNamed c.args.text.now) ws i v (subst (AllByRecursion (IsNamed c.args.text.now)) (sym c.as_slice-item-items.ensures) c.requires.names)
-      (slice_get-get_or ws i v c.loop-item-test.true ∙ ap Some (sym c.item-item.is));
+          (slice_get-get_or ws i v c.loop-item-test.true ∙ ap Some (sym c.item-item.is));
     }
 
 pub returns-in-Err-clause-fault : goal.returns-in-Err-clause-fault
@@ -31,7 +31,7 @@ returns-in-Err-clause-fault c locals m =
     let f = arg_rule c.args.ground.now (scope_with c.args.text.now c.args.known.now locals) in
     subst (λ (ys : List WrittenType). IsStopped (each f ys) m c.args.passing.now c.in-Err.fault) c.as_slice-item-items.ensures
     (goes_halt f ws m m c.args.passing.now c.loop-item.passing c.loop-item.sorts c.loop-item.item-index c.item-item.result c.in-Err.fault
-      c.loop-item-test.true c.item-item.is (c.loop-item.invariant locals m) (c.in-Err.ensures.fault locals m))
+    c.loop-item-test.true c.item-item.is (c.loop-item.invariant locals m) (c.in-Err.ensures.fault locals m))
 
 pub loop-item-preserved : goal.loop-item-preserved
 loop-item-preserved c locals m =
@@ -39,7 +39,7 @@ loop-item-preserved c locals m =
     let f = arg_rule c.args.ground.now (scope_with c.args.text.now c.args.known.now locals) in
     subst (λ (ss : List Sort). Goes f ws m m c.args.passing.now c.sort_of.new.passing ss (drop (c.loop-item.item-index + 1) ws)) (sym c.in_ok-push-in-Ok.ensures.ok)
     (goes_next f ws m m c.args.passing.now c.loop-item.passing c.loop-item.sorts c.loop-item.item-index m c.sort_of.new.passing c.item-item.result c.in-Ok.sort
-      c.loop-item-test.true c.item-item.is (c.loop-item.invariant locals m) (c.in-Ok.ensures.sort locals m))
+    c.loop-item-test.true c.item-item.is (c.loop-item.invariant locals m) (c.in-Ok.ensures.sort locals m))
 
 pub returns-clause-sorts : goal.returns-clause-sorts
 returns-clause-sorts c locals m =
