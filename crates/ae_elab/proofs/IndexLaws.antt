@@ -90,15 +90,15 @@ repeated names name found i t s = i s ∙ by_test (bytes_eq s name) refl
     by_test false e = sym (not_at_end (bytes_eq s) names name e)
 
 -- ---- whether a name is among others, in whatever order
-swapped : (a b c : Bool) → (a || (b || c)) ≡ (b || (a || c))
-swapped true true c = refl
-swapped true false c = refl
-swapped false true c = refl
-swapped false false c = refl
-
 any_end : {A : Type 0} (p : A → Bool) (xs : List A) (x : A) → list_any p (xs ++ x ∷ []) ≡ (p x || list_any p xs)
 any_end p [] x = refl
 any_end p (y ∷ xs) x = ap (λ b. p y || b) (any_end p xs x) ∙ swapped (p y) (p x) (list_any p xs)
+  where
+    swapped : (a b c : Bool) → (a || (b || c)) ≡ (b || (a || c))
+    swapped true true c = refl
+    swapped true false c = refl
+    swapped false true c = refl
+    swapped false false c = refl
 
 choose_here : (b : Bool) (o : Option ℕ) → is_some (choose b o) ≡ (b || is_some o)
 choose_here true o = refl

@@ -1,7 +1,8 @@
 -- The rules of written types, as functions follow them.
-use Rattle.std.proofs.Common.{◌≡◌, ◌∙◌, ℕ, zero, suc, Bool, true, false, List, [], ◌∷◌, map, length, Option, Some, None, refl, sym, ap, subst, true≢false, slice_get, get_or, ◌<◌}
+use Rattle.std.proofs.Common.{◌≡◌, ◌∙◌, ℕ, zero, suc, true, false, List, [], ◌∷◌, map, length, Option, Some, None, refl, sym, ap, subst, slice_get, get_or, ◌<◌}
 use Rattle.std.specs.List.{AllByRecursion}
 use Rattle.std.specs.Option.{option_map}
+use Rattle.std.proofs.lemmas.Bool.{both_ways}
 use Rattle.std.proofs.lemmas.Option.{none-some, same_Some, slice_get-map, slice_get-get_or}
 use Rattle.ae_base.proofs.AllOf.{all_front, all_back}
 use Rattle.std.specs.Str.{bytes_eq}
@@ -47,10 +48,6 @@ named_unknown g sc s args o p e m =
     let x = fault.UnknownName (name_at sc s) s.from s.to in
     stopped_as (refuse x UnitSort) (named_rule g sc s args o) m p x (ap (λ o. named_rule g sc s args o p) (sym e)) (refuse_stops x UnitSort m p)
 
--- a test that doesn't hold, and one that does
-off : (b : Bool) → b ≡ false → b ≡ true → ⊥
-off b e f = true≢false (sym f ∙ e)
-
 module _ (g : Ground) (sc : Scope) (s : Span) (args : List Sort) (h : ℕ) where
   abbrev after_self : Rule Sort
   after_self = test (type_fits sc.signature h (length args)) (fault.Arity s.from s.to) ⇒ give (Named h args)
@@ -62,7 +59,7 @@ module _ (g : Ground) (sc : Scope) (s : Span) (args : List Sort) (h : ℕ) where
   named_self o p e f m =
       let x = fault.SelfRecord s.from s.to in
       stopped_as whole (named_rule g sc s args o) m p x (ap (λ o. named_rule g sc s args o p) (sym e))
-      (demand_stops (test (is_other g h) x) after_self m p x (test_not_met (is_other g h) x m (off (is_other g h) f)))
+      (demand_stops (test (is_other g h) x) after_self m p x (test_not_met (is_other g h) x m (both_ways (is_other g h) f)))
 
   pub named_arity : (o : Option ℕ) (p : Passed) → o ≡ Some h → is_other g h ≡ true → type_fits sc.signature h (length args) ≡ false → IsHalted (named_rule g sc s args o) p (fault.Arity s.from s.to)
   named_arity o p e t f m =
@@ -71,7 +68,7 @@ module _ (g : Ground) (sc : Scope) (s : Span) (args : List Sort) (h : ℕ) where
       let y = fault.SelfRecord s.from s.to in
       stopped_as whole (named_rule g sc s args o) m p x (ap (λ o. named_rule g sc s args o p) (sym e))
       (demand_stops_later (test (is_other g h) y) after_self m m p x (test_met (is_other g h) y m t)
-      (demand_stops (test b x) (give (Named h args)) m p x (test_not_met b x m (off b f))))
+      (demand_stops (test b x) (give (Named h args)) m p x (test_not_met b x m (both_ways b f))))
 
   pub named_taken : (o : Option ℕ) (p : Passed) → o ≡ Some h → is_other g h ≡ true → type_fits sc.signature h (length args) ≡ true → IsTaken (named_rule g sc s args o) p p (Named h args)
   named_taken o p e t f m =
