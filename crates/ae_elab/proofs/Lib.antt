@@ -12,3 +12,10 @@ pub mod WalkLaws
 pub mod WeightLaws
 pub mod PartRules
 pub mod Weighing
+pub mod EachLaws
+pub mod EntryLaws
+pub mod IndexLaws
+pub mod NameRules
+pub mod TypeRules
+pub mod TypeSizes
+pub mod NumberingRules

@@ -1,5 +1,6 @@
 -- The typing rules of declarations, one for each production, and of a whole file.
 use Rattle.std.specs.Prelude.{ℕ, zero, suc, Bool, true, false, not, ◌||◌, List, [], ◌∷◌, ◌++◌, map, length, Option, Some, None}
+use Rattle.std.specs.Option.{is_some}
 use Rattle.ae_core.specs.declared.terms.Sort.{Sort, Sort-F, Var, Rigid, Int, Real, Bool as BoolSort, Unit as UnitSort, Named, fold-Sort}
 use Rattle.ae_core.specs.declared.terms.Sort.TheOpen as sort_layer
 use Rattle.ae_core.specs.declared.terms.Head.TheVariants as head
@@ -28,7 +29,9 @@ use Rattle.ae_elab.specs.Conditions.{Condition, test}
 use Rattle.ae_elab.specs.Trees.{Tree, Trees, Claim, none, more, trees, no_pattern, and_pattern, equal, variable, apply, relation, predicate, equivalence, quantified}
 use Rattle.ae_elab.specs.Scope.{Scope, name_in, is_among, type_number, symbol_number, field_place}
 use Rattle.ae_elab.specs.Rules.{Stated, Rule, give, ◌>>◌, ◌⇒◌, all_of, each, fresh, count_written, as_formula, wanted}
-use Rattle.ae_elab.specs.WrittenTypes.{Ground, free, in_field, type_rule}
+use Rattle.ae_elab.specs.declared.grounds.Ground.{Ground}
+use Rattle.ae_elab.specs.declared.grounds.Ground.TheVariants as ground
+use Rattle.ae_elab.specs.WrittenTypes.{type_rule}
 use Rattle.ae_elab.specs.Formulas.{Bound, with_block}
 use Rattle.ae_elab.specs.Expressions.{part_of}
 
@@ -51,18 +54,14 @@ abbrev pub drafted : Signature → Span → Bool → List ℕ → Claim → Rule
 drafted sig place is_goal name f = give (record { signature = sig; drafts = record { place = place; is_goal = is_goal; name = name; claim = f } ∷ [] })
 
 -- ---- names that are declared once
-abbrev pub is_here : Option ℕ → Bool
-is_here (Some n) = true
-is_here None = false
-
 abbrev pub twice : List ℕ → Span → TypeFault
 twice text s = fault.Twice (name_in text s) s.from s.to
 
 abbrev pub new_type : List ℕ → Signature → Span → Condition
-new_type text sig s = test (not (is_here (type_number sig (name_in text s)))) (twice text s)
+new_type text sig s = test (not (is_some (type_number sig (name_in text s)))) (twice text s)
 
 abbrev pub new_symbol : List ℕ → Signature → Span → Condition
-new_symbol text sig s = test (not (is_here (symbol_number sig (name_in text s)))) (twice text s)
+new_symbol text sig s = test (not (is_some (symbol_number sig (name_in text s)))) (twice text s)
 
 abbrev pub has_field : List TypeEntry → List ℕ → Bool
 has_field es name = elim (field_place (record { types = es; symbols = [] }) name) [ Some f ↦ true | None ↦ false ]
@@ -127,7 +126,7 @@ type_decl text sig params n [] =
 type_decl text sig params n (x ∷ xs) =
     let entry = λ (fs : List FieldEntry). type_entry (name_in text n) (length params) (Fields fs) in
     all_of (all_different text [] params) (new_type text sig n
-    ⇒ fields_rule text sig (in_field (map (name_in text) params) (length sig.types)) entry [] (x ∷ xs) >> λ fs. declared (with_types sig (entry fs ∷ [])))
+    ⇒ fields_rule text sig (ground.InField (map (name_in text) params) (length sig.types)) entry [] (x ∷ xs) >> λ fs. declared (with_types sig (entry fs ∷ [])))
 
 -- ---- `type` with constructors
 abbrev pub constructors_from : List ℕ → ℕ → ℕ → List Span → List SymbolEntry
@@ -139,7 +138,7 @@ constructors_from text of place (c ∷ cs) =
 abbrev pub new_symbols : List ℕ → Signature → List (List ℕ) → List Span → List Condition
 new_symbols text sig seen [] = []
 new_symbols text sig seen (c ∷ cs) =
-    test (not (is_here (symbol_number sig (name_in text c)) || is_among (name_in text c) seen)) (twice text c)
+    test (not (is_some (symbol_number sig (name_in text c)) || is_among (name_in text c) seen)) (twice text c)
     ∷ new_symbols text sig (name_in text c ∷ seen) cs
 
 abbrev pub count_from : {A : Type 0} → ℕ → List A → List ℕ
@@ -157,7 +156,7 @@ enumeration_decl text sig n cs =
 -- ---- `logic`
 abbrev pub result_rule : List ℕ → Signature → Option WrittenType → Rule (Option Sort)
 result_rule text sig None = give None
-result_rule text sig (Some w) = type_rule w free (scope_of text sig) >> λ s. give (Some s)
+result_rule text sig (Some w) = type_rule w ground.Free (scope_of text sig) >> λ s. give (Some s)
 
 -- two equal arguments, and that same result
 abbrev pub is_ac : List Sort → Option Sort → Bool
@@ -175,7 +174,7 @@ nature_of false = Free
 abbrev pub logic_decl : List ℕ → Signature → Span → Bool → List Span → List WrittenType → SymbolResult → Rule Declared
 logic_decl text sig place ac names args result =
     all_of (new_symbols text sig [] names) (
-    each (λ w. type_rule w free (scope_of text sig)) args >> λ ss. result_rule text sig result.sort >> λ r.
+    each (λ w. type_rule w ground.Free (scope_of text sig)) args >> λ ss. result_rule text sig result.sort >> λ r.
     test (may_be_ac ac ss r) (fault.BadAc place.from place.to)
     ⇒ count_written >> λ n. declared (with_symbols sig (map (λ x. symbol_entry (name_in text x) n ss r (nature_of ac)) names)))
 
@@ -185,7 +184,7 @@ abbrev pub formals_rule : List ℕ → Signature → List (List ℕ) → List Ty
 formals_rule text sig seen [] = give []
 formals_rule text sig seen (x ∷ xs) =
     test (not (is_among (name_in text x.name) seen)) (twice text x.name)
-    ⇒ type_rule x.sort free (scope_of text sig) >> λ s. fresh >> λ n. formals_rule text sig (name_in text x.name ∷ seen) xs >> λ bs.
+    ⇒ type_rule x.sort ground.Free (scope_of text sig) >> λ s. fresh >> λ n. formals_rule text sig (name_in text x.name ∷ seen) xs >> λ bs.
     give (record { name = name_in text x.name; number = n; sort = s } ∷ bs)
 
 abbrev pub rigids : ℕ → ℕ → List Sort
@@ -209,7 +208,7 @@ defining (b ∷ bs) place t f =
 abbrev pub function_decl : List ℕ → Signature → Span → Span → List TypedName → WrittenType → Expr → Rule Declared
 function_decl text sig place n formals result body =
     new_symbol text sig n
-    ⇒ formals_rule text sig [] formals >> λ bs. type_rule result free (scope_of text sig) >> λ s. count_written >> λ vars.
+    ⇒ formals_rule text sig [] formals >> λ bs. type_rule result ground.Free (scope_of text sig) >> λ s. count_written >> λ vars.
     let after = with_symbols sig (symbol_entry (name_in text n) vars (sorts_of bs) (Some s) Free ∷ []) in
     wanted (with_block bs (scope_of text after)) s (part_of body) >> λ t.
     let head = apply (head.Symbol (length sig.symbols)) (rigids 0 vars) (formal_args bs) in

@@ -21,7 +21,8 @@ use Rattle.ae_elab.specs.Conditions.{test, has_sort, has_operand_sort, may_be, b
 use Rattle.ae_elab.specs.Trees.{Tree, Trees, none, more, numeral, apply, operation, build, update, choice}
 use Rattle.ae_elab.specs.Scope.{Scope, FieldPlace, name_at, field_place}
 use Rattle.ae_elab.specs.Rules.{Rule, give, ◌>>◌, ◌⇒◌, refuse, unknowns, Typed, typed, no_term, Part, Set, as_term, wanted, all_wanted, as_formula}
-use Rattle.ae_elab.specs.WrittenTypes.{type_rule, free}
+use Rattle.ae_elab.specs.declared.grounds.Ground.TheVariants.{Free}
+use Rattle.ae_elab.specs.WrittenTypes.{type_rule}
 
 -- ---- numerals
 abbrev pub numeral_rule : Number → Rule Typed
@@ -54,7 +55,7 @@ negative_rule a sc =
 
 -- ---- `(e : s)`
 abbrev pub ascribed_rule : Part → WrittenType → Scope → Rule Typed
-ascribed_rule e w sc = as_term sc e >> λ t. type_rule w free sc >> λ s. has_sort e.place s t.sort ⇒ give (typed t.tree s)
+ascribed_rule e w sc = as_term sc e >> λ t. type_rule w Free sc >> λ s. has_sort e.place s t.sort ⇒ give (typed t.tree s)
 
 -- ---- `if c then a else b` between terms: the second branch has the first one's sort
 abbrev pub choice_rule : Part → Part → Part → Scope → Rule Typed

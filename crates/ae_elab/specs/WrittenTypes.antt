@@ -7,15 +7,12 @@ use Rattle.ae_syntax.specs.declared.types.WrittenType.{WrittenType, fold-Written
 use Rattle.ae_syntax.specs.declared.types.TypeKind.TheOpen.{TypeKind-F}
 use Rattle.ae_syntax.specs.declared.types.TypeKind.TheOpen as layer
 use Rattle.ae_elab.specs.declared.faults.TypeFault.TheVariants as fault
+use Rattle.ae_elab.specs.declared.grounds.Ground.{Ground}
+use Rattle.ae_elab.specs.declared.grounds.Ground.TheVariants.{Free, InField}
 use Rattle.ae_elab.specs.Conditions.{test}
 use Rattle.ae_elab.specs.Scope.{Scope, name_at, type_number, first_place}
 use Rattle.ae_elab.specs.Rules.{Rule, give, ◌>>◌, ◌⇒◌, refuse, each, written_variable}
 use Rattle.std.specs.Str.{bytes_eq}
-
--- where a type is written: in a field of a record type, whose parameters and number are known, or elsewhere
-pub data Ground : Type 0 where
-  free : Ground
-  in_field : (params : List (List ℕ)) (own : ℕ) → Ground
 
 -- a type variable: elsewhere it is one of the declaration, in a field it is a parameter of the type
 abbrev pub parameter : Scope → Span → Option ℕ → Rule Sort
@@ -23,13 +20,13 @@ parameter sc s (Some i) = give (Var i)
 parameter sc s None = refuse (fault.UnknownName (name_at sc s) s.from s.to) UnitSort
 
 abbrev pub variable_rule : Ground → Scope → Span → Rule Sort
-variable_rule free sc s = written_variable (name_at sc s)
-variable_rule (in_field params own) sc s = parameter sc s (first_place (bytes_eq (name_at sc s)) params)
+variable_rule Free sc s = written_variable (name_at sc s)
+variable_rule (InField params own) sc s = parameter sc s (first_place (bytes_eq (name_at sc s)) params)
 
 -- whether a type of this number may stand there: not the record type itself
 abbrev pub is_other : Ground → ℕ → Bool
-is_other free h = true
-is_other (in_field params own) h = not (nat_eq h own)
+is_other Free h = true
+is_other (InField params own) h = not (nat_eq h own)
 
 -- a type's name, after its arguments: it is declared, it is another one, it has so many parameters
 abbrev pub named_rule : Ground → Scope → Span → List Sort → Option ℕ → Rule Sort
