@@ -2,4 +2,3 @@
 pub mod Sets
 pub mod Points
 pub mod Derived
-pub mod Primitive
