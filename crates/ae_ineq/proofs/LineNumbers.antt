@@ -11,7 +11,7 @@ use Rattle.ae_num.specs.declared.forms.Lin.{Lin}
 use Rattle.ae_num.specs.Forms.{scale_steps, plus_steps, multiple_of, Step, Product, is_wide, wide_of, first_wide, factor_of, IsNormal}
 use Rattle.ae_base.proofs.Integers.{size_positive}
 use Rattle.ae_num.specs.Limits.{FitsLimits}
-use Rattle.ae_journal.specs.Licences.{combine_steps}
+use Rattle.ae_num.specs.Forms.{combine_steps}
 use Rattle.ae_ineq.proofs.CombiningLaws.{steps_nested}
 use Rattle.ae_ineq.proofs.LastLaws.{all_sizes}
 

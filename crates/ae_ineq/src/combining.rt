@@ -4,7 +4,7 @@ ghost use Rattle.std.specs.Prelude.{◌≡◌, None, Some, pos, neg_ℤ, ◌<ℤ
 ghost use Rattle.ae_num.specs.Forms.{meaning, SameMeaning, IsNormal, first_wide, IfWide, factor_of};
 ghost use Rattle.ae_num.specs.Limits.{FitsLimits};
 ghost use Rattle.ae_rows.specs.Rows.{combination};
-ghost use Rattle.ae_journal.specs.Licences.{combine_steps};
+ghost use Rattle.ae_num.specs.Forms.{combine_steps};
 ghost use Rattle.ae_ineq.specs.Combining.{combined_of};
 
 use ae_num::forms::{Lin, Name, plus, scale};

@@ -3,7 +3,7 @@ ghost use Rattle.std.specs.Prelude.{◌≡◌, ◌*ℤ◌, ◌<ℤ◌, ℕ, ℤ,
 ghost use Rattle.ae_num.specs.declared.forms.Lin.{Lin};
 ghost use Rattle.ae_num.specs.Forms.{IsNormal, first_wide, factor_of};
 ghost use Rattle.ae_num.specs.Limits.{FitsLimits};
-ghost use Rattle.ae_journal.specs.Licences.{combine_steps};
+ghost use Rattle.ae_num.specs.Forms.{combine_steps};
 
 /// The numbers of the line that sums two rows are within the limits where their combination could be computed.
 pub fn line_numbers_fit()

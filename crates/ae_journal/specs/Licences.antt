@@ -11,7 +11,7 @@ use Rattle.ae_core.specs.declared.terms.Head.TheVariants as head
 use Rattle.ae_core.specs.declared.terms.Op.{Op}
 use Rattle.ae_core.specs.declared.terms.Op.TheVariants as op
 use Rattle.ae_core.specs.declared.formulas.Lit.{Lit}
-use Rattle.ae_num.specs.Forms.{IsNormal, Step, first_wide, factor_of, plus_steps, scale_steps, subst_steps, multiple_of}
+use Rattle.ae_num.specs.Forms.{IsNormal, Step, first_wide, factor_of, plus_steps, scale_steps, subst_steps, combine_steps, multiple_of}
 use Rattle.ae_num.specs.declared.forms.Lin.{Lin}
 use Rattle.ae_num.specs.declared.forms.Value.{Value}
 use Rattle.ae_journal.specs.Values.{Sum, leaf_factor, minus_val, scale_val, sum_in, sum_of_lin, meaning}
@@ -28,13 +28,6 @@ use Rattle.ae_journal.specs.declared.answers.NumStep.TheVariants as step
 use Rattle.ae_journal.specs.declared.answers.WideAt.{WideAt}
 
 -- ---- the products and sums of a step, in their order
--- of the first row, in which the key has a positive factor, and the second, in which it has a negative one: the multiples that cancel it, and their sum
-abbrev pub combine_steps : Lin → ℕ → Lin → List Step
-combine_steps f n h =
-    let e = neg_ℤ (factor_of h.parts n) in
-    let c = factor_of f.parts n in
-    scale_steps e h.den f ++ scale_steps c f.den h ++ plus_steps (multiple_of e h.den f) (multiple_of c f.den h)
-
 -- the right form of `scale` is a constant
 abbrev pub stated_steps : NumStep → Lin → Option ℕ → Lin → List Step
 stated_steps step.Plus f None h = plus_steps f h

@@ -1,6 +1,5 @@
 pub mod Largest
 pub mod Solutions
-pub mod Rests
 mod Links
 mod RowLaws
 mod Versions

@@ -5,13 +5,13 @@ use Rattle.ae_num.specs.declared.forms.Part.{Part}
 use Rattle.ae_math.proofs.FractionLaws.{same_frac}
 use Rattle.ae_num.proofs.MeaningLaws.{ratio_zero, factor_meaning}
 use Rattle.ae_linear.specs.Solving.{IsLargest, IsOff, SolvesFor}
-use Rattle.ae_linear.proofs.Rests.{small_factor}
+use Rattle.ae_num.proofs.Rests.{small_factor, minus_one_ratio}
 use Rattle.std.proofs.Common.{arith, refl, sym, ap, ◌∙◌, subst}
 use native.Mathlib.Decide.{ℕ_discrete}
 use borrow.Author.Differences.{ints}
 use Rattle.ae_math.specs.Inner.Integers.{ring}
 use Rattle.ae_base.proofs.Decided.{pick_yes, pick_no}
-use Rattle.ae_math.specs.Fractions.{ℚ, ◌+ℚ◌, ◌*ℚ◌, zero_ℚ, one_ℚ, neg_ℚ, ratio, frac}
+use Rattle.ae_math.specs.Fractions.{ℚ, ◌+ℚ◌, ◌*ℚ◌, zero_ℚ, one_ℚ, neg_ℚ, ratio}
 use Rattle.ae_math.specs.Forms.{Form, number, single, minus, scale, factor, factor_in, substitute}
 use Rattle.ae_math.proofs.FractionLaws.{mul_zero_q, zero_add_q, add_zero_q, one_mul_q, neg_mul_q, mul_neg_q, mul_assoc_q, neg_neg_q, one_mul_q'}
 use Rattle.ae_math.proofs.FormLaws.{factor_in-append, factor_in-scale, substitute_there, substitute_elsewhere, by_key}
@@ -20,10 +20,6 @@ use Rattle.ae_num.specs.Forms.{meaning, SameMeaning, IsNormal, lowest}
 use Rattle.ae_num.proofs.MeaningLaws.{ratio_times, ratio_scaled, product_positive}
 use Rattle.ae_num.proofs.LowestLaws.{number_value}
 use Rattle.ae_linear.specs.Solving.{negated_inverse}
-
-pub minus_one_ratio : ratio (negsuc 0) (pos 1) ≡ neg_ℚ one_ℚ
-unfolding neg_ℚ one_ℚ frac std.Quotient./_rec
-minus_one_ratio = refl
 
 pub key_factor : (x t : ℕ) (a : ℚ) (v : Form ℕ) → factor ℕ_discrete (scale a (minus (single x) v)) t ≡ a *ℚ (factor ℕ_discrete (single x) t +ℚ neg_ℚ one_ℚ *ℚ factor ℕ_discrete v t)
 key_factor x t a v =

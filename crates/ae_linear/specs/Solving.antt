@@ -6,7 +6,7 @@ use Rattle.ae_math.specs.Forms.{Form, number, single, minus, scale, factor, subs
 use Rattle.ae_num.specs.declared.forms.Part.{Part}
 use Rattle.ae_num.specs.declared.forms.Lin.{Lin}
 use Rattle.ae_num.specs.declared.numbers.Wide.{Wide}
-use Rattle.ae_num.specs.Forms.{meaning, SameMeaning, IsNormal, factor_of, sum_of, multiple_of, Step, plus_steps, scale_steps, first_wide, lowest}
+use Rattle.ae_num.specs.Forms.{meaning, SameMeaning, IsNormal, factor_of, scale_steps, first_wide, lowest, difference_of, difference_steps}
 use Rattle.ae_linear.specs.declared.solving.Solved.{Solved}
 use Rattle.ae_linear.specs.declared.solving.Solved.TheVariants.{Trivial, Bottom, Rule}
 
@@ -15,13 +15,6 @@ pub record IsLargest (ps : List Part) (p : Part) : Type 0 where
   pub factor : factor_of ps p.key ≡ p.factor
   pub nonzero : p.factor ≢ pos 0
   pub above : (k : ℕ) → p.key < k → factor_of ps k ≡ pos 0
-
--- the difference of two forms, and the products and sums that it states
-abbrev pub difference_of : Lin → Lin → Lin
-difference_of p q = sum_of p (multiple_of (negsuc 0) (pos 1) q)
-
-abbrev pub difference_steps : Lin → Lin → List Step
-difference_steps p q = scale_steps (negsuc 0) (pos 1) q ++ plus_steps p (multiple_of (negsuc 0) (pos 1) q)
 
 -- a form that is 0 exactly where a name has a value: a nonzero multiple of the name less the value, over smaller names
 pub record SolvesFor (d : Form ℕ) (name : ℕ) (value : Lin) : Type 0 where

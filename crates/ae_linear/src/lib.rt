@@ -8,4 +8,4 @@ mod solving;
 mod tests;
 
 pub use rows::{Row, Rows, Shared};
-pub use solving::{Solved, difference, solution, solve};
+pub use solving::{Solved, solution, solve};

@@ -1,14 +1,13 @@
 //! Equations between linear forms, solved for their largest name.
 ghost use Rattle.std.specs.Prelude.{◌≡◌, ◌≢◌, None, Some, pos, negsuc, [], ◌<ℤ◌, IfOk, OnOk, IfErr, IfSome, IfNone};
 ghost use Rattle.std.specs.List.{AllByRecursion};
-ghost use Rattle.ae_math.specs.Forms.{minus, number, scale as multiple, substitute};
-ghost use Rattle.ae_math.specs.Fractions.{zero_ℚ};
+ghost use Rattle.ae_math.specs.Forms.{minus};
 ghost use Rattle.ae_num.specs.Limits.{FitsLimits};
-ghost use Rattle.ae_num.specs.Forms.{meaning, SameMeaning, IsNormal, IsRising, first_wide, IfWide};
-ghost use Rattle.ae_linear.specs.Solving.{IsLargest, difference_of, difference_steps, IsSolved, FitsScaling, IsWideScaling, IsWideSolving, negated_inverse};
-ghost use native.Mathlib.Decide.{ℕ_discrete};
+ghost use Rattle.ae_num.specs.Forms.{meaning, SameMeaning, IsNormal, IsRising, first_wide, IfWide, difference_of, difference_steps};
+ghost use Rattle.ae_linear.specs.Solving.{IsLargest, IsSolved, FitsScaling, IsWideScaling, IsWideSolving, negated_inverse};
 
-use ae_num::forms::{Lin, Name, Part, fraction, plus, scale, subst, zero};
+use ae_num::differences::{difference, rest_of};
+use ae_num::forms::{Lin, Name, Part, fraction, scale};
 use ae_num::numbers::NumFail;
 use std::alloc::Global;
 
@@ -21,20 +20,6 @@ pub enum Solved {
     Bottom,
     /// The largest name of the difference, and its value.
     Rule { name: Name, value: Lin },
-}
-
-/// The difference of two forms, in the normal form.
-pub fn difference(alloc: Global, left: &Lin, right: &Lin) -> Result<Lin, NumFail>
-    requires left { IsNormal left.now }
-    requires right { IsNormal right.now }
-    ensures exact { IfOk result (λ d. SameMeaning (meaning d) (minus (meaning left.now) (meaning right.now))) }
-    ensures form { IfOk result (λ d. d ≡ difference_of left.now right.now) }
-    ensures normal { IfOk result (λ d. IsNormal d) }
-    ensures fits { OnOk result (first_wide (difference_steps left.now right.now) ≡ None) }
-    ensures wide { IfErr result (λ fail. IfWide fail (λ wide. first_wide (difference_steps left.now right.now) ≡ Some wide)) }
-{
-    let negated = scale(alloc, -1, 1, right)?;
-    plus(alloc, left, &negated)
 }
 
 /// The part of the largest name.
@@ -64,17 +49,6 @@ fn inverse(alloc: Global, den: i128, factor: i128) -> Lin
     } else {
         fraction(alloc, -den, factor)
     }
-}
-
-/// The form without a name, in the normal form.
-fn rest_of(alloc: Global, form: &Lin, name: Name) -> Result<Lin, NumFail>
-    requires { IsNormal form.now }
-    ensures exact { IfOk result (λ rest. SameMeaning (meaning rest) (substitute ℕ_discrete (meaning form.now) name (number zero_ℚ))) }
-    ensures normal { IfOk result (λ rest. IsNormal rest) }
-    ensures never { IfErr result (λ fail. IfWide fail (λ wide. ⊥)) }
-{
-    let nothing = zero(alloc);
-    subst(alloc, form, name, &nothing)
 }
 
 /// What the equation of a form with 0 comes to.

@@ -9,3 +9,4 @@ pub mod KeyLaws
 pub mod MeaningLaws
 pub mod UniqueLaws
 pub mod LowestLaws
+pub mod Rests

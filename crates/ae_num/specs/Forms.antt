@@ -1,5 +1,5 @@
 -- What a linear form over names with one denominator means, its normal form, and the products and sums that a step on such forms states.
-use Rattle.std.specs.Prelude.{ℕ, zero, suc, ℤ, pos, ◌≡◌, ◌*ℤ◌, ◌+ℤ◌, ◌<ℤ◌, ◌≢◌, ◌<◌, ◌^◌, ◌%◌, Bool, false, ◌||◌, nat_eq, nat_lt, nat_le, cond, List, [], ◌∷◌, ◌++◌, map, Option, Some, None, unsigned_abs}
+use Rattle.std.specs.Prelude.{negsuc, neg_ℤ, ℕ, zero, suc, ℤ, pos, ◌≡◌, ◌*ℤ◌, ◌+ℤ◌, ◌<ℤ◌, ◌≢◌, ◌<◌, ◌^◌, ◌%◌, Bool, false, ◌||◌, nat_eq, nat_lt, nat_le, cond, List, [], ◌∷◌, ◌++◌, map, Option, Some, None, unsigned_abs}
 use Rattle.std.specs.List.{flat_map, list_all, AllByRecursion}
 use Rattle.std.specs.Int.RustNames.{int_div}
 use lib.IntN.{ℤ_discrete}
@@ -171,6 +171,20 @@ subst_steps p key q =
     ∷ flat_map (λ y. crossed (factor_of rest y) q.den c (factor_of q.parts y)) (keys_of rest q.parts)
     ++ crossed p.constant q.den c q.constant)
     []
+
+-- the difference of two forms, and the products and sums that it states
+abbrev pub difference_of : Lin → Lin → Lin
+difference_of p q = sum_of p (multiple_of (negsuc 0) (pos 1) q)
+
+abbrev pub difference_steps : Lin → Lin → List Step
+difference_steps p q = scale_steps (negsuc 0) (pos 1) q ++ plus_steps p (multiple_of (negsuc 0) (pos 1) q)
+
+-- of two forms, in the first of which the key has a positive factor and in the second a negative one: the multiples that cancel it, and their sum
+abbrev pub combine_steps : Lin → ℕ → Lin → List Step
+combine_steps f n h =
+    let e = neg_ℤ (factor_of h.parts n) in
+    let c = factor_of f.parts n in
+    scale_steps e h.den f ++ scale_steps c f.den h ++ plus_steps (multiple_of e h.den f) (multiple_of c f.den h)
 
 -- what is said of the operands of a width
 abbrev pub IfWide : NumFail → (Wide → Type 0) → Type 0

@@ -39,11 +39,15 @@ floor_there (negsuc a) (pos (suc n)) h = record { at_least = omega (arith, ints)
     negative_less a zero h = omega (arith, ints)
     negative_less a (suc m) h = omega (arith, ints)
 
-pub floor_test : (k q r d : ℤ) → SFits w128 k → SFits w128 q → SFits w128 r → SFits w128 d → pos 0 <ℤ d → q ≡ int_div_euclid (to_z w128 (of_z w128 k)) (to_z w128 (of_z w128 d))
-    → (IsTrue (nat_eq (of_z w128 q) (of_z w128 r)) → IsFloor k (unsigned_abs d) r) × (IsFloor k (unsigned_abs d) r → IsTrue (nat_eq (of_z w128 q) (of_z w128 r)))
-floor_test k q r d fk fq fr fd h e =
+pub floor_quotient : (k q d : ℤ) → SFits w128 k → SFits w128 d → pos 0 <ℤ d → q ≡ int_div_euclid (to_z w128 (of_z w128 k)) (to_z w128 (of_z w128 d)) → IsFloor k (unsigned_abs d) q
+floor_quotient k q d fk fd h e =
     let quotient : q ≡ int_div_euclid k d = e ∙ (λ i. int_div_euclid (to_z-of_z w128 k fk i) (to_z-of_z w128 d fd i)) in
-    let floor : IsFloor k (unsigned_abs d) q = subst (IsFloor k (unsigned_abs d)) (sym quotient) (floor_there k d h) in (
+    subst (IsFloor k (unsigned_abs d)) (sym quotient) (floor_there k d h)
+
+pub floor_test : (k q r d : ℤ) → SFits w128 k → SFits w128 q → SFits w128 r → SFits w128 d → IsFloor (to_z w128 (of_z w128 k)) (unsigned_abs (to_z w128 (of_z w128 d))) q
+    → (IsTrue (nat_eq (of_z w128 q) (of_z w128 r)) → IsFloor k (unsigned_abs d) r) × (IsFloor k (unsigned_abs d) r → IsTrue (nat_eq (of_z w128 q) (of_z w128 r)))
+floor_test k q r d fk fq fr fd found =
+    let floor : IsFloor k (unsigned_abs d) q = subst (λ n. IsFloor n (unsigned_abs d) q) (to_z-of_z w128 k fk) (subst (λ n. IsFloor (to_z w128 (of_z w128 k)) (unsigned_abs n) q) (to_z-of_z w128 d fd) found) in (
       λ t. subst (IsFloor k (unsigned_abs d)) (sym (to_z-of_z w128 q fq) ∙ ap (to_z w128) (eqb-true (of_z w128 q) (of_z w128 r) t) ∙ to_z-of_z w128 r fr) floor,
       λ f. eq-eqb (of_z w128 q) (of_z w128 r) (ap (of_z w128) (floor_unique k (unsigned_abs d) q r floor f)),
     )

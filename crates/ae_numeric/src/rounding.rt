@@ -65,12 +65,21 @@ fn are_multiples(parts: &[Part], times: i128, of: &[Part]) -> bool
     true
 }
 
+/// The quotient of two numbers, rounded down.
+#[tactic(auto, using(crate::proofs::FloorLaws::floor_quotient))]
+fn floor(number: i128, divisor: i128) -> i128
+    requires { pos 0 <ℤ divisor }
+    ensures { IsFloor number (unsigned_abs divisor) result }
+{
+    number.div_euclid(divisor)
+}
+
 /// Whether a number is the quotient of two, rounded down.
 fn is_floor(number: i128, divisor: i128, quotient: i128) -> bool
     requires { pos 0 <ℤ divisor }
     ensures { IsTrue result ↔ IsFloor number (unsigned_abs divisor) quotient }
 {
-    number.div_euclid(divisor) == quotient
+    floor(number, divisor) == quotient
 }
 
 /// Whether a number divides another one.

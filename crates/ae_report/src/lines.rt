@@ -1,6 +1,6 @@
 //! The line by which a text is refused.
 
-ghost use Rattle.std.specs.Prelude.{◌≡◌, ◌++◌, ◌≤◌, length, codes, decimal, take, IfOk, IfSome, OnOk};
+ghost use Rattle.std.specs.Prelude.{◌≡◌, ◌++◌, ◌≤◌, length, codes, decimal, nat_eq, take, IfOk, IfSome, OnOk};
 ghost use Rattle.ae_lex.specs.Lexis as lexis;
 ghost use Rattle.ae_syntax.specs.Files as files;
 ghost use Rattle.ae_report.specs.Lines.{IsPlace, IsLineAt, IsRefusalLine, refused_at, lex_words, syntax_words, words};
@@ -19,6 +19,13 @@ pub struct Place {
     pub column: usize,
 }
 
+// Whether a byte ends a line.
+fn ends_line(byte: u8) -> bool
+    ensures { result ≡ nat_eq byte 10 }
+{
+    byte == b'\n'
+}
+
 /// The line and the column of the byte at `at`, or of the text's end.
 pub fn place_of(text: &[u8], at: usize) -> Place
     requires { at ≤ length text.now }
@@ -27,7 +34,7 @@ pub fn place_of(text: &[u8], at: usize) -> Place
     let mut line = 1;
     let mut column = 1;
     for byte in &text[..at] {
-        if *byte == b'\n' {
+        if ends_line(*byte) {
             line += 1;
             column = 1;
         } else {

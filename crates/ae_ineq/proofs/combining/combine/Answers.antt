@@ -10,7 +10,7 @@ use Rattle.ae_num.specs.Forms.{meaning, SameMeaning, factor_of, multiple_of, sum
 use Rattle.std.proofs.lemmas.Result.{IfOk-weaker, on_ok_weaker}
 use Rattle.ae_num.proofs.StepLaws.{same_err}
 use Rattle.ae_rows.specs.Rows.{combination}
-use Rattle.ae_journal.specs.Licences.{combine_steps}
+use Rattle.ae_num.specs.Forms.{combine_steps}
 use Rattle.ae_ineq.specs.Combining.{combined_of}
 use Rattle.ae_ineq.proofs.CombiningLaws.{combination_means, err_too, in_first, in_second, in_last}
 use Rattle.ae_ineq.proofs.combining.combine.Goals as goal

@@ -6,7 +6,8 @@ use Rattle.ae_num.specs.declared.numbers.Wide.{Wide}
 use Rattle.ae_num.specs.Forms.{meaning, first_wide}
 use Rattle.std.proofs.lemmas.Result.{IfOk-weaker}
 use Rattle.ae_num.proofs.StepLaws.{same_err}
-use Rattle.ae_linear.specs.Solving.{difference_of, difference_steps, IsSolved, FitsScaling, IsWideScaling, IsWideSolving}
+use Rattle.ae_num.specs.Forms.{difference_of, difference_steps}
+use Rattle.ae_linear.specs.Solving.{IsSolved, FitsScaling, IsWideScaling, IsWideSolving}
 use Rattle.ae_linear.specs.declared.solving.Solved.{Solved}
 use Rattle.ae_linear.proofs.Answered.{solved_same, if_wide}
 use Rattle.ae_linear.proofs.solving.solve.Goals as goal

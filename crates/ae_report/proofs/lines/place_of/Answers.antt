@@ -1,7 +1,7 @@
 use Rattle.std.proofs.Common.{rules, ◌<◌, length, take, get_or}
 use Rattle.ae_report.proofs.Places.{nothing_before, line_ended_at, line_goes_on_at, place_bounds_at}
 use Rattle.ae_report.proofs.lines.place_of.Goals as goal
-use Rattle.ae_report.proofs.lines.place_of.Goals.{then-byte-eq10, else-byte-eq10}
+use Rattle.ae_report.proofs.lines.place_of.Goals.{then-ends_line, else-ends_line}
 
 pub loop-byte-init : goal.loop-byte-init
 loop-byte-init c = nothing_before
@@ -18,7 +18,7 @@ overflow_add-column c =
 
 pub loop-byte-preserved : goal.loop-byte-preserved
 loop-byte-preserved c =
-    elim c.if-byte-eq10.branch [
-      | then-byte-eq10 w ↦ search (rules, w, line_ended_at (take c.args.at c.args.text.now) c.loop-byte.byte-index c.loop-byte.line c.loop-byte.column)
-      | else-byte-eq10 w ↦ search (rules, w, line_goes_on_at (take c.args.at c.args.text.now) c.loop-byte.byte-index c.loop-byte.line c.loop-byte.column)
+    elim c.if-ends_line.branch [
+      | then-ends_line w ↦ search (rules, w, line_ended_at (take c.args.at c.args.text.now) c.loop-byte.byte-index c.loop-byte.line c.loop-byte.column)
+      | else-ends_line w ↦ search (rules, w, line_goes_on_at (take c.args.at c.args.text.now) c.loop-byte.byte-index c.loop-byte.line c.loop-byte.column)
     ]

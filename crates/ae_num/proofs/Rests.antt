@@ -1,5 +1,5 @@
--- A form without a key states nothing wide, and the difference of two forms.
-use Rattle.std.specs.Prelude.{◌≡◌, ℕ, ◌<◌, ◌^◌, ℤ, pos, ◌*ℤ◌, ◌+ℤ◌, List, [], ◌∷◌, ◌++◌, map, cond, true, false, Bool, nat_eq, unsigned_abs, Option, Some, None, Ok, Err, IfErr}
+-- A form without a key states nothing wide, and what the difference of two forms states.
+use Rattle.std.specs.Prelude.{◌≡◌, ℕ, ◌<◌, ◌^◌, ℤ, pos, ◌*ℤ◌, ◌+ℤ◌, negsuc, List, [], ◌∷◌, ◌++◌, map, cond, true, false, Bool, nat_eq, unsigned_abs, Option, Some, None, Ok, Err, IfErr}
 use Rattle.std.specs.declared.result.Result.{Result}
 use Rattle.ae_num.specs.declared.numbers.NumFail.{NumFail}
 use Rattle.ae_num.specs.declared.numbers.NumFail.TheVariants.{Wide as WideFail, Memory}
@@ -12,6 +12,7 @@ use Rattle.ae_num.specs.declared.forms.Lin.{Lin}
 use Rattle.ae_num.specs.declared.numbers.Wide.{Wide}
 use Rattle.ae_num.specs.Forms.{IsNormal, factor_of, others, has_key, keys_of, Step, Product, crossed, first_wide, subst_steps, IfWide}
 use Rattle.ae_num.proofs.StepLaws.{fits, past, all_fit, first_wide-none}
+use Rattle.ae_math.specs.Fractions.{one_ℚ, neg_ℚ, ratio, frac}
 
 abbrev Nothing : Lin
 Nothing = record { den = pos 1; parts = []; constant = pos 0 }
@@ -80,3 +81,7 @@ never_wide (Err (Memory m)) w e h = tt
 -- the difference's steps come after those of the negation
 pub after_none : (xs ys zs : List Step) → first_wide xs ≡ None → ys ≡ zs → first_wide (xs ++ zs) ≡ first_wide ys
 after_none xs ys zs h e = first_wide-none xs zs h ∙ ap first_wide (sym e)
+
+pub minus_one_ratio : ratio (negsuc 0) (pos 1) ≡ neg_ℚ one_ℚ
+unfolding neg_ℚ one_ℚ frac std.Quotient./_rec
+minus_one_ratio = refl

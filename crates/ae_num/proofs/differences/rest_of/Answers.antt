@@ -7,8 +7,8 @@ use Rattle.ae_num.specs.declared.forms.Lin.{Lin}
 use Rattle.ae_num.specs.Forms.{meaning, SameMeaning, first_wide, subst_steps}
 use Rattle.ae_num.proofs.MeaningLaws.{ratio_zero}
 use Rattle.std.proofs.lemmas.Result.{IfOk-weaker}
-use Rattle.ae_linear.proofs.Rests.{nothing_wide, never_wide}
-use Rattle.ae_linear.proofs.solving.rest_of.Goals as goal
+use Rattle.ae_num.proofs.Rests.{nothing_wide, never_wide}
+use Rattle.ae_num.proofs.differences.rest_of.Goals as goal
 
 pub returns-clause-exact : goal.returns-clause-exact
 returns-clause-exact c =

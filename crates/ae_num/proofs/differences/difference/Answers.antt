@@ -6,12 +6,11 @@ use Rattle.ae_math.specs.Forms.{minus, plus, scale}
 use Rattle.ae_math.proofs.FormLaws.{same_trans, same_refl, plus-same}
 use Rattle.ae_num.specs.declared.forms.Lin.{Lin}
 use Rattle.ae_num.specs.declared.numbers.Wide.{Wide}
-use Rattle.ae_num.specs.Forms.{meaning, SameMeaning, first_wide, IfWide, multiple_of, plus_steps, scale_steps}
+use Rattle.ae_num.specs.Forms.{meaning, SameMeaning, first_wide, IfWide, multiple_of, plus_steps, scale_steps, difference_steps}
 use Rattle.std.proofs.lemmas.Result.{IfOk-weaker}
 use Rattle.ae_num.proofs.StepLaws.{same_err, first_wide-some, first_wide-none}
-use Rattle.ae_linear.specs.Solving.{difference_steps}
-use Rattle.ae_linear.proofs.Solutions.{minus_one_ratio}
-use Rattle.ae_linear.proofs.solving.difference.Goals as goal
+use Rattle.ae_num.proofs.Rests.{minus_one_ratio}
+use Rattle.ae_num.proofs.differences.difference.Goals as goal
 
 pub returns-in_err-negated-clause-wide : goal.returns-in_err-negated-clause-wide
 returns-in_err-negated-clause-wide c =
