@@ -35,7 +35,7 @@ use Rattle.ae_journal.specs.Values.{Val, Sum, constant_val, sum_in, sum_of_lin}
 use Rattle.ae_journal.specs.declared.answers.NumStep.TheVariants as step
 use Rattle.ae_journal.proofs.Splits.{contains_here}
 use Rattle.ae_journal_checks.specs.Examples.{greatest, numeral, sum_goal, sum_problem, empty_story, sum_of, whole, signature}
-use Rattle.ae_journal_checks.specs.Laws.{StepsAnswer, OtherLimitIsRefused, RepetitionIsRefused, WidthAnswers, NoWidthIsRefused, NamelessCombinationIsRefused, EmptyProofIsRefused}
+use Rattle.ae_journal_checks.specs.Laws.{StepsAnswer, OtherLimitIsRefused, RepetitionIsRefused, OmissionIsRefused, WidthAnswers, NoWidthIsRefused, NamelessCombinationIsRefused, EmptyProofIsRefused}
 use Rattle.ae_journal_checks.proofs.Entered.{outside_eq}
 use Rattle.ae_journal_checks.proofs.NoBlocks.{NoBlock, equation, own_constants, no_name}
 use Rattle.ae_journal_checks.proofs.RuleJournal.{no_line, one_rule_is_legal, repeated_rule_is_refused}
@@ -49,6 +49,9 @@ other_limit_is_refused bound a = let z : 1 ≡ 2 = a.1 in omega (arith, z)
 
 pub repetition_is_refused : RepetitionIsRefused
 repetition_is_refused bound a = repeated_rule_is_refused bound (a.0).fresh (a.0).lines
+
+pub omission_is_refused : OmissionIsRefused
+omission_is_refused bound a = let z : 0 ≡ 1 = a.1 in omega (arith, z)
 
 -- ---- the width
 no_block : NoBlock sum_goal

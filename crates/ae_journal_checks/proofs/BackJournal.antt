@@ -94,10 +94,10 @@ first_not_second e =
     let z : formula_layer.Eq (f_of a) a ≡ formula_layer.Eq a (f_of a) = sym (outs-Eq (f_of a) a) ∙ ap out-Formula e ∙ outs-Eq a (f_of a) in
     f_is_not_a cc
 
-signs : {f h : Formula} → is_true f ≡ is_false h → ⊥
+pub signs : {f h : Formula} → is_true f ≡ is_false h → ⊥
 signs e = let z : true ≡ false = ap (λ (l : Lit). l.positive) e in cc
 
-formula_of : {s t : Bool} {f h : Formula} → ◌≡◌ {A = Lit} (record { positive = s; formula = f }) (record { positive = t; formula = h }) → f ≡ h
+pub formula_of : {s t : Bool} {f h : Formula} → ◌≡◌ {A = Lit} (record { positive = s; formula = f }) (record { positive = t; formula = h }) → f ≡ h
 formula_of e = ap (λ (l : Lit). l.formula) e
 
 -- ---- literals
@@ -134,14 +134,14 @@ unfolding second_choice
 second_false = literal_eq false a (f_of a)
 
 -- ---- the rows of a disjunction
-found : (d c : Clause) (rest : Option Clause) (b : Bool) → cond b (Some d) rest ≡ Some c → (d ≡ c) ⊎ (rest ≡ Some c)
+pub found : (d c : Clause) (rest : Option Clause) (b : Bool) → cond b (Some d) rest ≡ Some c → (d ≡ c) ⊎ (rest ≡ Some c)
 found d c rest true e = inl (same_Some d c e)
 found d c rest false e = inr e
 
-abbrev Rows : Formula → Formula → Formula → Clause → Type 0
+abbrev pub Rows : Formula → Formula → Formula → Clause → Type 0
 Rows f p q c = (is_true f ∷ no_of p ∷ [] ≡ c) ⊎ ((is_true f ∷ no_of q ∷ [] ≡ c) ⊎ (is_false f ∷ yes_of p ∷ yes_of q ∷ [] ≡ c))
 
-rows : (p q : Formula) (r : ℕ) (c : Clause) → row r (Or p q) ≡ Some c → Rows (Or p q) p q c
+pub rows : (p q : Formula) (r : ℕ) (c : Clause) → row r (Or p q) ≡ Some c → Rows (Or p q) p q c
 rows p q r c e =
     let f = Or p q in
     elim (found (is_true f ∷ no_of p ∷ []) c (row_at r ((OR_FROM_RIGHT, is_true f ∷ no_of q ∷ []) ∷ (OR_TO_EITHER, is_false f ∷ yes_of p ∷ yes_of q ∷ []) ∷ [])) (nat_eq r OR_FROM_LEFT) (sym (row_or r p q) ∙ e)) [

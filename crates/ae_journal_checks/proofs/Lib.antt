@@ -8,3 +8,9 @@ pub mod LearntJournal
 pub mod BackJournal
 mod AnswerExamples
 mod RefusedLines
+mod KindTerms
+mod KindFormulas
+mod KindRows
+mod KindMatch
+mod KindLines
+mod OwnForms

@@ -8,8 +8,8 @@ use Rattle.ae_base.proofs.Options.{when_some, bind_some, never_some}
 use Rattle.ae_core.specs.declared.terms.Sort.{Sort, out-Sort}
 use Rattle.ae_core.specs.declared.terms.Term.{Term, Apply}
 use Rattle.ae_core.specs.declared.terms.Head.{Head}
-use Rattle.ae_core.specs.declared.formulas.Formula.{Formula, True, Eq, Lt, Not, Or, out-Formula}
-use Rattle.ae_core.specs.declared.formulas.Formula.TheVariants.{outs-True, outs-Eq, outs-Lt, outs-Not, outs-Or}
+use Rattle.ae_core.specs.declared.formulas.Formula.{Formula, True, Eq, Lt, Le, Not, Or, out-Formula}
+use Rattle.ae_core.specs.declared.formulas.Formula.TheVariants.{outs-True, outs-Eq, outs-Lt, outs-Le, outs-Not, outs-Or}
 use Rattle.ae_core.specs.declared.formulas.Lit.{Lit}
 use Rattle.ae_core.specs.Sorts.{sort_of}
 use Rattle.ae_rules.specs.Clauses.{Clause, is_true, no_of}
@@ -36,38 +36,42 @@ pub data NoBlock : Formula → Type 0 where
   truth : NoBlock True
   equation : (s t : Term) → NoBlock (Eq s t)
   order : (s t : Term) → NoBlock (Lt s t)
+  weak_order : (s t : Term) → NoBlock (Le s t)
   negation : (f : Formula) → NoBlock f → NoBlock (Not f)
   either : (f h : Formula) → NoBlock f → NoBlock h → NoBlock (Or f h)
 
-no_sorts : (f : Formula) → NoBlock f → block_sorts (out-Formula f) ≡ []
+pub no_sorts : (f : Formula) → NoBlock f → block_sorts (out-Formula f) ≡ []
 no_sorts _ truth = ap block_sorts outs-True
 no_sorts _ (equation s t) = ap block_sorts (outs-Eq s t)
 no_sorts _ (order s t) = ap block_sorts (outs-Lt s t)
+no_sorts _ (weak_order s t) = ap block_sorts (outs-Le s t)
 no_sorts _ (negation f n) = ap block_sorts (outs-Not f)
 no_sorts _ (either f h n m) = ap block_sorts (outs-Or f h)
 
 moved : (f h : Formula) (fs : List Formula) → parts_of f ≡ fs → Contains (parts_of f) h → Contains fs h
 moved f h fs e i = subst (λ (w : List Formula). Contains w h) e i
 
-part : (f h : Formula) → NoBlock f → Contains (parts_of f) h → NoBlock h
+pub part : (f h : Formula) → NoBlock f → Contains (parts_of f) h → NoBlock h
 part _ h truth i = let c = moved True h [] (ap parts_by outs-True) i in absurd (omega (arith, c.1))
 part _ h (equation s t) i = let c = moved (Eq s t) h [] (ap parts_by (outs-Eq s t)) i in absurd (omega (arith, c.1))
 part _ h (order s t) i = let c = moved (Lt s t) h [] (ap parts_by (outs-Lt s t)) i in absurd (omega (arith, c.1))
+part _ h (weak_order s t) i = let c = moved (Le s t) h [] (ap parts_by (outs-Le s t)) i in absurd (omega (arith, c.1))
 part _ h (negation f n) i = subst NoBlock (contains_one f h (moved (Not f) h (f ∷ []) (ap parts_by (outs-Not f)) i)) n
 part _ h (either f g n m) i =
     elim (contains_cases f (g ∷ []) h (moved (Or f g) h (f ∷ g ∷ []) (ap parts_by (outs-Or f g)) i)) [ inl e ↦ subst NoBlock e n | inr r ↦ subst NoBlock (contains_one g h r) m ]
 
-no_fresh : (f : Formula) (m : ℕ) (c : Clause) → NoBlock f → fresh_clause f m (out-Formula f) ≡ Some c → ⊥
+pub no_fresh : (f : Formula) (m : ℕ) (c : Clause) → NoBlock f → fresh_clause f m (out-Formula f) ≡ Some c → ⊥
 no_fresh _ m c truth e = never_some c (sym (ap (fresh_clause True m) outs-True) ∙ e)
 no_fresh _ m c (equation s t) e = never_some c (sym (ap (fresh_clause (Eq s t) m) (outs-Eq s t)) ∙ e)
 no_fresh _ m c (order s t) e = never_some c (sym (ap (fresh_clause (Lt s t) m) (outs-Lt s t)) ∙ e)
+no_fresh _ m c (weak_order s t) e = never_some c (sym (ap (fresh_clause (Le s t) m) (outs-Le s t)) ∙ e)
 no_fresh _ m c (negation f n) e = never_some c (sym (ap (fresh_clause (Not f) m) (outs-Not f)) ∙ e)
 no_fresh _ m c (either f h n k) e = never_some c (sym (ap (fresh_clause (Or f h) m) (outs-Or f h)) ∙ e)
 
 not_below : (k : ℕ) → nat_lt k 0 ≡ false
 not_below k = grind (arith, nat_tests)
 
-none_below : {A B : Type 0} (b : Bool) (x : Option A) (f : A → Option B) (y : B) → b ≡ false → only b x >>= f ≡ Some y → ⊥
+pub none_below : {A B : Type 0} (b : Bool) (x : Option A) (f : A → Option B) (y : B) → b ≡ false → only b x >>= f ≡ Some y → ⊥
 none_below b x f y e h = never_some y (ap (λ c. only c x >>= f) (sym e) ∙ h)
 
 pub no_hypothesis : (p : Problem) (k : ℕ) (f : Formula) → hypothesis p 0 k [] ≡ Some f → ⊥
@@ -77,15 +81,9 @@ no_hypothesis p k f e = none_below (nat_lt k 0) _ _ f (not_below k) e
 abbrev pub NoInstance : List Line → Type 0
 NoInstance js = ((k : ℕ) (ss : List Sort) → ¬ Contains js (line.TypeInstance k ss)) × ((f : Formula) (ts : List Term) → ¬ Contains js (line.TermInstance f ts))
 
--- a problem without hypotheses, with a goal that has no block
-module _ (p : Problem) (goals : (f : Formula) → goal_body p 0 ≡ Some f → NoBlock f) (names : List Term) (fresh : Formula → ℕ) where
-  abbrev x : Setting
-  x = record { problem = p; goal = 0; names = names; fresh = fresh }
-
-  of_goal : (f : Formula) (l : Lit) → goal_body p 0 ≡ Some f → Contains (no_of f ∷ []) l → NoBlock l.formula
-  of_goal f l e i = subst (λ (k : Lit). NoBlock k.formula) (contains_one (no_of f) l i) (literal_part NoBlock part f (goals f e) false)
-
-  orders : (s t : Term) (c : Clause) (l : Lit) → trichotomy p.signature s t ≡ Some c → Contains c l → NoBlock l.formula
+-- what enumerations and the order of numbers bring
+module _ (p : Problem) where
+  pub orders : (s t : Term) (c : Clause) (l : Lit) → trichotomy p.signature s t ≡ Some c → Contains c l → NoBlock l.formula
   orders s t c l e i =
       let w = when_some _ (is_true (Eq s t) ∷ is_true (Lt s t) ∷ is_true (Lt t s) ∷ []) c e in
       elim (contains_cases (is_true (Eq s t)) (is_true (Lt s t) ∷ is_true (Lt t s) ∷ []) l (subst (λ (d : Clause). Contains d l) (sym w.1) i)) [
@@ -104,19 +102,27 @@ module _ (p : Problem) (goals : (f : Formula) → goal_body p 0 ≡ Some f → N
   choices t (h ∷ hs) l i =
       elim (contains_cases (choice_of t h) (map (choice_of t) hs) l i) [ inl e ↦ subst (λ (k : Lit). NoBlock k.formula) e (equation t (Apply h [] [])) | inr r ↦ choices t hs l r ]
 
-  exhausted : (t : Term) (c : Clause) (l : Lit) → exhaustion p.signature t ≡ Some c → Contains c l → NoBlock l.formula
+  pub exhausted : (t : Term) (c : Clause) (l : Lit) → exhaustion p.signature t ≡ Some c → Contains c l → NoBlock l.formula
   exhausted t c l e i =
       let s = bind_some (sort_of p.signature t) (λ s. choices_of p.signature (out-Sort s) >>= λ hs. Some (map (choice_of t) hs)) c e in
       let h = bind_some (choices_of p.signature (out-Sort s.0)) (λ hs. Some (map (choice_of t) hs)) c s.2 in
       choices t h.0 l (subst (λ (d : Clause). Contains d l) (sym (same_Some (map (choice_of t) h.0) c h.2)) i)
+
+-- a problem without hypotheses, with a goal that has no block
+module _ (p : Problem) (goals : (f : Formula) → goal_body p 0 ≡ Some f → NoBlock f) (names : List Term) (fresh : Formula → ℕ) where
+  abbrev x : Setting
+  x = record { problem = p; goal = 0; names = names; fresh = fresh }
+
+  of_goal : (f : Formula) (l : Lit) → goal_body p 0 ≡ Some f → Contains (no_of f ∷ []) l → NoBlock l.formula
+  of_goal f l e i = subst (λ (k : Lit). NoBlock k.formula) (contains_one (no_of f) l i) (literal_part NoBlock part f (goals f e) false)
 
   no_block : (js : List Line) (f : Formula) → NoInstance js → IsFormula x js f → NoBlock f
   no_block js _ q (of_clause _ _ l (by_hypothesis k f e) i) = absurd (no_hypothesis p k f e)
   no_block js _ q (of_clause _ _ l (by_goal f e) i) = of_goal f l e i
   no_block js _ q (of_clause _ _ l (by_type_instance k ss c h e) i) = absurd (q.0 k ss h)
   no_block js _ q (of_clause _ _ l (by_term_instance f ts c h e) i) = absurd (q.1 f ts h)
-  no_block js _ q (of_order _ s t c l a b e i) = orders s t c l e i
-  no_block js _ q (of_choice _ t c l a e i) = exhausted t c l e i
+  no_block js _ q (of_order _ s t c l a b e i) = orders p s t c l e i
+  no_block js _ q (of_choice _ t c l a e i) = exhausted p t c l e i
   no_block js _ q (of_fresh _ f c l a e i) = absurd (no_fresh f (fresh f) c (no_block js f q a) e)
   no_block js _ q (of_part _ f h a i) = part f h (no_block js f q a) i
 

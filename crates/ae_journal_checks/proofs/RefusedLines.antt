@@ -1,5 +1,5 @@
 -- Lines on names and rows that their rules refuse.
-use Rattle.std.specs.Prelude.{ℕ, ◌<◌, ◌≤◌, Bool, true, List, [], ◌∷◌, ◌++◌, ◌≡◌, ◌≢◌}
+use Rattle.std.specs.Prelude.{ℕ, ◌≤◌, true, [], ◌++◌, ◌≡◌, ◌≢◌}
 use mathlib.Core.Path.{refl, sym, ap, ◌∙◌}
 use native.Mathlib.Omega.{arith}
 use Rattle.ae_math.specs.Fractions.{ℚ, zero_ℚ, one_ℚ, frac, ◌+ℚ◌, ◌*ℚ◌, is_positive}
@@ -7,8 +7,7 @@ use std.Quotient.{/_rec}
 use Rattle.ae_math.proofs.FractionLaws.{add_zero_q, one_mul_q, zero_mul_q}
 use Rattle.ae_num.specs.declared.forms.Lin.{Lin}
 use Rattle.ae_num.specs.Forms.{meaning as form_of}
-use Rattle.ae_journal.specs.Journals.{OnlyCombines}
-use Rattle.ae_journal.specs.Rows.{IsMultiple, add_sums}
+use Rattle.ae_journal.specs.Rows.{IsMultiple}
 use Rattle.ae_journal.specs.SolverLines.{Solves}
 use Rattle.ae_journal.specs.SolverLines.Solves.{a_number, a_leaf, other_leaf}
 use Rattle.ae_journal.specs.Standing.{Setting}
@@ -45,7 +44,7 @@ no_record_is_solved x js n v vs e o = no_fields x n vs _ _ _ o.solves e
 once_and_nothing : (q : ℚ) → q ≡ one_ℚ *ℚ q +ℚ zero_ℚ *ℚ q
 once_and_nothing q = sym (add_zero_q q) ∙ (λ i. sym (one_mul_q q) i +ℚ sym (zero_mul_q q) i)
 
-one_positive : is_positive one_ℚ ≡ true
+pub one_positive : is_positive one_ℚ ≡ true
 unfolding one_ℚ is_positive frac /_rec
 one_positive = refl
 

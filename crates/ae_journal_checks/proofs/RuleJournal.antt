@@ -56,7 +56,7 @@ goal_literal : no_of goal ≡ is_false goal
 unfolding goal
 goal_literal = literal_or false (Not first_equation) others
 
-no_end : (before after : List Line) (j : Line) → [] ≡ before ++ j ∷ after → ⊥
+pub no_end : (before after : List Line) (j : Line) → [] ≡ before ++ j ∷ after → ⊥
 no_end [] after j e = cc
 no_end (k ∷ before) after j e = cc
 
@@ -74,11 +74,11 @@ reduced_after l z m r s p =
     let k : 1 ≤ count 1 l = q.each 1 in
     omega (arith, z, k)
 
-leaf_meaning : (n : ℕ) → meaning (Leaf n) ≡ leaf n
+pub leaf_meaning : (n : ℕ) → meaning (Leaf n) ≡ leaf n
 unfolding meaning
 leaf_meaning n = ap meaning (sym (rolls-Leaf n)) ∙ fold-roll-Value Val meaning_step (value_layer.Leaf n)
 
-leaf_forms : (n : ℕ) → forms_in (Leaf n) ≡ []
+pub leaf_forms : (n : ℕ) → forms_in (Leaf n) ≡ []
 unfolding forms_in
 leaf_forms n = ap forms_in (sym (rolls-Leaf n)) ∙ fold-roll-Value (List Lin) forms_step (value_layer.Leaf n)
 

@@ -18,7 +18,8 @@ use Rattle.ae_journal.specs.declared.answers.WideAt.{WideAt}
 use Rattle.ae_journal.specs.declared.answers.Answer.TheVariants.{Valid, Steps, Number}
 use Rattle.ae_journal.specs.declared.lines.Story.{Story}
 use Rattle.ae_journal.specs.Legal.{IsLegalLine, AreLegal, IsLegalJournal, setting}
-use Rattle.ae_journal_checks.specs.Examples.{problem, story, longer_story, choice_problem, choice_story, true_problem, true_story, back_problem, back_story}
+use Rattle.ae_journal_checks.specs.Examples.{problem, names, story, longer_story, choice_problem, choice_story, true_problem, true_story, back_problem, back_story}
+use Rattle.ae_journal_checks.specs.EveryKind as kinds
 use Rattle.ae_journal_checks.specs.Examples.{instance_problem, instance_story, instance_line, rule_line, repeated_story, sum_problem, empty_story, sum_of, greatest}
 
 -- the journal is legal for each bound, with exactly one counted line
@@ -52,6 +53,10 @@ OneLearntClauseIsLegal = (bound : ℕ) → IsLegalJournal true_problem 0 bound t
 abbrev pub GoingBackIsLegal : Type 0
 GoingBackIsLegal = (bound : ℕ) (fresh : Formula → ℕ) → 0 < bound → AreLegal (setting back_problem 0 back_story fresh) bound [] back_story.lines
 
+-- the journal with a line of every kind is legal for each bound that allows an instance, and all its lines but `Drop` and `Back` are counted
+abbrev pub EveryKindIsLegal : Type 0
+EveryKindIsLegal = (bound : ℕ) → 0 < bound → IsLegalJournal kinds.problem 4 bound kinds.story × (counted_in kinds.story.lines ≡ 9)
+
 -- ---- answers
 -- a journal answers where it is legal and has as many counted lines as the limit says
 abbrev pub StepsAnswer : Type 0
@@ -62,6 +67,10 @@ OtherLimitIsRefused = (bound : ℕ) → ¬ IsAnswer problem 0 2 bound (Steps sto
 
 abbrev pub RepetitionIsRefused : Type 0
 RepetitionIsRefused = (bound : ℕ) → ¬ IsAnswer problem 0 2 bound (Steps repeated_story)
+
+-- without its line the journal doesn't answer with the limit 1
+abbrev pub OmissionIsRefused : Type 0
+OmissionIsRefused = (bound : ℕ) → ¬ IsAnswer problem 0 1 bound (Steps (record { names = names; lines = [] }))
 
 -- a sum of a named sum's operands that leaves the limits is an answer, and one that doesn't leave them is none, whatever the journal
 abbrev pub WidthAnswers : Type 0
@@ -75,6 +84,10 @@ abbrev pub NamelessCombinationIsRefused : Type 0
 NamelessCombinationIsRefused =
     (p : Problem) (g limit bound : ℕ) (lines : List Line) (w : WideAt) → w.step ≡ step.Combine
     → ¬ IsAnswer p g limit bound (Number (record { names = []; lines = lines }) w)
+
+-- for the goal `true`, which states no form, and without lines no width is an answer, whatever forms are given
+abbrev pub OwnFormsAreRefused : Type 0
+OwnFormsAreRefused = (limit bound : ℕ) (w : WideAt) → ¬ IsAnswer true_problem 0 limit bound (Number empty_story w)
 
 -- no list of lines without one is a derivation
 abbrev pub EmptyProofIsRefused : Type 0

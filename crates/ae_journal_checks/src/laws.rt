@@ -1,6 +1,6 @@
 //! Laws of examples.
-ghost use Rattle.ae_journal_checks.specs.Laws.{OneRuleIsLegal, RepeatedRuleIsRefused, NothingIsCounted, FourLinesAreLegal, OneDecisionIsLegal, OneInstanceMayCome, OneLearntClauseIsLegal, GoingBackIsLegal};
-ghost use Rattle.ae_journal_checks.specs.Laws.{StepsAnswer, OtherLimitIsRefused, RepetitionIsRefused, WidthAnswers, NoWidthIsRefused, NamelessCombinationIsRefused, EmptyProofIsRefused};
+ghost use Rattle.ae_journal_checks.specs.Laws.{OneRuleIsLegal, RepeatedRuleIsRefused, NothingIsCounted, FourLinesAreLegal, OneDecisionIsLegal, OneInstanceMayCome, OneLearntClauseIsLegal, GoingBackIsLegal, EveryKindIsLegal};
+ghost use Rattle.ae_journal_checks.specs.Laws.{StepsAnswer, OtherLimitIsRefused, RepetitionIsRefused, OmissionIsRefused, WidthAnswers, NoWidthIsRefused, NamelessCombinationIsRefused, OwnFormsAreRefused, EmptyProofIsRefused};
 ghost use Rattle.ae_journal_checks.specs.Laws.{NoLargerLeaf, NoSumWithItself, NoRecordIsSolved, NoSecondCombination};
 
 /// A journal of one rule is legal, with one counted line.
@@ -43,18 +43,25 @@ pub fn going_back_is_legal()
     ensures { GoingBackIsLegal }
 {}
 
-/// A journal is an answer with the limit that it reaches, and with no other; a journal that isn't legal is none.
+/// A journal with a line of every kind is legal.
+pub fn every_kind_is_legal()
+    ensures { EveryKindIsLegal }
+{}
+
+/// A journal is an answer with the limit that it reaches, and with no other: not with its line left out. A journal that isn't legal is none.
 pub fn journals_answer()
     ensures accepted { StepsAnswer }
     ensures other_limit { OtherLimitIsRefused }
     ensures repetition { RepetitionIsRefused }
+    ensures omission { OmissionIsRefused }
 {}
 
-/// A sum of the operands of a named sum is an answer where it leaves the limits, and only there. Without names no combination is one.
+/// A sum of the operands of a named sum is an answer where it leaves the limits, and only there. Without names no combination is one, and where nothing states a form no form of one's own makes one.
 pub fn widths_answer()
     ensures accepted { WidthAnswers }
     ensures within { NoWidthIsRefused }
     ensures nameless { NamelessCombinationIsRefused }
+    ensures own_forms { OwnFormsAreRefused }
 {}
 
 /// A proof without lines is no answer.

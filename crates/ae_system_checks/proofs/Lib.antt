@@ -13,3 +13,7 @@ mod Overlaps
 mod WholeValues
 mod TwoEquations
 mod SaturatedTests
+mod Numbered
+mod States
+mod OneEquation
+mod Quantified

@@ -1,19 +1,17 @@
 -- The state of the two equations is saturated.
-use Rattle.std.specs.Prelude.{ℕ, zero, suc, Bool, true, false, not, cond, nat_eq, nat_lt, ◌≡◌, ◌≢◌, List, [], ◌∷◌, ◌++◌, slice_get, Option, Some, None}
+use Rattle.std.specs.Prelude.{ℕ, zero, suc, Bool, true, false, not, nat_lt, ◌≡◌, List, [], ◌∷◌, ◌++◌, slice_get, Option, Some, None}
 use Rattle.std.specs.List.{AllByRecursion, Contains}
 use Rattle.std.proofs.Common.{inl, inr}
-use Rattle.std.proofs.lemmas.Bool.{ltb-true}
 use Rattle.std.proofs.lemmas.Option.{same_Some}
 use mathlib.Core.Path.{refl, sym, ap, subst, ◌∙◌}
 use native.Mathlib.Omega.{arith}
 use Rattle.ae_base.specs.Options.{all_known, only, ◌>>=◌}
-use Rattle.ae_base.proofs.Options.{never_some, bind_some, only_some}
-use Rattle.ae_core.proofs.Recursion.{fold_or, fold_not}
+use Rattle.ae_base.proofs.Options.{never_some}
 use Rattle.ae_core.specs.Putting.{put_sort}
 use Rattle.ae_core.specs.Sorts.{sort_of, same_sorts, head_sort}
 use Rattle.ae_core.specs.declared.formulas.Formula.{Formula, Formula-F, Eq, Not, Or, Pred, out-Formula}
 use Rattle.ae_core.specs.declared.formulas.Formula.TheOpen as formula_layer
-use Rattle.ae_core.specs.declared.formulas.Formula.TheVariants.{outs-Eq, outs-Or, outs-Pred}
+use Rattle.ae_core.specs.declared.formulas.Formula.TheVariants.{outs-Eq, outs-Or}
 use Rattle.ae_core.specs.declared.formulas.Lit.{Lit}
 use Rattle.ae_core.specs.declared.formulas.Quant.{Quant}
 use Rattle.ae_core.specs.declared.problems.Nature.TheVariants.{Free, Ac, Choice}
@@ -21,23 +19,20 @@ use Rattle.ae_core.specs.declared.problems.SymbolEntry.{SymbolEntry}
 use Rattle.ae_core.specs.declared.terms.Head.{Head}
 use Rattle.ae_core.specs.declared.terms.Head.TheVariants as head
 use Rattle.ae_core.specs.declared.terms.Sort.{Sort, Int, out-Sort}
-use Rattle.ae_core.specs.declared.terms.Sort.TheOpen as sort_layer
-use Rattle.ae_core.specs.declared.terms.Sort.TheVariants.{outs-Named, outs-Int}
+use Rattle.ae_core.specs.declared.terms.Sort.TheVariants.{outs-Named}
 use Rattle.ae_core.specs.declared.terms.Term.{Term, Apply, out-Term}
-use Rattle.ae_rules.specs.Clauses.{Clause, opposite, is_true, is_false, yes_of, no_of, row, or_row}
+use Rattle.ae_rules.specs.Clauses.{Clause, opposite, is_true, is_false, no_of, row}
 use Rattle.ae_rules.specs.Derivations.{IsConstructor}
-use Rattle.ae_rules.specs.Instances.{hypothesis, choices_of}
+use Rattle.ae_rules.specs.Instances.{choices_of}
 use Rattle.ae_rules.specs.Lines.{IsAc}
-use Rattle.ae_rules.specs.declared.rows.TheConstants.{OR_FROM_LEFT, OR_FROM_RIGHT, OR_TO_EITHER}
-use Rattle.ae_rules.proofs.ClauseLaws.{literal_eq, literal_not, literal_or, row_eq, row_or}
+use Rattle.ae_rules.proofs.ClauseLaws.{literal_eq, literal_not, literal_or, row_eq}
 use Rattle.ae_num.specs.declared.forms.Value.{Leaf}
 use Rattle.ae_journal.specs.Values.{Val, leaf, meaning}
 use Rattle.ae_journal.specs.Systems.{IsCompleted, IsJoin, IsLeaf, IsName, IsNamed, ValueOf, ValuesOf, fields_of, record_fields, value_at}
-use Rattle.ae_journal.specs.States.{IsSaturatedBy, SomeStands, IsFirst, Comes, HasGeneration, Matches, Owner, of_literal, of_axiom, Pattern, pattern_of}
-use Rattle.ae_journal.specs.States.{outside, outside_step, quant_of, is_universal_by, inequality, inequality_of}
+use Rattle.ae_journal.specs.States.{IsSaturatedBy, SomeStands, IsFirst}
+use Rattle.ae_journal.specs.States.{outside}
 use Rattle.ae_journal.specs.States.IsFirst.{of_hypothesis, of_goal}
-use Rattle.ae_journal.specs.States.Comes.{first as comes_first, by_row, by_block}
-use Rattle.ae_journal.proofs.Splits.{contains_cases, contains_one, contains_here, contains_later}
+use Rattle.ae_journal.proofs.Splits.{contains_cases, contains_one}
 use Rattle.ae_evaluation.proofs.Decisions.{yes_sorts}
 use Rattle.ae_evaluation.proofs.ExampleSystem.{leaf_at, no_entry}
 use Rattle.ae_evaluation.proofs.Literals.{outside-Eq}
@@ -50,6 +45,7 @@ use Rattle.ae_system_checks.proofs.Completed.{completed_of}
 use Rattle.ae_system_checks.proofs.Entries.{places}
 use Rattle.ae_system_checks.proofs.Facts.{put_T, constant_result, same_head, args_of, args_are, head_of, head_is}
 use Rattle.ae_system_checks.proofs.Rules.{none_fit, none_reduced, none_overlap}
+use Rattle.ae_system_checks.proofs.States.{no_hypothesis, of_or, outside_or, outside_not, formula_of, wrong_sign, sides, Plain, plain_or, plain_eq, no_predicate, no_inequality, no_quant, none_matches, not_int}
 use Rattle.ae_system_checks.proofs.Symbols.{IsOfLeaves, IsSymbolTerm, terms_of, leaves_of, computed_of, records_of, own_leaf, leaf_tells}
 
 -- ---- sorts
@@ -398,14 +394,6 @@ consistent l i j = not_itself l.positive (sym (signs l i) ∙ signs (opposite l)
     not_itself false e = cc
 
 -- ---- the terms in them
-outside_or : (f g : Formula) → outside (Or f g) ≡ outside f ++ outside g
-unfolding outside
-outside_or f g = fold_or (List Term) (Unit {0}) outside_step (λ q. tt) f g
-
-outside_not : (f : Formula) → outside (Not f) ≡ outside f
-unfolding outside
-outside_not f = fold_not (List Term) (Unit {0}) outside_step (λ q. tt) f
-
 in_rest : outside rest ≡ u 0 3 ∷ constant 4 ∷ u 2 3 ∷ u 4 1 ∷ []
 in_rest =
     outside_or (Not second) last ∙ (λ i. (outside_not second i) ++ (outside-Eq (u 2 3) (u 4 1) i))
@@ -444,62 +432,22 @@ no_not_second = literal_not false second ∙ literal_eq true (u 0 3) (constant 4
 no_last : no_of last ≡ is_false last
 no_last = literal_eq false (u 2 3) (u 4 1)
 
-true_is_not_false : false ≡ true → ⊥
-true_is_not_false e = cc
-
-no_hypothesis : (k : ℕ) (ss : List Sort) (f : Formula) → hypothesis problem 0 k ss ≡ Some f → ⊥
-no_hypothesis k ss f e =
-    let b = bind_some (only (nat_lt k 0) (slice_get problem.items k)) _ f e in
-    let o = only_some (nat_lt k 0) (slice_get problem.items k) b.0 b.1 in
-    let z = ltb-true k 0 o.0 in omega (arith, z)
-
 firsts : (l : Lit) → IsFirst problem 0 state l → Contains literals l
-firsts l (of_hypothesis k f e) = absurd (no_hypothesis k [] f e)
+firsts l (of_hypothesis k f e) = absurd (no_hypothesis problem k [] f e)
 firsts l (of_goal f e) =
     subst (λ g. Contains literals (no_of g)) (same_Some goal f e) (subst (Contains literals) (sym no_goal) stands_0)
-
--- the rows of a disjunction that fails, with both its parts
-of_or : (f g : Formula) → Contains literals (is_false (Or f g)) → Contains literals (no_of f) → Contains literals (no_of g)
-    → (r : ℕ) (c : Clause) → row r (Or f g) ≡ Some c → SomeStands problem 0 state c
-of_or f g o p q r c e = from_rows (sym (row_or r f g) ∙ e)
-  where
-    found : {A : Type 0} (d : Clause) (left : Option Clause) (b : Bool) → cond b (Some d) left ≡ Some c → (d ≡ c → A) → (left ≡ Some c → A) → A
-    found d left true e k m = k (same_Some d c e)
-    found d left false e k m = m e
-
-    with : (d : Clause) (l : Lit) → Contains d l → Contains literals l → d ≡ c → SomeStands problem 0 state c
-    with d l i j e = subst (SomeStands problem 0 state) e (l, i, j)
-
-    from_rows : or_row r (Or f g) f g ≡ Some c → SomeStands problem 0 state c
-    from_rows e =
-        found (is_true (Or f g) ∷ no_of f ∷ []) _ (nat_eq r OR_FROM_LEFT) e
-        (with (is_true (Or f g) ∷ no_of f ∷ []) (no_of f) (contains_later (is_true (Or f g)) (no_of f ∷ []) (no_of f) (contains_here (no_of f) [])) p)
-        (λ e. found (is_true (Or f g) ∷ no_of g ∷ []) _ (nat_eq r OR_FROM_RIGHT) e
-        (with (is_true (Or f g) ∷ no_of g ∷ []) (no_of g) (contains_later (is_true (Or f g)) (no_of g ∷ []) (no_of g) (contains_here (no_of g) [])) q)
-        (λ e. found (is_false (Or f g) ∷ yes_of f ∷ yes_of g ∷ []) None (nat_eq r OR_TO_EITHER) e
-        (with (is_false (Or f g) ∷ yes_of f ∷ yes_of g ∷ []) (is_false (Or f g)) (contains_here (is_false (Or f g)) (yes_of f ∷ yes_of g ∷ [])) o)
-        (λ e. never_some c e)))
 
 taken_apart : (l : Lit) → Contains literals l → (r : ℕ) (c : Clause) → row r l.formula ≡ Some c → SomeStands problem 0 state c
 taken_apart =
     each_literal (λ l. (r : ℕ) (c : Clause) → row r l.formula ≡ Some c → SomeStands problem 0 state c)
-    (of_or (Not first) rest stands_0 (subst (Contains literals) (sym no_not_first) stands_1) (subst (Contains literals) (sym no_rest) stands_2))
+    (of_or problem 0 state (Not first) rest stands_0 (subst (Contains literals) (sym no_not_first) stands_1) (subst (Contains literals) (sym no_rest) stands_2))
     (λ r c e. never_some c (sym (row_eq r (u 0 1) (constant 2)) ∙ e))
-    (of_or (Not second) last stands_2 (subst (Contains literals) (sym no_not_second) stands_3) (subst (Contains literals) (sym no_last) stands_4))
+    (of_or problem 0 state (Not second) last stands_2 (subst (Contains literals) (sym no_not_second) stands_3) (subst (Contains literals) (sym no_last) stands_4))
     (λ r c e. never_some c (sym (row_eq r (u 0 3) (constant 4)) ∙ e)) (λ r c e. never_some c (sym (row_eq r (u 2 3) (u 4 1)) ∙ e))
 
 -- ---- equations
-sides : (p q s t : Term) → Eq p q ≡ Eq s t → (p ≡ s) × (q ≡ t)
-sides p q s t e = let z : formula_layer.Eq p q ≡ formula_layer.Eq s t = sym (outs-Eq p q) ∙ ap out-Formula e ∙ outs-Eq s t in (cc, cc)
-
 or_is_no_equation : (f g : Formula) (s t : Term) → Or f g ≡ Eq s t → ⊥
 or_is_no_equation f g s t e = let z : formula_layer.Or f g ≡ formula_layer.Eq s t = sym (outs-Or f g) ∙ ap out-Formula e ∙ outs-Eq s t in cc
-
-formula_of : {c d : Bool} {f g : Formula} → ◌≡◌ {A = Lit} (record { positive = c; formula = f }) (record { positive = d; formula = g }) → f ≡ g
-formula_of e = ap (λ (l : Lit). l.formula) e
-
-wrong_sign : {A : Type 0} {f g : Formula} → is_false f ≡ is_true g → A
-wrong_sign e = absurd (true_is_not_false (ap (λ (l : Lit). l.positive) e))
 
 equal : (s t : Term) → Contains literals (is_true (Eq s t)) → (v : Val) × ValueOf system s v × ValueOf system t v
 equal s t i =
@@ -525,66 +473,16 @@ unequal s t v i a b =
         omega (arith, z)
 
 -- ---- nothing else stands
-plainly_made : (P : Formula-F Formula Quant → Type 0) → ((f g : Formula) → P (formula_layer.Or f g)) → ((s t : Term) → P (formula_layer.Eq s t))
-    → (l : Lit) → Contains literals l → P (out-Formula l.formula)
-plainly_made P a b =
-    each_literal (λ l. P (out-Formula l.formula)) (or (Not first) rest) (eq (u 0 1) (constant 2)) (or (Not second) last) (eq (u 0 3) (constant 4))
-    (eq (u 2 3) (u 4 1))
-  where
-    or : (f g : Formula) → P (out-Formula (Or f g))
-    or f g = subst P (sym (outs-Or f g)) (a f g)
-
-    eq : (s t : Term) → P (out-Formula (Eq s t))
-    eq s t = subst P (sym (outs-Eq s t)) (b s t)
-
-no_predicate : (q : ℕ) (ss : List Sort) (ts : List Term) (c : Bool) → Contains literals (record { positive = c; formula = Pred q ss ts }) → ⊥
-no_predicate q ss ts c i =
-    plainly_made (λ g. g ≡ formula_layer.Pred q ss ts → ⊥) (λ f g e. cc) (λ s t e. cc) (record { positive = c; formula = Pred q ss ts }) i (outs-Pred q ss ts)
-
-no_inequality : (l : Lit) → Contains literals l → (z : Term × Term × Bool) → inequality l ≡ Some z → ⊥
-no_inequality l i z e =
-    plainly_made (λ g. inequality_of l.positive g ≡ Some z → ⊥) (λ f g. not_or l.positive f g) (λ s t. not_eq l.positive s t) l i e
-  where
-    not_or : (c : Bool) (f g : Formula) → inequality_of c (formula_layer.Or f g) ≡ Some z → ⊥
-    not_or true f g e = never_some z e
-    not_or false f g e = never_some z e
-
-    not_eq : (c : Bool) (s t : Term) → inequality_of c (formula_layer.Eq s t) ≡ Some z → ⊥
-    not_eq true s t e = never_some z e
-    not_eq false s t e = never_some z e
-
-no_quant : (l : Lit) → Contains literals l → (q : Quant) → quant_of (out-Formula l.formula) ≡ Some q → ⊥
-no_quant l i q = plainly_made (λ g. quant_of g ≡ Some q → ⊥) (λ f g e. never_some q e) (λ s t e. never_some q e) l i
-
-no_pattern : (l : Lit) → Contains literals l → (q : Pattern) → pattern_of problem 0 (of_literal l) ≡ Some q → ⊥
-no_pattern l i q e =
-    let b = bind_some (only (is_universal_by l.positive (out-Formula l.formula)) (quant_of (out-Formula l.formula))) _ q e in
-    let o = only_some (is_universal_by l.positive (out-Formula l.formula)) (quant_of (out-Formula l.formula)) b.0 b.1 in
-    no_quant l i b.0 o.1
-
-no_axiom : (k : ℕ) (q : Pattern) → pattern_of problem 0 (of_axiom k) ≡ Some q → ⊥
-no_axiom k q e =
-    let b = bind_some (only (nat_lt k 0) (slice_get problem.items k)) _ q e in
-    let o = only_some (nat_lt k 0) (slice_get problem.items k) b.0 b.1 in
-    let z = ltb-true k 0 o.0 in omega (arith, z)
-
-reached : (n : ℕ) (l : Lit) → Comes problem 0 state (λ m. m) (HasGeneration problem 0 state (λ m. m) n) l → Contains literals l
-reached n l (comes_first a b) = b
-reached n l (by_row q c a b d e f g) = g
-reached n l (by_block q a b c d) = d
-
-none_matches : (n : ℕ) (o : Owner) (us : List Sort) (ts : List Term) → Matches problem 0 state (λ m. m) (HasGeneration problem 0 state (λ m. m) n) o us ts → ⊥
-none_matches n (of_literal l) us ts m = no_pattern l (reached n l m.owner_comes) m.pattern m.of_owner
-none_matches n (of_axiom k) us ts m = no_axiom k m.pattern m.of_owner
+all_plain : (l : Lit) → Contains literals l → Plain l
+all_plain =
+    each_literal Plain (plain_or (Not first) rest false) (plain_eq (u 0 1) (constant 2) true) (plain_or (Not second) last false) (plain_eq (u 0 3) (constant 4) true)
+    (plain_eq (u 2 3) (u 4 1) false)
 
 no_choices : choices_of signature (out-Sort T) ≡ None
 no_choices = ap (choices_of signature) (outs-Named 0 [])
 
 its_sort : (n : ℕ) (t : Term) (s : Sort) → IsName system n t → sort_of signature t ≡ Some s → T ≡ s
 its_sort n t s i e = same_Some T s (sym (of_leaves.symbol n t i).sort ∙ e)
-
-not_int : T ≢ Int
-not_int e = let z : sort_layer.Named 0 [] ≡ sort_layer.Int = sym (outs-Named 0 []) ∙ ap out-Sort e ∙ outs-Int in cc
 
 pub saturated_by : (bound : ℕ) → IsSaturatedBy problem 0 state (λ l. l) bound
 saturated_by bound = record {
@@ -596,10 +494,10 @@ saturated_by bound = record {
   equal = equal;
   unequal = unequal;
   constructors = λ h i v c d a b. absurd (no_constructor a.0 h [] [] a.1 c);
-  predicates = λ q ss ts us i j a. no_predicate q ss ts true i;
+  predicates = λ q ss ts us i j a. no_predicate q ss ts true (all_plain (is_true (Pred q ss ts)) i);
   exhausted = λ s v n hs a e. absurd (never_some hs (sym no_choices ∙ ap (λ o. choices_of signature (out-Sort o)) (its_sort n a.term s a.is a.sort) ∙ e));
   whole = λ n d t f i e g. absurd (not_int (its_sort n t Int i e));
-  inequalities = λ l s t strict v w i e a b. absurd (no_inequality l i (s, t, strict) e);
-  blocks = λ l q i e f. absurd (no_quant l i q f);
-  instances = λ n o us ts h m k. absurd (none_matches n o us ts m);
+  inequalities = λ l s t strict v w i e a b. absurd (no_inequality l (all_plain l i) (s, t, strict) e);
+  blocks = λ l q i e f. absurd (no_quant l (all_plain l i) q f);
+  instances = λ n o us ts h m k. absurd (none_matches problem state all_plain n o us ts m);
 }

@@ -4,5 +4,7 @@ pub mod Clauses
 pub mod Tests
 pub mod Whole
 pub mod Examples
+pub mod OneEquation
 pub mod TwoEquations
+pub mod Quantified
 pub mod Laws

@@ -8,6 +8,7 @@ ghost use Rattle.ae_system_checks.specs.Examples.{signature, overlapping, second
 ghost use Rattle.ae_system_checks.specs.Examples.{named_twice, crossed, opaque_numeral, other_field, incongruent, single_left, reducible, apart, without_rule};
 ghost use Rattle.ae_system_checks.specs.Tests.{HasTest, ClauseHasTest, SaturatedHasTest, OverlapsHaveTest, JoinsHaveTest};
 ghost use Rattle.ae_system_checks.specs.Laws.{NineClauses, LeafOfOther, EquationsFollowPlainly, EquationsFollow, StateAnswers, TwoEquationsAnswer, NoLiteralsAreRefused};
+ghost use Rattle.ae_system_checks.specs.Laws.{OneEquationAnswers, QuantifiedAnswers, TriggerMatches, NoInstanceIsRefused};
 
 /// A system is completed exactly where each of the nine clauses holds of it.
 pub fn completed_by_nine_clauses()
@@ -73,4 +74,16 @@ pub fn saturated_states_answer()
     ensures accepted { StateAnswers }
     ensures two_equations { TwoEquationsAnswer }
     ensures no_literals { NoLiteralsAreRefused }
+{}
+
+/// `a = b` doesn't give `a = c`: a saturated state says so.
+pub fn one_equation_answers()
+    ensures { OneEquationAnswers }
+{}
+
+/// A saturated state with a quantified literal whose trigger matches: with the instance it is an answer, without it none.
+pub fn matched_states_answer()
+    ensures accepted { QuantifiedAnswers }
+    ensures matches { TriggerMatches }
+    ensures no_instance { NoInstanceIsRefused }
 {}
