@@ -1,0 +1,4 @@
+pub mod RecordLaws
+pub mod FieldEquations
+pub mod ConstructorLaws
+pub mod ExhaustionLaws
