@@ -1,0 +1,16 @@
+mod ChainLaws
+mod Walks
+mod Seeking
+mod Chained
+mod Hiding
+mod Listings
+mod Holding
+mod Grown
+mod Removing
+mod Entered
+mod Reductions
+mod VersionLaws
+mod Turning
+mod Deducing
+mod Orienting
+mod Recomposing
