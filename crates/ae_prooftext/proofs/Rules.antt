@@ -18,7 +18,7 @@ use Rattle.ae_core.specs.declared.formulas.Formula.TheOpen as formula_layer
 use Rattle.ae_core.specs.declared.formulas.Formula.TheVariants.{rolls-True, rolls-False, rolls-Eq, rolls-Lt, rolls-Le, rolls-Pred, rolls-Not, rolls-And, rolls-Or, rolls-Xor, rolls-Iff, rolls-All, rolls-Ex}
 use Rattle.ae_core.specs.declared.formulas.Quant.{Quant}
 use Rattle.ae_codes.specs.Listings.{listed_text}
-use Rattle.ae_prooftext.specs.Texts.{sort_text, sort_text_step, name_or, get, term_text, term_text_step, numeral_text, kind_word, is_all, is_ex, bracketed, trigger_text, formula_text, formula_text_step, quant_text, quant_text_step}
+use Rattle.ae_prooftext.specs.Texts.{sort_text, sort_text_step, get, term_text, term_text_step, numeral_text, kind_word, is_all, is_ex, bracketed, trigger_text, formula_text, formula_text_step, quant_text, quant_text_step}
 use Rattle.ae_prooftext.specs.Words.{type_names, type_name, head_word, takes_sorts}
 use Rattle.ae_prooftext.specs.Inner.Pieces.{spaced_sorts, compound_bytes, bound_bytes, numeral_bytes, fresh_bytes, application_bytes, relation_bytes, negation_bytes, left_bytes, right_bytes, quant_bytes}
 use Rattle.ae_prooftext.specs.FormulaTexts.{quant_text_is}
@@ -71,7 +71,7 @@ module _ (sig : Signature) where
   unfolding type_names
   get_is n = go sig.types n
     where
-      go : (es : List TypeEntry) (n : ℕ) → name_or (slice_get (map (λ e. e.name) es) n) ≡ or_else (slice_get es n >>= λ e. Some e.name) []
+      go : (es : List TypeEntry) (n : ℕ) → or_else (slice_get (map (λ e. e.name) es) n) [] ≡ or_else (slice_get es n >>= λ e. Some e.name) []
       go [] n = refl
       go (e ∷ es) zero = refl
       go (e ∷ es) (suc n) = go es n

@@ -1,6 +1,7 @@
 -- The grammar of the texts over a signature, as codes: which values have a text, their texts, and what reading gives. The byte that
 -- closes a sort, a term or a formula belongs to its text here, so that no text is the beginning of another; `k` says which two bytes may close it.
 use Rattle.std.specs.Prelude.{Bool, List, Some}
+use Rattle.ae_codes.specs.Closers.{Close}
 use Rattle.ae_core.specs.Sorts.{sort_in, same_known, is_closed_sort}
 use Rattle.ae_core.specs.declared.problems.Signature.{Signature}
 use Rattle.ae_core.specs.declared.terms.Sort.{Sort, Real}
@@ -8,7 +9,7 @@ use Rattle.ae_core.specs.declared.terms.Term.{Term}
 use Rattle.ae_core.specs.declared.formulas.Lit.{Lit}
 use Rattle.ae_core.specs.declared.proofs.Block.{Block}
 use Rattle.ae_codes.specs.Codes.{Code}
-use Rattle.ae_prooftext.specs.SortTexts.{Close, SortEnd, sort, some_type}
+use Rattle.ae_prooftext.specs.SortTexts.{SortEnd, sort, some_type}
 use Rattle.ae_prooftext.specs.TermTexts.{TermEnd, term}
 use Rattle.ae_prooftext.specs.FormulaTexts.{FormulaEnd}
 use Rattle.ae_prooftext.specs.Formulas.{formula}

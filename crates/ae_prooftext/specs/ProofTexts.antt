@@ -3,6 +3,7 @@ use Rattle.std.specs.Prelude.{ℕ, ◌⊎◌, Bool, cond, IsTrue, List, [], ◌�
 use mathlib.Core.Path.{refl, sym, ap, ◌∙◌, subst}
 use mathlib.Core.Logic.{inl, inr}
 use mathlib.Core.List.{append_assoc}
+use Rattle.ae_base.specs.Options.{or_else}
 use Rattle.ae_core.specs.declared.problems.Signature.{Signature}
 use Rattle.ae_core.specs.declared.terms.Sort.{Sort}
 use Rattle.ae_core.specs.declared.terms.Term.{Term}
@@ -48,10 +49,6 @@ Placed = (ns : List ℕ) × ((u : Unit {0}) × Lines)
 abbrev pub text_of : Option (List ℕ) → List ClauseLine → ProofText
 text_of a ls = record { axioms = a; proof = record { lines = ls } }
 
-abbrev pub places_of : Option (List ℕ) → List ℕ
-places_of None = []
-places_of (Some ns) = ns
-
 module _ (sig : Signature) (real : List Sort → Term → Bool) where
   abbrev pub first_arm : Code ProofText
   first_arm = mapped (λ v. text_of None v.0) (λ p. (p.proof.lines, tt)) (proof_lines sig real) (λ v f. refl)
@@ -64,7 +61,7 @@ module _ (sig : Signature) (real : List Sort → Term → Bool) where
   second_raw = both places (λ ns. both (alone {A = Unit {0}} tt (10 ∷ [])) (λ u. proof_lines sig real))
 
   abbrev pub second_arm : Code ProofText
-  second_arm = mapped (λ v. text_of (Some v.0) v.1.1.0) (λ p. (places_of p.axioms, (tt, (p.proof.lines, tt)))) second_raw (λ v f. refl)
+  second_arm = mapped (λ v. text_of (Some v.0) v.1.1.0) (λ p. (or_else p.axioms [], (tt, (p.proof.lines, tt)))) second_raw (λ v f. refl)
 
   pub second_law : (p : ProofText) → second_arm.Fits p → version_tag p ≡ second_word
   unfolding mapped

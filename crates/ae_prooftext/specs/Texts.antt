@@ -2,6 +2,7 @@
 use Rattle.std.specs.Prelude.{ℕ, suc, ℤ, pos, Bool, true, false, List, [], ◌∷◌, ◌++◌, map, decimal, Option, Some, None, slice_get, codes, unsigned_abs}
 use lib.IntN.{negsuc}
 use Rattle.std.specs.Fmt.{signed_decimal}
+use Rattle.ae_base.specs.Options.{or_else}
 use Rattle.ae_core.specs.declared.terms.Sort.{Sort, Sort-F, fold-Sort}
 use Rattle.ae_core.specs.declared.terms.Sort.TheOpen as sort_layer
 use Rattle.std.specs.List.{flat_map}
@@ -26,12 +27,8 @@ use Rattle.ae_prooftext.specs.Words.{type_names, symbol_name, has_variables, hea
 
 -- ---- sorts: `int`, `real`, `bool`, `unit`, a type's name, `(list int)`, and `'0` for a goal's type variable
 -- the name of a number, or nothing
-abbrev pub name_or : Option (List ℕ) → List ℕ
-name_or None = []
-name_or (Some w) = w
-
 abbrev pub get : List (List ℕ) → ℕ → List ℕ
-get ts n = name_or (slice_get ts n)
+get ts n = or_else (slice_get ts n) []
 
 abbrev pub sort_text_step : List (List ℕ) → Sort-F (List ℕ) → List ℕ
 sort_text_step types (sort_layer.Var n) = []
