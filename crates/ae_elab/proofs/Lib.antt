@@ -19,3 +19,14 @@ pub mod NameRules
 pub mod TypeRules
 pub mod TypeSizes
 pub mod NumberingRules
+pub mod DeclRules
+pub mod LeadLaws
+pub mod RecordRules
+pub mod FieldRules
+pub mod NamesInRules
+pub mod NamesStand
+pub mod FileNames
+pub mod NodeLaws
+pub mod LocalLaws
+pub mod TypingLaws
+pub mod UnknownLaws

@@ -8,6 +8,7 @@ use Rattle.ae_base.proofs.AllOf.{all_front, all_back}
 use Rattle.std.specs.Str.{bytes_eq}
 use Rattle.ae_core.specs.declared.terms.Sort.{Sort, Var, Int, Real, Bool as BoolSort, Unit as UnitSort, Named}
 use Rattle.ae_core.specs.Sorts.{type_fits}
+use Rattle.ae_core.specs.declared.problems.Signature.{Signature}
 use Rattle.ae_syntax.specs.declared.spans.Span.{Span}
 use Rattle.ae_syntax.specs.declared.types.WrittenType.{WrittenType, out-WrittenType, roll-out-WrittenType, fold-roll-WrittenType}
 use Rattle.ae_syntax.specs.declared.types.TypeKind.{TypeKind, fold-TypeKind, fold-roll-TypeKind}
@@ -19,6 +20,7 @@ use Rattle.ae_elab.specs.declared.faults.TypeFault.TheVariants as fault
 use Rattle.ae_elab.specs.declared.grounds.Ground.{Ground}
 use Rattle.ae_elab.specs.declared.grounds.Ground.TheVariants.{Free, InField}
 use Rattle.ae_elab.specs.Conditions.{test}
+use Rattle.ae_elab.specs.Declarations.{scope_of, result_rule}
 use Rattle.ae_elab.specs.Names.{names_step, names_in_type, joined}
 use Rattle.ae_elab.specs.Rules.{Passed, Rule, give, ◌>>◌, ◌⇒◌, refuse, each, written_variable}
 use Rattle.ae_elab.specs.Scope.{Scope, name_at, first_place, type_number}
@@ -203,3 +205,14 @@ pub arg_ready : (P : Span → Type 0) (w : WrittenType) (n : Span) (ws us : List
     → k < length us → v ≡ get_or us k v → AllByRecursion P (names_in_type v)
 arg_ready P w n ws us k v h e s l g =
     arg_named P w h n us k v (e ∙ ap (kind.Named n) (sym s)) (slice_get-get_or us k v l ∙ ap Some (sym g))
+
+-- ---- the sort of a symbol's value
+module _ (text : List ℕ) (sig : Signature) (w : WrittenType) (p : Passed) where
+  abbrev valued : Rule Sort
+  valued = type_rule w Free (scope_of text sig)
+
+  pub result_taken : (q : Passed) (s : Sort) → IsTaken valued p q s → IsTaken (result_rule text sig (Some w)) p q (Some s)
+  result_taken q s a m = then_walked valued (λ t. give (Some t)) m m m p q q s (Some s) (a m) (give_walked (Some s) m q)
+
+  pub result_halts : (e : TypeFault) → IsHalted valued p e → IsHalted (result_rule text sig (Some w)) p e
+  result_halts e a m = then_stops valued (λ t. give (Some t)) m p e (a m)

@@ -47,8 +47,11 @@ pub record Declared : Type 0 where
   pub signature : Signature
   pub drafts : List Draft
 
+abbrev pub only_declared : Signature → Declared
+only_declared sig = record { signature = sig; drafts = [] }
+
 abbrev pub declared : Signature → Rule Declared
-declared sig = give (record { signature = sig; drafts = [] })
+declared sig = give (only_declared sig)
 
 abbrev pub drafted : Signature → Span → Bool → List ℕ → Claim → Rule Declared
 drafted sig place is_goal name f = give (record { signature = sig; drafts = record { place = place; is_goal = is_goal; name = name; claim = f } ∷ [] })

@@ -19,7 +19,8 @@ use Rattle.ae_elab.specs.declared.numbers.Numbers.TheVariants.{IntAlone, IntOrRe
 use Rattle.ae_elab.specs.declared.faults.TypeFault.TheVariants as fault
 use Rattle.ae_elab.specs.Conditions.{test, has_sort, has_operand_sort, may_be, becomes}
 use Rattle.ae_elab.specs.Trees.{Tree, Trees, none, more, numeral, apply, operation, build, update, choice}
-use Rattle.ae_elab.specs.Scope.{Scope, FieldPlace, name_at, field_place}
+use Rattle.ae_elab.specs.declared.fields.FieldPlace.{FieldPlace}
+use Rattle.ae_elab.specs.Scope.{Scope, name_at, field_place}
 use Rattle.ae_elab.specs.Rules.{Rule, give, ◌>>◌, ◌⇒◌, refuse, unknowns, Typed, typed, no_term, Part, Set, as_term, wanted, all_wanted, as_formula}
 use Rattle.ae_elab.specs.declared.grounds.Ground.TheVariants.{Free}
 use Rattle.ae_elab.specs.WrittenTypes.{type_rule}

@@ -4,7 +4,8 @@ ghost use Rattle.std.specs.Prelude.{◌≡◌, List, ℕ, IfOk, IfErr};
 ghost use Rattle.std.specs.List.{AllByRecursion};
 ghost use Rattle.ae_core.specs.declared.problems.Signature.{Signature};
 ghost use Rattle.ae_elab.specs.declared.faults.TypeFault.TheVariants as fault;
-ghost use Rattle.ae_elab.specs.Names.{IsName, names_in_type};
+ghost use Rattle.ae_elab.specs.Declarations.{result_rule};
+ghost use Rattle.ae_elab.specs.Names.{IsName, names_in_result, names_in_type};
 ghost use Rattle.ae_elab.specs.Rules.{Passed, each};
 ghost use Rattle.ae_elab.specs.Scope.{Local, name_in, scope_with, type_number};
 ghost use Rattle.ae_elab.specs.Steps.{IsTaken, IsHalted};
@@ -152,4 +153,28 @@ pub fn sorts_of<'a>(
         }
     }
     Ok(sorts)
+}
+
+/// The sort of declared symbols' values; predicates have none.
+pub fn result_of<'a>(
+    alloc: Global,
+    text: &'a [u8],
+    known: &Known<'a>,
+    passing: &mut Passing<'a>,
+    written: &Option<WrittenType>,
+) -> Result<Option<Sort>, TypeFault>
+    requires names { AllByRecursion (IsName text.now) (names_in_result written.now) }
+    ensures sort { IfOk result (λ s. IsTaken (result_rule text.now known.now written.now) passing.old passing.new s) }
+    ensures fault { IfErr result (λ e. IsHalted (result_rule text.now known.now written.now) passing.old e) }
+{
+    match written {
+        None => Ok(None),
+        Some(value) => {
+            let ground = Ground::Free;
+            match sort_of(alloc, text, known, &ground, passing, value) {
+                Ok(sort) => Ok(Some(sort)),
+                Err(fault) => return Err(fault),
+            }
+        }
+    }
 }

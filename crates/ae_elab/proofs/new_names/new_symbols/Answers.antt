@@ -8,7 +8,7 @@ use Rattle.ae_elab.specs.declared.faults.TypeFault.TheVariants as fault
 use Rattle.ae_elab.specs.Declarations.{new_symbols, twice}
 use Rattle.ae_elab.specs.Names.{IsName}
 use Rattle.ae_elab.specs.Steps.{AreMet, AreNotMet}
-use Rattle.ae_elab.proofs.NameRules.{Follows, names_next, names_stop, names_end}
+use Rattle.ae_elab.proofs.NameRules.{Follows, names_next, names_stop, names_end, of_symbols, symbols_ask}
 use Rattle.ae_elab.proofs.new_names.new_symbols.Goals as goal
 
 abbrev nowhere : Span
@@ -31,7 +31,7 @@ returns-then-is_taken-clause-fault c m =
     let shows : c.in_ok-twice.field-0 ≡ twice text x = c.in_ok-twice.ensures ∙ ap (λ (n : List ℕ). fault.Twice n x.from x.to) name in
     subst (λ (ys : List Span). AreNotMet (new_symbols text c.args.known.now [] ys) m c.in_ok-twice.field-0) c.as_slice-place-items.ensures
     (subst (λ (e : TypeFault). AreNotMet (new_symbols text c.args.known.now [] xs) m e) (sym shows)
-    (names_stop text c.args.known.now c.loop-place.seen x c.name_at-name.result.now name (new_symbols text c.args.known.now [] xs) xs i nowhere m c.loop-place-test.true refl
+    (names_stop text (of_symbols c.args.known.now) (new_symbols text c.args.known.now) (symbols_ask text c.args.known.now) c.loop-place.seen x c.name_at-name.result.now name (new_symbols text c.args.known.now [] xs) xs i nowhere m c.loop-place-test.true refl
     (c.loop-place.invariant m) (sym c.if-is_taken.ensures)))
 
 pub loop-place-preserved : goal.loop-place-preserved
@@ -42,7 +42,7 @@ loop-place-preserved c m =
     let x = get_or xs i nowhere in
     let whole = new_symbols text c.args.known.now [] xs in
     subst (λ (ns : List (List ℕ)). Follows whole (new_symbols text c.args.known.now (reverse ns) (drop (i + 1) xs)) m) (sym c.in_ok-push.ensures.names)
-    (names_next text c.args.known.now c.loop-place.seen x c.name_at-name.result.now c.name_at-name.ensures whole xs i nowhere m c.loop-place-test.true refl
+    (names_next text (of_symbols c.args.known.now) (new_symbols text c.args.known.now) (symbols_ask text c.args.known.now) c.loop-place.seen x c.name_at-name.result.now c.name_at-name.ensures whole xs i nowhere m c.loop-place-test.true refl
     (c.loop-place.invariant m) (sym c.if-is_taken.ensures))
 
 pub returns-clause-met : goal.returns-clause-met
@@ -51,4 +51,4 @@ returns-clause-met c m =
     let xs = c.as_slice-place-items.result.now in
     let whole = new_symbols text c.args.known.now [] xs in
     subst (λ (ys : List Span). AreMet (new_symbols text c.args.known.now [] ys) m m) c.as_slice-place-items.ensures
-    (names_end text c.args.known.now (reverse c.loop-place.seen) whole xs c.loop-place.place-index m (omega (arith, c.loop-place-test.false)) (c.loop-place.invariant m))
+    (names_end text (of_symbols c.args.known.now) (new_symbols text c.args.known.now) (λ seen. refl) (reverse c.loop-place.seen) whole xs c.loop-place.place-index m (omega (arith, c.loop-place-test.false)) (c.loop-place.invariant m))
