@@ -12,6 +12,8 @@ mod reducing;
 mod releasing;
 mod rules;
 mod symbols;
+#[cfg(test)]
+mod tests;
 mod versions;
 
 pub use finding::part_of;
