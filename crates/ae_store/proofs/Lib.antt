@@ -1,6 +1,7 @@
 pub mod Gets
 pub mod TermLaws
 pub mod TableLaws
+pub mod EmptySignature
 pub mod EnterLaws
 pub mod KnownLaws
 pub mod SizeLaws
