@@ -1,0 +1,11 @@
+pub mod Closings
+pub mod Combinators
+pub mod Commons
+pub mod Exactness
+pub mod LowestTerms
+pub mod NameReading
+pub mod NumberReading
+pub mod RowReading
+pub mod Stopping
+pub mod Wide
+pub mod WordReading
