@@ -1,0 +1,6 @@
+pub mod Sharing
+pub mod Finding
+pub mod Following
+pub mod Conflicts
+pub mod Hopping
+pub mod Ways
