@@ -1,0 +1,3 @@
+pub mod Least
+mod Products
+mod Solved

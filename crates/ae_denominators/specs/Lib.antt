@@ -1,0 +1,2 @@
+-- Which denominators values have.
+pub mod Denominators

@@ -1,0 +1,6 @@
+mod Stated
+mod OverTerms
+mod SideSorts
+mod Changes
+mod Orders
+mod Many
