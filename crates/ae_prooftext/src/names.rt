@@ -65,7 +65,8 @@ fn put_field_of(out: &mut Vec<u8>, entry: &TypeEntry, place: usize) -> Result<()
     }
 }
 
-fn put_sign(out: &mut Vec<u8>, op: Op) -> Result<(), AllocError>
+/// Puts the sign of an operation.
+pub fn put_sign(out: &mut Vec<u8>, op: Op) -> Result<(), AllocError>
     ensures { OnOk result (out.new.items ≡ out.old.items ++ op_sign op) }
 {
     match op {

@@ -7,5 +7,6 @@ pub mod NameReading
 pub mod NumberReading
 pub mod RowReading
 pub mod Stopping
+pub mod TextLaws
 pub mod Wide
 pub mod WordReading

@@ -53,6 +53,13 @@ abbrev pub Ahead : {A : Type 0} → List ℕ → ℕ → Result (A × ℕ) Fault
 Ahead text at (Ok v) = (at < v.1) × (v.1 ≤ length text)
 Ahead text at (Err f) = FaultWithin text at f
 
+-- a reader that takes no memory never wants any
+abbrev pub AsksNoMemory : {A : Type 0} → Result (A × ℕ) Fault → Type 0
+AsksNoMemory (Ok v) = Unit {0}
+AsksNoMemory (Err (At p)) = Unit {0}
+AsksNoMemory (Err (WideNumber p)) = Unit {0}
+AsksNoMemory (Err Memory) = ⊥
+
 -- which bytes close
 abbrev pub close_of : Closing → Close
 close_of closings.Blank = by_blank

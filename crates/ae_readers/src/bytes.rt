@@ -1,7 +1,7 @@
 //! Bytes.
 ghost use Rattle.std.specs.Prelude.{◌≡◌, ◌<◌, ◌+◌, ◌∷◌, [], length, drop, IfSome, IfNone};
 ghost use Rattle.ae_codes.specs.Codes.{is_digit};
-ghost use Rattle.ae_readers.specs.Readers.{Reads, ReadsExactly, Ahead, closing_at, closing_read, close_of};
+ghost use Rattle.ae_readers.specs.Readers.{Reads, ReadsExactly, Ahead, AsksNoMemory, closing_at, closing_read, close_of};
 
 use crate::closing::Closing;
 use crate::fault::Fault;
@@ -32,6 +32,7 @@ pub fn read_closing(text: &[u8], at: usize, closing: Closing) -> Result<(u8, usi
     ensures read { Reads text.now result (closing_read (close_of closing) (drop at text.now)) }
     ensures exact { ReadsExactly (closing_at closing) text.now at result }
     ensures ahead { Ahead text.now at result }
+    ensures memory { AsksNoMemory result }
 {
     match byte_at(text, at) {
         Some(found) => {

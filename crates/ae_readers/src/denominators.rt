@@ -4,7 +4,7 @@ ghost use Rattle.std.specs.Int.{IsGcd};
 ghost use Rattle.ae_codes.specs.Fractions.{lowest};
 ghost use Rattle.ae_codes.specs.Numbers.{no_digit};
 ghost use Rattle.ae_readers.specs.Denominators.{can_reach, can_live, may_go, below_digits, below_at};
-ghost use Rattle.ae_readers.specs.Readers.{Reads, ReadsExactly, Ahead, close_of, closes, greatest};
+ghost use Rattle.ae_readers.specs.Readers.{Reads, ReadsExactly, Ahead, AsksNoMemory, close_of, closes, greatest};
 
 use crate::bytes::is_figure;
 use crate::closing::Closing;
@@ -85,6 +85,7 @@ pub fn read_below(
     ensures read { Reads text.now result (below_digits top (close_of closing) (drop from text.now) no_digit) }
     ensures exact { ReadsExactly (below_at top (close_of closing)) text.now from result }
     ensures ahead { Ahead text.now from result }
+    ensures memory { AsksNoMemory result }
     ensures range { IfOk result (λ v. v.0.0 ≤ greatest) }
 {
     read_to_end(text, from, top, closing)
@@ -98,6 +99,7 @@ fn read_to_end(
 ) -> Result<((u128, u8), usize), Fault>
     ensures read { Reads text.now result (below_digits top (close_of closing) (drop from text.now) no_digit) }
     ensures ahead { Ahead text.now from result }
+    ensures memory { AsksNoMemory result }
     ensures range { IfOk result (λ v. v.0.0 ≤ greatest) }
 {
     if from >= text.len() || !is_figure(text[from]) {

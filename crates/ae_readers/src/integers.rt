@@ -2,7 +2,7 @@
 ghost use Rattle.std.specs.Prelude.{◌≡◌, ◌≤◌, ◌<◌, ◌+◌, drop, false, length, pos, IfOk};
 ghost use Rattle.ae_codes.specs.Integers.{negate};
 ghost use Rattle.ae_codes.specs.Numbers.{read_digits, no_digit};
-ghost use Rattle.ae_readers.specs.Readers.{Reads, ReadsExactly, Ahead, close_of, or_stroke, integer_at, integer_read, positive_read, negative_read, greatest, sign_of, low_of, long_at};
+ghost use Rattle.ae_readers.specs.Readers.{Reads, ReadsExactly, Ahead, AsksNoMemory, close_of, or_stroke, integer_at, integer_read, positive_read, negative_read, greatest, sign_of, low_of, long_at};
 
 use crate::bytes::{byte_at, is_figure};
 use crate::closing::Closing;
@@ -22,6 +22,7 @@ pub fn read_long(
     ensures exact { ReadsExactly (long_at signed stroke (close_of closing)) text.now from result }
     ensures range { IfOk result (λ v. v.0.0 ≤ greatest) }
     ensures ahead { Ahead text.now from result }
+    ensures memory { AsksNoMemory result }
 {
     read_to_end(text, from, signed, stroke, closing)
 }
@@ -36,6 +37,7 @@ fn read_to_end(
     ensures read { Reads text.now result (read_digits (low_of signed) greatest (or_stroke stroke (close_of closing)) (drop from text.now) no_digit) }
     ensures range { IfOk result (λ v. v.0.0 ≤ greatest) }
     ensures ahead { Ahead text.now from result }
+    ensures memory { AsksNoMemory result }
 {
     if from >= text.len() || !is_figure(text[from]) {
         return Err(Fault::At(from));
@@ -81,6 +83,7 @@ pub fn read_integer(text: &[u8], at: usize, closing: Closing) -> Result<((i128, 
     ensures read { Reads text.now result ((integer_at (close_of closing)).read (drop at text.now)) }
     ensures exact { ReadsExactly (integer_at (close_of closing)) text.now at result }
     ensures ahead { Ahead text.now at result }
+    ensures memory { AsksNoMemory result }
 {
     read_signed(text, at, closing)
 }
@@ -88,6 +91,7 @@ pub fn read_integer(text: &[u8], at: usize, closing: Closing) -> Result<((i128, 
 fn read_signed(text: &[u8], at: usize, closing: Closing) -> Result<((i128, u8), usize), Fault>
     ensures read { Reads text.now result (integer_read (or_stroke false (close_of closing)) (drop at text.now)) }
     ensures ahead { Ahead text.now at result }
+    ensures memory { AsksNoMemory result }
 {
     match byte_at(text, at) {
         None => Err(Fault::At(at)),
@@ -104,6 +108,7 @@ fn read_signed(text: &[u8], at: usize, closing: Closing) -> Result<((i128, u8), 
 fn read_positive(text: &[u8], at: usize, closing: Closing) -> Result<((i128, u8), usize), Fault>
     ensures read { Reads text.now result (positive_read (or_stroke false (close_of closing)) (drop at text.now)) }
     ensures ahead { Ahead text.now at result }
+    ensures memory { AsksNoMemory result }
 {
     if is_wide(text, at) {
         return Err(Fault::WideNumber(at));
@@ -116,6 +121,7 @@ fn read_negative(text: &[u8], at: usize, closing: Closing) -> Result<((i128, u8)
     requires { at < length text.now }
     ensures read { Reads text.now result (negative_read (or_stroke false (close_of closing)) (drop at text.now) (drop (at + 1) text.now)) }
     ensures ahead { Ahead text.now at result }
+    ensures memory { AsksNoMemory result }
 {
     if is_wide(text, at + 1) {
         return Err(Fault::WideNumber(at));

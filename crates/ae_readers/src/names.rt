@@ -2,7 +2,7 @@
 ghost use Rattle.std.specs.Prelude.{◌≡◌, ◌≤◌, ◌<◌, ◌+◌, ◌&&◌, true, false, nat_lt, length, drop, IfSome, IfNone};
 ghost use Rattle.std.specs.Str.{bytes_eq};
 ghost use Rattle.ae_readers.specs.Names.{form_of, may_stand, names_at, word_at, SomeName};
-ghost use Rattle.ae_readers.specs.Readers.{Reads, ReadsExactly, Ahead, closes, word_part, place_of, no_end, most_of, named_read, name_wrong};
+ghost use Rattle.ae_readers.specs.Readers.{Reads, ReadsExactly, Ahead, AsksNoMemory, closes, word_part, place_of, no_end, most_of, named_read, name_wrong};
 
 use crate::closing::Closing;
 use crate::fault::Fault;
@@ -116,6 +116,7 @@ pub fn read_name(
     ensures read { Reads text.now result (named_read (form_of form) (closes closing) words.now (drop at text.now)) }
     ensures exact { (some : SomeName form closing words.now) → ReadsExactly (names_at form closing words.now some) text.now at (word_at words.now result) }
     ensures ahead { Ahead text.now at result }
+    ensures memory { AsksNoMemory result }
 {
     read_word(text, at, words, form, closing)
 }
@@ -151,6 +152,7 @@ fn read_word(
 ) -> Result<((usize, u8), usize), Fault>
     ensures read { Reads text.now result (named_read (form_of form) (closes closing) words.now (drop at text.now)) }
     ensures ahead { Ahead text.now at result }
+    ensures memory { AsksNoMemory result }
 {
     let count = part_length(text, at, closing);
     if at >= text.len() || count >= text.len() - at {

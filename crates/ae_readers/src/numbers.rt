@@ -3,7 +3,7 @@ ghost use Rattle.std.specs.Prelude.{◌≡◌, drop};
 ghost use Rattle.ae_codes.specs.Codes.{wide_digits};
 ghost use Rattle.ae_codes.specs.Closers.{sizes};
 ghost use Rattle.ae_codes.specs.Numbers.{number, read_digits, no_digit};
-ghost use Rattle.ae_readers.specs.Readers.{Reads, ReadsExactly, Ahead, close_of, closes, size_read, greatest_size};
+ghost use Rattle.ae_readers.specs.Readers.{Reads, ReadsExactly, Ahead, AsksNoMemory, close_of, closes, size_read, greatest_size};
 
 use crate::bytes::is_figure;
 use crate::closing::Closing;
@@ -44,6 +44,7 @@ pub fn is_wide(text: &[u8], from: usize) -> bool
 fn read_digits(text: &[u8], from: usize, closing: Closing) -> Result<((usize, u8), usize), Fault>
     ensures read { Reads text.now result (read_digits 0 greatest_size (closes closing) (drop from text.now) no_digit) }
     ensures ahead { Ahead text.now from result }
+    ensures memory { AsksNoMemory result }
 {
     if from >= text.len() || !is_figure(text[from]) {
         return Err(Fault::At(from));
@@ -74,6 +75,7 @@ pub fn read_size(text: &[u8], at: usize, closing: Closing) -> Result<((usize, u8
     ensures read { Reads text.now result ((number (sizes (close_of closing))).read (drop at text.now)) }
     ensures exact { ReadsExactly (number (sizes (close_of closing))) text.now at result }
     ensures ahead { Ahead text.now at result }
+    ensures memory { AsksNoMemory result }
 {
     read_narrow(text, at, closing)
 }
@@ -81,6 +83,7 @@ pub fn read_size(text: &[u8], at: usize, closing: Closing) -> Result<((usize, u8
 fn read_narrow(text: &[u8], at: usize, closing: Closing) -> Result<((usize, u8), usize), Fault>
     ensures read { Reads text.now result (size_read (closes closing) (drop at text.now)) }
     ensures ahead { Ahead text.now at result }
+    ensures memory { AsksNoMemory result }
 {
     if is_wide(text, at) {
         return Err(Fault::WideNumber(at));

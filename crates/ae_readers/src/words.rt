@@ -2,7 +2,7 @@
 ghost use Rattle.std.specs.Prelude.{◌≡◌, ◌≤◌, ◌<◌, ◌+◌, max, length, drop, true, false, IfSome, IfNone, IfOk};
 ghost use Rattle.ae_codes.specs.Tables.{begins};
 ghost use Rattle.ae_codes.specs.Rows.{alone};
-ghost use Rattle.ae_readers.specs.Readers.{Reads, ReadsExactly, Ahead, common, fixed_read};
+ghost use Rattle.ae_readers.specs.Readers.{Reads, ReadsExactly, Ahead, AsksNoMemory, common, fixed_read};
 
 use crate::fault::Fault;
 
@@ -62,6 +62,7 @@ pub fn read_fixed(text: &[u8], at: usize, word: &[u8]) -> Result<((), usize), Fa
     ensures exact { ReadsExactly (alone {A = Unit {0}} tt word.now) text.now at result }
     ensures next { IfOk result (λ v. v.1 ≡ at + length word.now) }
     ensures ahead { Ahead text.now at result }
+    ensures memory { AsksNoMemory result }
 {
     match after_word(text, at, word) {
         Some(next) => Ok(((), next)),
