@@ -34,7 +34,7 @@ in_front (Some (d ∷ cs)) fs c l h n e = (λ i. cond (h i) (refutes fs (d ∷ c
 first_hint : (clauses : List Clause) (k : ℕ) (ks : List ℕ) → k < length clauses → hinted clauses (k ∷ ks) ≡ (hinted clauses ks >>= λ cs. Some (clause clauses k ∷ cs))
 first_hint clauses k ks w = ap (λ o. o >>= λ c. hinted clauses ks >>= λ cs. Some (c ∷ cs)) (slice_get-get_or clauses k [] w)
 
-flipped : (b : Bool) → b ≡ not b → ⊥
+pub flipped : (b : Bool) → b ≡ not b → ⊥
 flipped true e = true≢false e
 flipped false e = true≢false (sym e)
 

@@ -85,3 +85,39 @@ grown t a old new i h u = record {
 pub within_of : (t : List Assigned) (f : Formula) (o : Option ℕ) → o ≡ place_in t f → IfSome o (λ p. p < length t)
 within_of t f (Some p) e = (found t f p (sym e)).0
 within_of t f None e = tt
+
+-- ---- the index with the last key less
+apart_front : (t : List Assigned) (a : Assigned) → Apart (t ++ a ∷ []) → Apart t
+apart_front t a h i j l m e =
+    let long : length (t ++ a ∷ []) ≡ length t + 1 = length-append t (a ∷ []) in
+    let first : at (t ++ a ∷ []) i ≡ at t i = get_or-append t (a ∷ []) nothing i (omega (arith, l, m)) in
+    let second : at (t ++ a ∷ []) j ≡ at t j = get_or-append t (a ∷ []) nothing j m in
+    h i j l (omega (arith, m, long)) (ap (λ (x : Assigned). x.lit.formula) first ∙ (e ∙ ap (λ (x : Assigned). x.lit.formula) (sym second)))
+
+-- the last formula stands nowhere else
+last_nowhere : (t : List Assigned) (a : Assigned) → Apart (t ++ a ∷ []) → place_in t a.lit.formula ≡ None
+last_nowhere t a h = by_place (place_in t a.lit.formula) refl
+  where
+    by_place : (o : Option ℕ) → place_in t a.lit.formula ≡ o → place_in t a.lit.formula ≡ None
+    by_place None q = q
+    by_place (Some p) q =
+        let r = found t a.lit.formula p q in
+        let long : length (t ++ a ∷ []) ≡ length t + 1 = length-append t (a ∷ []) in
+        absurd (h p (length t) r.0 (omega (arith, long)) (
+        ap (λ (x : Assigned). x.lit.formula) (get_or-append t (a ∷ []) nothing p r.0) ∙ (r.1 ∙ ap (λ (x : Assigned). x.lit.formula) (sym (get_or-append_seam t a [] nothing)))
+        ))
+
+less_each : (t : List Assigned) (a : Assigned) (f : Formula) (d : Dec (a.lit.formula ≡ f)) → place_in t a.lit.formula ≡ None → cond (decided d) None (cond (decided d) (Some (length t)) (place_in t f)) ≡ place_in t f
+less_each t a f (yes e) n = sym n ∙ ap (place_in t) e
+less_each t a f (no d) n = refl
+
+pub less : (t : List Assigned) (a : Assigned) (old new : Formula → Option ℕ) → IsIndex (t ++ a ∷ []) old
+    → ((f : Formula) → new f ≡ cond (is_eq (formula_order a.lit.formula f)) None (old f)) → IsIndex t new
+less t a old new i u =
+    let n : place_in t a.lit.formula ≡ None = last_nowhere t a i.apart in
+    record {
+      each = λ f.
+          let e : old f ≡ cond (decided (Formula_discrete a.lit.formula f)) (Some (length t)) (place_in t f) = i.each f ∙ at_end t a f n in
+          u f ∙ ((λ j. cond (same_test a.lit.formula f j) None (e j)) ∙ less_each t a f (Formula_discrete a.lit.formula f) n);
+      apart = apart_front t a i.apart;
+    }

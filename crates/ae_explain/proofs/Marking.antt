@@ -63,10 +63,10 @@ kept_or_resolved Resolved h = inr refl
 same_numbers : (a b : ℕ) → (a ≡ b → ⊥) → (a == b) ≡ false
 same_numbers a b n = grind (arith, nat_tests)
 
-equal_numbers : (a b : ℕ) → a ≡ b → (a == b) ≡ true
+pub equal_numbers : (a b : ℕ) → a ≡ b → (a == b) ≡ true
 equal_numbers a b e = grind (arith, nat_tests)
 
-numbers_equal : (a b : ℕ) → (a == b) ≡ true → a ≡ b
+pub numbers_equal : (a b : ℕ) → (a == b) ≡ true → a ≡ b
 numbers_equal a b h = grind (arith, nat_tests)
 
 pub at_level : (t : List Assigned) (marks : List Mark) (level p : ℕ) → kept marks p ≡ true → (at t p).level ≡ level → is_kept_at t marks level p ≡ true

@@ -12,7 +12,7 @@ use Rattle.ae_explain.proofs.Places.{found}
 pub refuted : {P Q : Type 0} (b : Bool) → b ≡ false → (IsTrue b ↔ P) → (Q → P) → IsTrue false ↔ Q
 refuted b e iff weaker = (λ h. absurd (true≢false (sym h)), λ q. absurd (true≢false (sym (iff.1 (weaker q)) ∙ e)))
 
-turned : (a b : Bool) → not (beq a b) ≡ true → a ≡ not b
+pub turned : (a b : Bool) → not (beq a b) ≡ true → a ≡ not b
 turned true true h = absurd (true≢false (sym h))
 turned true false h = refl
 turned false true h = refl

@@ -3,7 +3,11 @@ ghost use Rattle.std.specs.Prelude.{◌≡◌, ◌∷◌, ◌++◌, ◌<◌, [],
 ghost use Rattle.std.specs.Option.{IfSome};
 ghost use Rattle.ae_explain.specs.Trail.{Apart, at, place_in};
 ghost use Rattle.ae_explain.specs.Levels.{level_of};
+ghost use Rattle.ae_explain.specs.Fronts.{AreRising, IsFront};
+ghost use Rattle.ae_explain.specs.Inner.Index.{IsIndex};
 ghost use Rattle.ae_explain.specs.declared.trail.Assigned.{Assigned};
+ghost use Rattle.ae_core.specs.Orders.{formula_order};
+ghost use Rattle.std.specs.BTreeMap.{get};
 
 use ae_core::copies::copy_formula;
 use ae_core::formulas::{Formula, Lit};
@@ -56,6 +60,38 @@ fn drop_last(assigned: &mut List<Assigned>)
     }
 }
 
+/// Drops the last literal, and its formula from the index. It takes no memory.
+fn forget_last(assigned: &mut List<Assigned>, places: &mut BTreeMap<Formula, usize>)
+    requires index { IsIndex assigned.old (get formula_order places.old) }
+    ensures kept { (kept : List Assigned) (last : Assigned) → assigned.old ≡ kept ++ last ∷ [] → assigned.new ≡ kept }
+    ensures index { IsIndex assigned.new (get formula_order places.new) }
+{
+    match assigned.pop() {
+        Some(last) => {
+            places.remove(&last.lit.formula);
+        }
+        None => {}
+    }
+}
+
+/// Drops the literals above a level, and their formulas from the index. It takes no memory.
+fn cut(assigned: &mut List<Assigned>, places: &mut BTreeMap<Formula, usize>, level: usize)
+    requires index { IsIndex assigned.old (get formula_order places.old) }
+    requires rising { AreRising assigned.old }
+    ensures front { IsFront assigned.old level assigned.new }
+    ensures index { IsIndex assigned.new (get formula_order places.new) }
+{
+    let mut count = assigned.len();
+    while 0 < count {
+        let place = count - 1;
+        if assigned.as_slice()[place].level <= level {
+            return;
+        }
+        forget_last(assigned, places);
+        count = place;
+    }
+}
+
 impl Trail {
     /// The trail without a literal.
     pub fn new(alloc: Global) -> Trail
@@ -83,6 +119,14 @@ impl Trail {
                 Err(AllocError::from(failed))
             }
         }
+    }
+
+    /// Drops the literals above a level, in time linear in those. It takes no memory.
+    pub fn back_to(&mut self, level: usize)
+        requires rising { AreRising self.old }
+        ensures { IsFront self.old level self.new }
+    {
+        cut(&mut self.assigned, &mut self.places, level);
     }
 
     /// The literals in their order. No formula stands twice.
