@@ -1,0 +1,9 @@
+pub mod Trails
+pub mod Members
+pub mod Results
+pub mod Settling
+pub mod Listing
+pub mod Numbering
+pub mod Entering
+pub mod Watching
+pub mod Bounding

@@ -1,0 +1,107 @@
+-- The numbers of formulas, and what stands at their places.
+use Rattle.std.proofs.Common.{◌≡◌, ◌≢◌, ℕ, ◌<◌, Bool, true, false, cond, List, [], ◌∷◌, ◌++◌, length, get_or, set, refl, sym, ◌∙◌, ap, subst, arith, ◌⊎◌, inl, inr, Option, Some, None, length-set}
+use Rattle.std.specs.Prelude.{not}
+use Rattle.std.specs.Ordering.{is_eq}
+use Rattle.std.proofs.lemmas.Bool.{cases_eq}
+use Rattle.std.proofs.lemmas.Option.{same_Some}
+use Rattle.std.proofs.lemmas.List.{length_push, get_or_push, get_or_append_left, get_or-set_same, get_or-set_other}
+use Rattle.ae_base.proofs.Orders.{not_equal}
+use Rattle.ae_core.specs.Decided.{Formula_discrete}
+use Rattle.ae_core.specs.Orders.{formula_order}
+use Rattle.ae_core.proofs.OrderLaws.{formula_exact}
+use Rattle.ae_core.specs.declared.formulas.Formula.{Formula}
+use Rattle.ae_core.specs.declared.formulas.Lit.{Lit}
+use Rattle.ae_propagation.specs.declared.occurrences.Occurrences.{Occurrences}
+use Rattle.ae_propagation.specs.Inner.Finding.{side, none_listed, occurrences_at, listed, IsTable}
+
+-- ---- one formula more has a number
+module _ (old new : Formula → Option ℕ) (k : Formula) (n : ℕ) (u : (f : Formula) → new f ≡ cond (is_eq (formula_order k f)) (Some n) (old f)) where
+  pub new_own : new k ≡ Some n
+  new_own = u k ∙ ap (λ (b : Bool). cond b (Some n) (old k)) (ap is_eq ((formula_exact k k).1 refl))
+
+  new_cases : (f : Formula) → ((k ≡ f) × (new f ≡ Some n)) ⊎ (new f ≡ old f)
+  new_cases f = elim (Formula_discrete k f) as (λ _. ((k ≡ f) × (new f ≡ Some n)) ⊎ (new f ≡ old f)) [
+    | yes e ↦ inl (e, subst (λ (g : Formula). new g ≡ Some n) e new_own)
+    | no d ↦ inr (u f ∙ ap (λ (b : Bool). cond b (Some n) (old f)) (not_equal (formula_order k f) (λ e. d ((formula_exact k f).0 e))))
+  ]
+
+-- ---- one place more
+room_at : (table : List Occurrences) (o : Option ℕ) → ((n : ℕ) → o ≡ Some n → n < length table) → occurrences_at (table ++ none_listed ∷ []) o ≡ occurrences_at table o
+room_at table None w = refl
+room_at table (Some n) w = get_or_append_left table (none_listed ∷ []) none_listed n (w n refl)
+
+pub more_room : (numbers : Formula → Option ℕ) (table : List Occurrences) → IsTable numbers table → IsTable numbers (table ++ none_listed ∷ [])
+more_room numbers table h = record { within = λ f n e. omega (arith, h.within f n e, length_push table none_listed); apart = h.apart }
+
+pub room_listed : (numbers : Formula → Option ℕ) (table : List Occurrences) (l : Lit) → IsTable numbers table → listed numbers (table ++ none_listed ∷ []) l ≡ listed numbers table l
+room_listed numbers table l h = ap (side l.positive) (room_at table (numbers l.formula) (λ n e. h.within l.formula n e))
+
+pub numbered : (old new : Formula → Option ℕ) (table : List Occurrences) (k : Formula) → ((f : Formula) → new f ≡ cond (is_eq (formula_order k f)) (Some (length table)) (old f)) → IsTable old table
+    → IsTable new (table ++ none_listed ∷ [])
+numbered old new table k u h = record {
+  within = λ f n e. elim (new_cases old new k (length table) u f) as (λ _. n < length (table ++ none_listed ∷ [])) [
+    | inl q ↦
+        let s : n ≡ length table = same_Some n (length table) (sym e ∙ q.1) in
+        omega (arith, s, length_push table none_listed)
+    | inr q ↦ omega (arith, h.within f n (sym q ∙ e), length_push table none_listed)
+  ];
+  apart = λ f g n e d. elim (new_cases old new k (length table) u f) as (λ _. f ≡ g) [
+    | inl q ↦ elim (new_cases old new k (length table) u g) as (λ _. f ≡ g) [
+      | inl r ↦ sym q.0 ∙ r.0
+      | inr r ↦
+          let s : n ≡ length table = same_Some n (length table) (sym e ∙ q.1) in
+          absurd (omega (arith, s, h.within g n (sym r ∙ d)))
+    ]
+    | inr q ↦ elim (new_cases old new k (length table) u g) as (λ _. f ≡ g) [
+      | inl r ↦
+          let s : n ≡ length table = same_Some n (length table) (sym d ∙ r.1) in
+          absurd (omega (arith, s, h.within f n (sym q ∙ e)))
+      | inr r ↦ h.apart f g n (sym q ∙ e) (sym r ∙ d)
+    ]
+  ];
+}
+
+pub number_listed : (old new : Formula → Option ℕ) (table : List Occurrences) (k : Formula) → ((f : Formula) → new f ≡ cond (is_eq (formula_order k f)) (Some (length table)) (old f)) → IsTable old table
+    → old k ≡ None → (l : Lit) → listed new (table ++ none_listed ∷ []) l ≡ listed old table l
+number_listed old new table k u h none l = elim (new_cases old new k (length table) u l.formula) as (λ _. listed new (table ++ none_listed ∷ []) l ≡ listed old table l) [
+  | inl q ↦
+      let e : old l.formula ≡ None = subst (λ (f : Formula). old f ≡ None) q.0 none in
+      ap (λ (o : Option ℕ). side l.positive (occurrences_at (table ++ none_listed ∷ []) o)) q.1
+      ∙ (ap (side l.positive) (get_or_push table none_listed none_listed (length table) refl) ∙ ap (λ (o : Option ℕ). side l.positive (occurrences_at table o)) (sym e))
+  | inr q ↦ ap (λ (o : Option ℕ). side l.positive (occurrences_at (table ++ none_listed ∷ []) o)) q ∙ room_listed old table l h
+]
+
+-- ---- another value at a place
+other_sign : (l m : Lit) → m ≢ l → m.formula ≡ l.formula → m.positive ≡ not l.positive
+other_sign l m d e = by_signs m.positive l.positive refl refl
+  where
+    by_signs : (a b : Bool) → m.positive ≡ a → l.positive ≡ b → a ≡ not b
+    by_signs true true p q = absurd (d (λ i. record { positive = (p ∙ sym q) i; formula = e i }))
+    by_signs true false p q = refl
+    by_signs false true p q = refl
+    by_signs false false p q = absurd (d (λ i. record { positive = (p ∙ sym q) i; formula = e i }))
+
+pub set_table : (numbers : Formula → Option ℕ) (table : List Occurrences) (n : ℕ) (o : Occurrences) → IsTable numbers table → IsTable numbers (set table n o)
+set_table numbers table n o h = record { within = λ f k e. omega (arith, h.within f k e, length-set table n o); apart = h.apart }
+
+pub listed_at : (numbers : Formula → Option ℕ) (table : List Occurrences) (l : Lit) (n : ℕ) → numbers l.formula ≡ Some n → listed numbers table l ≡ side l.positive (get_or table n none_listed)
+listed_at numbers table l n e = ap (λ (o : Option ℕ). side l.positive (occurrences_at table o)) e
+
+pub set_own : (numbers : Formula → Option ℕ) (table : List Occurrences) (l : Lit) (n : ℕ) (o : Occurrences) → numbers l.formula ≡ Some n → n < length table → listed numbers (set table n o) l ≡ side l.positive o
+set_own numbers table l n o e w = listed_at numbers (set table n o) l n e ∙ ap (side l.positive) (get_or-set_same table n o none_listed w)
+
+pub set_others : (numbers : Formula → Option ℕ) (table : List Occurrences) (l m : Lit) (n : ℕ) (o : Occurrences) → IsTable numbers table → numbers l.formula ≡ Some n
+    → side (not l.positive) o ≡ side (not l.positive) (get_or table n none_listed) → m ≢ l → listed numbers (set table n o) m ≡ listed numbers table m
+set_others numbers table l m n o h e s d = by_number (numbers m.formula) refl
+  where
+    by_number : (p : Option ℕ) → numbers m.formula ≡ p → listed numbers (set table n o) m ≡ listed numbers table m
+    by_number None q = ap (λ (w : Option ℕ). side m.positive (occurrences_at (set table n o) w)) q ∙ ap (λ (w : Option ℕ). side m.positive (occurrences_at table w)) (sym q)
+    by_number (Some k) q = elim (cases_eq k n) as (λ _. listed numbers (set table n o) m ≡ listed numbers table m) [
+      | inl same ↦
+          let at_n : numbers m.formula ≡ Some n = q ∙ ap Some same in
+          let b : m.positive ≡ not l.positive = other_sign l m d (h.apart m.formula l.formula n at_n e) in
+          set_own numbers table m n o at_n (h.within m.formula n at_n)
+          ∙ (subst (λ (w : Bool). side w o ≡ side w (get_or table n none_listed)) (sym b) s ∙ sym (listed_at numbers table m n at_n))
+      | inr far ↦
+          listed_at numbers (set table n o) m k q ∙ (ap (side m.positive) (get_or-set_other table n k o none_listed far) ∙ sym (listed_at numbers table m k q))
+    ]

@@ -1,0 +1,7 @@
+//! Unit propagation: what clauses make true in which all literals but one are false, by plain scans and by lists of
+//! the clauses that have a literal.
+#![tactic(auto)]
+
+mod occurrences;
+pub mod settle;
+pub mod watches;
