@@ -1,0 +1,32 @@
+-- The literals of a clause that aren't false, in its first places.
+use Rattle.std.proofs.Common.{◌≡◌, ℕ, ◌+◌, ◌<◌, List, [], ◌∷◌, ◌++◌, length, get_or, sym, ◌∙◌, subst, arith, inl, inr, length-append}
+use Rattle.std.proofs.lemmas.Bool.{cases_lt}
+use Rattle.std.proofs.lemmas.List.{get_or_default}
+use Rattle.std.proofs.Math.ListN.{get_or-append}
+use Rattle.std.proofs.Math.Seq.{get_or-append_seam}
+use Rattle.ae_rules.specs.Clauses.{Clause}
+use Rattle.ae_core.specs.declared.formulas.Lit.{Lit}
+use Rattle.ae_explain.specs.declared.trail.Assigned.{Assigned}
+use Rattle.ae_explain.specs.Trail.{IsFalse}
+use Rattle.ae_sat.specs.Settled.{IsNotFalse}
+use Rattle.ae_sat.proofs.Settling.{more_each}
+
+pub record IsChosen (t : List Assigned) (c : Clause) (places : List ℕ) (n : ℕ) : Type 0 where
+  pub kept : (j d : ℕ) → j < length places → IsNotFalse t c (get_or places j d)
+  pub none : length places ≡ 0 → (k : ℕ) (m : Lit) → k < n → get_or c k m ≡ m → IsFalse t m
+
+pub not_false_at : (t : List Assigned) (c : Clause) (i : ℕ) (x : Lit) → i < length c → x ≡ get_or c i x → (IsFalse t x → ⊥) → IsNotFalse t c i
+not_false_at t c i x l e n = record { within = l; not_false = λ d f. n (subst (IsFalse t) (get_or_default c i d x l ∙ sym e) f) }
+
+pub chosen_yes : (t : List Assigned) (c : Clause) (places : List ℕ) (i : ℕ) → IsChosen t c places i → IsNotFalse t c i → IsChosen t c (places ++ i ∷ []) (i + 1)
+chosen_yes t c places i r n = record {
+  kept = λ j d h. elim (cases_lt j (length places)) as (λ _. IsNotFalse t c (get_or (places ++ i ∷ []) j d)) [
+    | inl l ↦ subst (IsNotFalse t c) (sym (get_or-append places (i ∷ []) d j l)) (r.kept j d l)
+    | inr g ↦ let e : length places ≡ j = omega (arith, g, h, length-append places (i ∷ [])) in
+        subst (λ (k : ℕ). IsNotFalse t c (get_or (places ++ i ∷ []) k d)) e (subst (IsNotFalse t c) (sym (get_or-append_seam places i [] d)) n)
+  ];
+  none = λ z. absurd (omega (arith, z, length-append places (i ∷ [])));
+}
+
+pub chosen_no : (t : List Assigned) (c : Clause) (places : List ℕ) (i : ℕ) (x : Lit) → i < length c → x ≡ get_or c i x → IsFalse t x → IsChosen t c places i → IsChosen t c places (i + 1)
+chosen_no t c places i x l e f r = record { kept = r.kept; none = λ z. more_each (IsFalse t) c i x l e f (r.none z) }

@@ -1,0 +1,116 @@
+use Rattle.std.proofs.Common.{rules, ◌≡◌, ◌∙◌, ℕ, length, map, take, sym, ap, subst, true}
+use Rattle.std.proofs.Math.Seq.{take-length}
+use Rattle.ae_rules.specs.Clauses.{opposite}
+use Rattle.ae_rules.specs.Derivations.{IsContradictory, clause_ok}
+use Rattle.ae_core.specs.declared.proofs.Block.{Block}
+use Rattle.ae_explain.specs.Trail.{AreFalse}
+use Rattle.ae_sat.specs.Marked.{atoms}
+use Rattle.ae_sat.proofs.Searching.{notes_none}
+use Rattle.ae_sat.proofs.Blocks.{state_same, block_false}
+use Rattle.ae_sat.proofs.solver.Solver.propagate.Goals as goal
+
+pub returns-in-Falsified-clause-alive : goal.returns-in-Falsified-clause-alive
+returns-in-Falsified-clause-alive g c = c.in_ok-k.ensures.continues.alive c.args.store.now c.args.journal.now.lines c.requires.alive
+
+pub returns-in-Falsified-clause-legal : goal.returns-in-Falsified-clause-legal
+returns-in-Falsified-clause-legal g c setting bound sig st state =
+    let js = c.args.journal.now.lines in
+    (notes_none setting bound js, c.in_ok-k.ensures.continues.state setting js st state)
+
+pub tell_all-requires : goal.tell_all-requires
+tell_all-requires g c = record { alive = (c.args.journal.now.lines, c.in_ok-k.ensures.continues.alive c.args.store.now c.args.journal.now.lines c.requires.alive) }
+
+pub saturate-requires-clause-alive : goal.saturate-requires-clause-alive
+saturate-requires-clause-alive g c = c.in_ok-tell_all.ensures.alive c.args.journal.now.lines (c.in_ok-k.ensures.continues.alive c.args.store.now c.args.journal.now.lines c.requires.alive)
+
+pub returns-in_err-saturate-clause-legal : goal.returns-in_err-saturate-clause-legal
+returns-in_err-saturate-clause-legal g c setting bound sig st state =
+    let s = c.args.self.now in
+    let b = c.settle_rows.new.self in
+    let js = c.args.journal.now.lines in
+    let one = c.in_ok-k.ensures.continues.state setting js st state in
+    let t = c.tell_all.new.self in
+    let e = c.in_ok-tell_all.ensures in
+    let two = state_same setting b.trail t.trail b.clauses t.clauses b.expanded t.expanded c.settle_rows.new.lines.items js e.trail e.clauses e.expanded one in
+    let pr = c.saturate.ensures.legal setting bound c.settle_rows.new.lines.items sig two in
+    (pr.0, search rules)
+
+pub returns-in_err-block-in-Conflict-clause-legal : goal.returns-in_err-block-in-Conflict-clause-legal
+returns-in_err-block-in-Conflict-clause-legal g c setting bound sig st state =
+    let s = c.args.self.now in
+    let b = c.settle_rows.new.self in
+    let js = c.args.journal.now.lines in
+    let one = c.in_ok-k.ensures.continues.state setting js st state in
+    let t = c.tell_all.new.self in
+    let e = c.in_ok-tell_all.ensures in
+    let two = state_same setting b.trail t.trail b.clauses t.clauses b.expanded t.expanded c.settle_rows.new.lines.items js e.trail e.clauses e.expanded one in
+    let pr = c.saturate.ensures.legal setting bound c.settle_rows.new.lines.items sig two in
+    (pr.0, search rules)
+
+pub returns-in-Complete-clause-legal : goal.returns-in-Complete-clause-legal
+returns-in-Complete-clause-legal g c setting bound sig st state =
+    let s = c.args.self.now in
+    let b = c.settle_rows.new.self in
+    let js = c.args.journal.now.lines in
+    let one = c.in_ok-k.ensures.continues.state setting js st state in
+    let t = c.tell_all.new.self in
+    let e = c.in_ok-tell_all.ensures in
+    let two = state_same setting b.trail t.trail b.clauses t.clauses b.expanded t.expanded c.settle_rows.new.lines.items js e.trail e.clauses e.expanded one in
+    let pr = c.saturate.ensures.legal setting bound c.settle_rows.new.lines.items sig two in
+    (pr.0, pr.1)
+
+pub returns-in_ok-block-in-Conflict-clause-legal : goal.returns-in_ok-block-in-Conflict-clause-legal
+returns-in_ok-block-in-Conflict-clause-legal g c setting bound sig st state =
+    let s = c.args.self.now in
+    let b = c.settle_rows.new.self in
+    let js = c.args.journal.now.lines in
+    let one = c.in_ok-k.ensures.continues.state setting js st state in
+    let t = c.tell_all.new.self in
+    let e = c.in_ok-tell_all.ensures in
+    let two = state_same setting b.trail t.trail b.clauses t.clauses b.expanded t.expanded c.settle_rows.new.lines.items js e.trail e.clauses e.expanded one in
+    let pr = c.saturate.ensures.legal setting bound c.settle_rows.new.lines.items sig two in
+    (pr.0, pr.1)
+
+pub returns-in_err-saturate-clause-journal : goal.returns-in_err-saturate-clause-journal
+returns-in_err-saturate-clause-journal g c = c.saturate.ensures.journal
+
+pub returns-in_err-block-in-Conflict-clause-journal : goal.returns-in_err-block-in-Conflict-clause-journal
+returns-in_err-block-in-Conflict-clause-journal g c = c.saturate.ensures.journal
+
+pub returns-in-Complete-clause-journal : goal.returns-in-Complete-clause-journal
+returns-in-Complete-clause-journal g c = c.saturate.ensures.journal
+
+pub returns-in_ok-block-in-Conflict-clause-journal : goal.returns-in_ok-block-in-Conflict-clause-journal
+returns-in_ok-block-in-Conflict-clause-journal g c = c.saturate.ensures.journal
+
+pub returns-in_ok-block-in-Conflict-clause-block : goal.returns-in_ok-block-in-Conflict-clause-block
+returns-in_ok-block-in-Conflict-clause-block g c b e =
+    let a = c.saturate.new.self in
+    let x = c.in_ok-block-in-Conflict.field-0 in
+    let n = c.in_ok-saturate.ensures in
+    let told : a.handed ≡ length a.trail = n.handed ∙ (c.in_ok-tell_all.ensures.told ∙ ap length (sym n.trail)) in
+    let all : g.T.Theory.assumed a.theory ≡ atoms a.trail = n.alive.running.told_all ∙ ap atoms (ap (λ (k : ℕ). take k a.trail) told ∙ take-length a.trail) in
+    let q : x.block ≡ b = cc in
+    subst (λ (w : Block). IsContradictory c.args.store.now.signature w × (clause_ok c.args.store.now.signature w.deriv.hyps ≡ true) × AreFalse a.trail (map opposite w.deriv.hyps)) q
+    (c.in_ok-block-in-Conflict.ensures.contradictory, c.in_ok-block-in-Conflict.ensures.sorted, block_false a.trail (g.T.Theory.assumed a.theory) all x.block.deriv.hyps x.tags c.in_ok-block-in-Conflict.ensures.tags)
+
+pub returns-in_err-k-clause-allowed : goal.returns-in_err-k-clause-allowed
+returns-in_err-k-clause-allowed g c p n sig st = c.in_err-k.ensures.allowed p n st
+
+pub returns-in-Falsified-clause-allowed : goal.returns-in-Falsified-clause-allowed
+returns-in-Falsified-clause-allowed g c p n sig st = (c.in_ok-k.ensures.continues.stated p n st).allowed
+
+pub returns-in_err-tell_all-clause-allowed : goal.returns-in_err-tell_all-clause-allowed
+returns-in_err-tell_all-clause-allowed g c p n sig st = (c.in_ok-k.ensures.continues.stated p n st).allowed
+
+pub returns-in_err-saturate-clause-allowed : goal.returns-in_err-saturate-clause-allowed
+returns-in_err-saturate-clause-allowed g c p n sig st = (c.in_ok-k.ensures.continues.stated p n st).allowed
+
+pub returns-in-Complete-clause-allowed : goal.returns-in-Complete-clause-allowed
+returns-in-Complete-clause-allowed g c p n sig st = (c.in_ok-k.ensures.continues.stated p n st).allowed
+
+pub returns-in_err-block-in-Conflict-clause-allowed : goal.returns-in_err-block-in-Conflict-clause-allowed
+returns-in_err-block-in-Conflict-clause-allowed g c p n sig st = (c.in_ok-k.ensures.continues.stated p n st).allowed
+
+pub returns-in_ok-block-in-Conflict-clause-allowed : goal.returns-in_ok-block-in-Conflict-clause-allowed
+returns-in_ok-block-in-Conflict-clause-allowed g c p n sig st = (c.in_ok-k.ensures.continues.stated p n st).allowed

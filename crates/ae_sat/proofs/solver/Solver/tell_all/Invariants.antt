@@ -1,0 +1,17 @@
+use Rattle.std.proofs.Common.{◌≡◌, ◌-◌, List, length}
+use Rattle.ae_journal.specs.declared.lines.Line.{Line}
+use Rattle.ae_sat.specs.Search.{IsAlive}
+use Rattle.ae_sat.proofs.solver.Solver.tell_all.Given as goal
+
+abbrev pub invariant-loop-self : goal.invariant-loop-self
+invariant-loop-self g l = record {
+  alive : (js : List Line) → IsAlive g.T.Equalities.fits g.T.Theory.assumed g.T.Theory.fits_mark g.T.Theory.in_step l.store l.fn.self.theory l.fn.self.marks.items l.fn.self.trail l.fn.self.clauses l.fn.self.handed
+      l.fn.self.expanded js → IsAlive g.T.Equalities.fits g.T.Theory.assumed g.T.Theory.fits_mark g.T.Theory.in_step l.store l.self.theory l.self.marks.items l.self.trail l.self.clauses l.self.handed l.self.expanded js;
+  trail : l.self.trail ≡ l.fn.self.trail;
+  clauses : l.self.clauses ≡ l.fn.self.clauses;
+  places : l.self.places ≡ l.fn.self.places;
+  expanded : l.self.expanded ≡ l.fn.self.expanded;
+}
+
+abbrev pub decreases-loop-self : goal.decreases-loop-self
+decreases-loop-self g l = length l.self.trail - l.self.handed

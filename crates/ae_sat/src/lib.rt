@@ -1,0 +1,13 @@
+//! Search for literals that make clauses true, over any theory.
+#![tactic(auto)]
+
+pub mod choose;
+pub mod derive;
+pub mod expand;
+pub mod laws;
+pub mod marking;
+pub mod pick;
+pub mod run;
+pub mod settle;
+pub mod solver;
+pub mod tell;
