@@ -1,0 +1,3 @@
+pub mod EnterLaws
+pub mod ExactLaws
+pub mod TableLaws
