@@ -1,10 +1,9 @@
--- The nine clauses together, and the systems of the two constants.
+-- The systems of the two constants.
 use Rattle.std.specs.Prelude.{ℕ, ◌≡◌, ◌≢◌, ◌<◌, ◌≤◌, List, [], ◌∷◌, Some}
 use Rattle.std.proofs.Common.{inl}
 use Rattle.std.proofs.lemmas.Option.{same_Some}
 use mathlib.Core.Path.{refl, sym, ap, ◌∙◌}
 use native.Mathlib.Omega.{arith}
-use Rattle.ae_core.specs.declared.problems.Signature.{Signature}
 use Rattle.ae_core.specs.declared.terms.Head.TheVariants as head
 use Rattle.ae_multiset.specs.Multisets.{count, IsPart, IsSame}
 use Rattle.ae_multiset.specs.Rewriting.{Joins, IsReduced}
@@ -13,56 +12,18 @@ use Rattle.ae_multiset.proofs.Counts.{count-append}
 use Rattle.ae_journal.specs.Values.{Val, leaf}
 use Rattle.ae_journal.specs.Systems.{IsCompleted, IsRule, IsRuleFit, IsLeaf}
 use Rattle.ae_journal.specs.declared.systems.RuleEntry.{RuleEntry}
-use Rattle.ae_journal.specs.declared.systems.System.{System}
 use Rattle.ae_evaluation.proofs.ExampleSystem.{no_entry}
 use Rattle.ae_evaluation.proofs.Names.{two_parts}
-use Rattle.ae_system_checks.specs.Clauses.{Part, Clause, FailsAlone, HasLeaves, RulesFit, AreReduced, AllOverlapsJoin}
-use Rattle.ae_system_checks.specs.Clauses.Part.{terms, leaves, computing, records, congruence, rules, reduction, overlaps, joins}
+use Rattle.ae_decide.proofs.NineClauses.{completed_of}
+use Rattle.ae_decide.specs.Clauses.{Part, Clause, FailsAlone, HasLeaves, RulesFit, AreReduced, AllOverlapsJoin}
+use Rattle.ae_decide.specs.Clauses.Part.{terms, leaves, computing, records, congruence, rules, reduction, overlaps, joins}
 use Rattle.ae_system_checks.specs.Examples.{signature, T, pair, rule, overlapping, second_leaf, equated, crossed, single_left, reducible, apart}
-use Rattle.ae_system_checks.specs.Laws.{NineClauses, LeafOfOther}
+use Rattle.ae_system_checks.specs.Laws.{LeafOfOther}
 use Rattle.ae_system_checks.proofs.Facts.{T_fields}
 use Rattle.ae_system_checks.proofs.Entries.{of_two}
 use Rattle.ae_system_checks.proofs.Symbols.{computed_of, records_of, own_leaf, leaf_tells}
 use Rattle.ae_system_checks.proofs.Rules.{of_two_rules, two_reduced, one_reduced, one_overlap, none_fit, none_reduced, none_overlap, stays, by_rule}
 use Rattle.ae_system_checks.proofs.Pairs.{of_leaves, pair_terms, pair_leaves, pair_congruent, pair_joins, first_has, second_value, leaf_0, leaf_1, own_leaves, represents_0, represents_1, fits}
-
--- ---- completed, by the nine clauses
-pub completed_of : (sig : Signature) (y : System) → ((part : Part) → Clause sig y part) → IsCompleted sig y
-completed_of sig y c = record {
-  values = (c terms).values;
-  sorted = (c terms).sorted;
-  apart = (c terms).apart;
-  subterms = (c terms).subterms;
-  field_names = (c terms).field_names;
-  normal = (c leaves).normal;
-  over = (c leaves).over;
-  predicate_value = (c leaves).predicate_value;
-  numeral = (c computing).numeral;
-  computed = (c computing).computed;
-  record_value = (c records).record_value;
-  written = (c records).written;
-  congruent = c congruence;
-  rules_fit = c rules;
-  left_reduced = (c reduction).left_reduced;
-  right_reduced = (c reduction).right_reduced;
-  overlaps = c overlaps;
-  joins = c joins;
-}
-
-pub clauses_of : (sig : Signature) (y : System) → IsCompleted sig y → (part : Part) → Clause sig y part
-clauses_of sig y c terms =
-    record { values = c.values; sorted = c.sorted; apart = c.apart; subterms = c.subterms; field_names = c.field_names }
-clauses_of sig y c leaves = record { normal = c.normal; over = c.over; predicate_value = c.predicate_value }
-clauses_of sig y c computing = record { numeral = c.numeral; computed = c.computed }
-clauses_of sig y c records = record { record_value = c.record_value; written = c.written }
-clauses_of sig y c congruence = c.congruent
-clauses_of sig y c rules = c.rules_fit
-clauses_of sig y c reduction = record { left_reduced = c.left_reduced; right_reduced = c.right_reduced }
-clauses_of sig y c overlaps = c.overlaps
-clauses_of sig y c joins = c.joins
-
-pub nine_clauses : NineClauses
-nine_clauses sig y = (clauses_of sig y, completed_of sig y)
 
 -- ---- systems of two constants
 -- all clauses but one, where those on values and rules hold that aren't this one

@@ -1,6 +1,5 @@
 -- Decisions about finitely many things: places of lists, values that may be absent, terms by their shape.
 use Rattle.std.specs.Prelude.{ℕ, zero, suc, ℤ, Bool, ◌≡◌, ◌⊎◌, List, [], ◌∷◌, slice_get, Option, Some, None}
-use Rattle.std.specs.List.{AllByRecursion}
 use Rattle.std.proofs.Common.{inl, inr}
 use Rattle.std.proofs.lemmas.Option.{same_Some}
 use mathlib.Core.Path.{refl, sym, ap, subst, ◌∙◌}
@@ -11,12 +10,8 @@ use Rattle.ae_core.specs.declared.terms.Sort.{Sort}
 use Rattle.ae_core.specs.declared.terms.Term.{Term, Term-F, Num, Apply, out-Term, roll-Term, roll-out-Term}
 use Rattle.ae_core.specs.declared.terms.Term.TheOpen as layer
 use Rattle.ae_core.specs.declared.terms.Term.TheVariants.{outs-Apply, outs-Num, rolls-Apply, rolls-Num}
+use Rattle.ae_decide.specs.Inner.Decisions.{both}
 use Rattle.ae_evaluation.proofs.ExampleSystem.{no_entry}
-
-pub both : {A B : Type 0} → Dec A → Dec B → Dec (A × B)
-both (yes x) (yes z) = yes (x, z)
-both (yes x) (no n) = no (λ p. n p.1)
-both (no n) d = no (λ p. n p.0)
 
 pub three : {A B C : Type 0} → Dec A → Dec B → Dec C → Dec (A × B × C)
 three d e f = map_dec (λ (x, (z, w)). (x, z, w)) (λ (x, z, w). (x, (z, w))) (both d (both e f))
@@ -34,10 +29,6 @@ pub implied : {A B : Type 0} → Dec A → Dec B → Dec (A → B)
 implied (yes x) (yes z) = yes (λ w. z)
 implied (yes x) (no n) = no (λ f. n (f x))
 implied (no n) d = yes (λ x. absurd (n x))
-
-pub denied : {A : Type 0} → Dec A → Dec (¬ A)
-denied (yes x) = no (λ n. n x)
-denied (no n) = yes n
 
 -- ---- places of a list
 module _ {A : Type 0} where
@@ -65,10 +56,6 @@ module _ {A : Type 0} where
   at_some (x ∷ xs) P d =
       map_dec (λ s. elim s as (λ _. Somewhere (x ∷ xs) P) [ inl p ↦ (0, x, refl, p) | inr w ↦ (suc w.0, w.1, w.2, w.3) ])
       (λ w. somewhere_step x xs P w.0 w.1 w.2 w.3) (either (d 0 x) (at_some xs (λ k. P (suc k)) (λ k. d (suc k))))
-
-  pub of_each : (P : A → Type 0) → ((x : A) → Dec (P x)) → (xs : List A) → Dec (AllByRecursion P xs)
-  of_each P d [] = yes tt
-  of_each P d (x ∷ xs) = both (d x) (of_each P d xs)
 
   -- ---- values that may be absent
   pub where_known : (o : Option A) (P : A → Type 0) → ((x : A) → Dec (P x)) → Dec ((x : A) → o ≡ Some x → P x)

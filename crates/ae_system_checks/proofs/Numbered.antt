@@ -16,10 +16,10 @@ use Rattle.ae_journal.specs.Values.{Val, leaf}
 use Rattle.ae_journal.specs.Systems.{IsCompleted, IsJoin, IsLeaf, IsName, IsNamed, ValueOf, record_fields, value_at}
 use Rattle.ae_journal.specs.declared.systems.RuleEntry.{RuleEntry}
 use Rattle.ae_journal.specs.declared.systems.System.{System}
-use Rattle.ae_system_checks.specs.Clauses.{Part, Clause, IsCongruent, AllNamesJoin}
-use Rattle.ae_system_checks.specs.Clauses.Part.{terms, leaves, computing, records, congruence, rules, reduction, overlaps, joins}
+use Rattle.ae_decide.specs.Clauses.{Part, Clause, IsCongruent, AllNamesJoin}
+use Rattle.ae_decide.specs.Clauses.Part.{terms, leaves, computing, records, congruence, rules, reduction, overlaps, joins}
 use Rattle.ae_system_checks.specs.Examples.{T}
-use Rattle.ae_system_checks.proofs.Completed.{completed_of}
+use Rattle.ae_decide.proofs.NineClauses.{completed_of}
 use Rattle.ae_system_checks.proofs.Facts.{same_head, head_of, head_is}
 use Rattle.ae_system_checks.proofs.Rules.{none_fit, none_reduced, none_overlap}
 use Rattle.ae_system_checks.proofs.Symbols.{IsOfLeaves, terms_of, leaves_of, computed_of, records_of, own_leaf, leaf_tells}

@@ -25,8 +25,8 @@ use Rattle.ae_journal.specs.Systems.{Has, IsLeaf, IsName, IsNamed, IsNormalValue
 use Rattle.ae_journal.specs.declared.systems.System.{System}
 use Rattle.ae_evaluation.specs.Examples.{itself}
 use Rattle.ae_evaluation.proofs.ExampleSystem.{leaf_at, leaf_forms, normal_leaf, normal_number, number_at, own_real, forms-Fields, no_entry}
-use Rattle.ae_system_checks.specs.Clauses.{Part, Clause, FailsAlone, IsCongruent, AllNamesJoin}
-use Rattle.ae_system_checks.specs.Clauses.Part.{terms, leaves, computing, records, congruence, rules, reduction, overlaps, joins}
+use Rattle.ae_decide.specs.Clauses.{Part, Clause, FailsAlone, IsCongruent, AllNamesJoin}
+use Rattle.ae_decide.specs.Clauses.Part.{terms, leaves, computing, records, congruence, rules, reduction, overlaps, joins}
 use Rattle.ae_system_checks.specs.Examples.{signature, T, a, b, f, u, u_entry, one, built, field, named_twice, opaque_numeral, other_field, incongruent, without_rule}
 use Rattle.ae_system_checks.proofs.Entries.{of_one, of_two, of_three, of_four}
 use Rattle.ae_system_checks.proofs.Facts.{R, T_fields, R_fields, real_fields, not_numeric, a_sort, b_sort, f_sort, u_sort, one_sort, built_sort, field_sort, no_record, sorted_is_no_predicate, args_of, args_are, head_of, head_is}

@@ -1,11 +1,10 @@
 -- A decision for the clauses on overlaps and on names of AC symbols, where the rules fit.
 use Rattle.std.proofs.Math.Bool.{Bool-discrete}
-use Rattle.std.specs.Prelude.{false, ℕ, ◌<◌, ◌≤◌, min, ◌≡◌, ◌⊎◌, List, [], ◌∷◌, length, slice_get, Some}
+use Rattle.std.specs.Prelude.{false, ℕ, ◌≤◌, ◌≡◌, List, [], ◌∷◌, length, Some}
 use Rattle.std.specs.List.Sorted.{IsNonDecreasing}
-use Rattle.std.proofs.Common.{inl, inr}
 use Rattle.std.proofs.lemmas.List.Sorted.{IsNonDecreasingBy-short}
 use mathlib.Core.List.{List-discrete}
-use mathlib.Core.Path.{refl, sym, subst, ◌∙◌}
+use mathlib.Core.Path.{refl, subst}
 use native.Mathlib.Decide.{map_dec, ℕ_discrete}
 use native.Mathlib.Omega.{arith}
 use Rattle.ae_core.specs.Sorts.{sort_of}
@@ -16,39 +15,27 @@ use Rattle.ae_core.specs.declared.terms.Op.TheVariants as op
 use Rattle.ae_core.specs.declared.terms.Sort.{Sort}
 use Rattle.ae_core.specs.declared.terms.Term.{Term, Apply}
 use Rattle.ae_rules.specs.Linear.{form, is_number}
-use Rattle.ae_multiset.specs.Multisets.{count, common, IsPart, IsSame}
-use Rattle.ae_multiset.specs.Rewriting.{Decreases, Joins, ReducesTo, overlap_first, overlap_second}
-use Rattle.ae_multiset.proofs.Comparing.{same_or_not}
-use Rattle.ae_multiset.proofs.Confluence.{with_itself}
-use Rattle.ae_multiset.proofs.Counts.{count-common, count_same}
-use Rattle.ae_multiset.proofs.NormalForms.{linked_from, nf_linked, nf_only}
+use Rattle.ae_multiset.specs.Multisets.{IsPart}
+use Rattle.ae_multiset.specs.Rewriting.{Decreases, ReducesTo}
+use Rattle.ae_multiset.proofs.NormalForms.{linked_from, nf_only}
 use Rattle.ae_journal.specs.Evaluate.{reduced_by}
 use Rattle.ae_journal.specs.Evaluation.{Reduction}
 use Rattle.ae_journal.specs.Values.{Val}
 use Rattle.ae_journal.specs.Systems.{IsCompleted, IsJoin, IsName, IsRule, Represents, StandsFor, ValueOf, value_at}
-use Rattle.ae_journal.specs.declared.systems.RuleEntry.{RuleEntry}
 use Rattle.ae_journal.specs.declared.systems.System.{System}
 use Rattle.ae_evaluation.proofs.Names.{two_parts}
 use Rattle.ae_evaluation.proofs.Rules.{reduction_of}
-use Rattle.ae_system_checks.specs.Clauses.{Part, Clause, RulesFit, AllOverlapsJoin, AllNamesJoin}
-use Rattle.ae_system_checks.specs.Clauses.Part.{terms, leaves, computing, records, congruence, rules, reduction, overlaps, joins}
-use Rattle.ae_system_checks.proofs.Completed.{clauses_of, completed_of}
-use Rattle.ae_system_checks.proofs.Decide.{both, implied, at_all, known_with}
-use Rattle.ae_system_checks.proofs.Tests.{decide_terms, decide_leaves, decide_computed, decide_records, decide_congruence, decide_rules, decide_reduction, each_applied, has_value, is_ac_symbol, represents, symbol_discrete}
+use Rattle.ae_decide.specs.Clauses.{Part, Clause, RulesFit, AllOverlapsJoin, AllNamesJoin}
+use Rattle.ae_decide.specs.Clauses.Part.{terms, leaves, computing, records, congruence, rules, reduction, overlaps, joins}
+use Rattle.ae_decide.specs.Overlaps.{all_join}
+use Rattle.ae_decide.proofs.NineClauses.{clauses_of, completed_of}
+use Rattle.ae_decide.proofs.OverlapTests.{overlaps_tested}
+use Rattle.ae_decide.specs.Inner.Decisions.{both}
+use Rattle.ae_system_checks.proofs.Decide.{implied, at_all, known_with}
+use Rattle.ae_system_checks.proofs.Tests.{decide_terms, decide_leaves, decide_computed, decide_records, decide_congruence, decide_rules, decide_reduction, each_applied, has_value, is_ac_symbol, is_so, represents}
 
 numbers_discrete : Discrete (List ℕ)
 numbers_discrete = List-discrete ℕ_discrete
-
--- two multisets have a common name
-abbrev Share : List ℕ → List ℕ → Type 0
-Share l m = (x : ℕ) × (0 < count x l) × (0 < count x m)
-
-share : (l m : List ℕ) → Dec (Share l m)
-share l m = go (common l m) (λ x. count-common x l m)
-  where
-    go : (g : List ℕ) → ((x : ℕ) → count x g ≡ min (count x l) (count x m)) → Dec (Share l m)
-    go [] e = no (λ (x, a, b). omega (arith, a, b, e x))
-    go (x ∷ xs) e = yes (x, omega (arith, e x, count_same x xs), omega (arith, e x, count_same x xs))
 
 no_part : (n : ℕ) (l : List ℕ) → 2 ≤ length l → IsPart l (n ∷ []) → ⊥
 no_part n [] h p = omega (arith, h)
@@ -93,61 +80,10 @@ module _ (sig : Signature) (y : System) where
     falls : (h : Head) (ss : List Sort) → Decreases (IsRule y h ss)
     falls h ss l r x = (fit x.0 (record { symbol = record { head = h; sorts = ss }; left = l; right = r }) x.1).falls
 
-    -- the results of Deduce have one normal form
-    abbrev Agree : RuleEntry → RuleEntry → Type 0
-    Agree d e =
-        d.symbol ≡ e.symbol → Share d.left e.left
-        → nf d.symbol.head d.symbol.sorts (overlap_first d.left d.right e.left) ≡ nf d.symbol.head d.symbol.sorts (overlap_second d.left e.left e.right)
-
-    abbrev AllAgree : Type 0
-    AllAgree = (j : ℕ) (d : RuleEntry) → slice_get y.rules j ≡ Some d → (k : ℕ) (e : RuleEntry) → slice_get y.rules k ≡ Some e → Agree d e
-
-    there : AllAgree → AllOverlapsJoin sig y
-    there f h ss l r m q x z different n s t =
-        let e =
-        f x.0 (record { symbol = record { head = h; sorts = ss }; left = l; right = r }) x.1
-        z.0 (record { symbol = record { head = h; sorts = ss }; left = m; right = q }) z.1 refl (n, s, t) in
-        record {
-          at = nf h ss (overlap_first l r m);
-          first = (normal h ss).follows (overlap_first l r m);
-          second = subst (λ (w : List ℕ). ReducesTo (IsRule y h ss) (overlap_second l m q) w) (sym e) ((normal h ss).follows (overlap_second l m q));
-        }
-
-    back : AllOverlapsJoin sig y → AllAgree
-    back o j d x k e z same shared = equal (joined (same_or_not d.left e.left) (same_or_not d.right e.right))
-      where
-        second : IsRule y d.symbol.head d.symbol.sorts e.left e.right
-        second = (k, z ∙ (λ i. Some (record { symbol = sym same i; left = e.left; right = e.right })))
-
-        by_clause : (IsSame d.left e.left → IsSame d.right e.right → ⊥)
-            → Joins (IsRule y d.symbol.head d.symbol.sorts) (overlap_first d.left d.right e.left) (overlap_second d.left e.left e.right)
-        by_clause different =
-            o d.symbol.head d.symbol.sorts d.left d.right e.left e.right (j, x) second different shared.0 shared.1 shared.2
-
-        joined : IsSame d.left e.left ⊎ (IsSame d.left e.left → ⊥) → IsSame d.right e.right ⊎ (IsSame d.right e.right → ⊥)
-            → Joins (IsRule y d.symbol.head d.symbol.sorts) (overlap_first d.left d.right e.left) (overlap_second d.left e.left e.right)
-        joined (inl p) (inl q) = with_itself (IsRule y d.symbol.head d.symbol.sorts) d.left d.right e.left e.right p q
-        joined (inl p) (inr q) = by_clause (λ a b. q b)
-        joined (inr p) q = by_clause (λ a b. p a)
-
-        linked : (a b : List ℕ) → ReducesTo (IsRule y d.symbol.head d.symbol.sorts) a b → nf d.symbol.head d.symbol.sorts a ≡ nf d.symbol.head d.symbol.sorts b
-        linked a b r =
-            nf_linked (IsRule y d.symbol.head d.symbol.sorts) (falls d.symbol.head d.symbol.sorts) (o d.symbol.head d.symbol.sorts)
-            (nf d.symbol.head d.symbol.sorts) (normal d.symbol.head d.symbol.sorts) a b (linked_from (IsRule y d.symbol.head d.symbol.sorts) r)
-
-        equal : Joins (IsRule y d.symbol.head d.symbol.sorts) (overlap_first d.left d.right e.left) (overlap_second d.left e.left e.right)
-            → nf d.symbol.head d.symbol.sorts (overlap_first d.left d.right e.left) ≡ nf d.symbol.head d.symbol.sorts (overlap_second d.left e.left e.right)
-        equal g = linked (overlap_first d.left d.right e.left) g.at g.first ∙ sym (linked (overlap_second d.left e.left e.right) g.at g.second)
-
     pub decide_overlaps : Dec (AllOverlapsJoin sig y)
     decide_overlaps =
-        map_dec there back
-        (at_all y.rules (λ j d. (k : ℕ) (e : RuleEntry) → slice_get y.rules k ≡ Some e → Agree d e)
-        (λ j d. at_all y.rules (λ k e. Agree d e)
-        (λ k e. implied (symbol_discrete d.symbol e.symbol)
-        (implied (share d.left e.left)
-        (numbers_discrete (nf d.symbol.head d.symbol.sorts (overlap_first d.left d.right e.left))
-        (nf d.symbol.head d.symbol.sorts (overlap_second d.left e.left e.right)))))))
+        let t = overlaps_tested sig y (λ k e i. (fit k e i).falls) (all_join y.rules) refl in
+        map_dec t.0 t.1 (is_so (all_join y.rules))
 
     -- ---- names of AC symbols
     module _ (o : AllOverlapsJoin sig y) where

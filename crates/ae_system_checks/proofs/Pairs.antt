@@ -16,7 +16,7 @@ use Rattle.ae_journal.specs.Systems.{Has, IsLeaf, IsName, IsNamed, IsRepresentat
 use Rattle.ae_journal.specs.declared.systems.RuleEntry.{RuleEntry}
 use Rattle.ae_evaluation.proofs.ExampleSystem.{leaf_at}
 use Rattle.ae_system_checks.proofs.Entries.{of_two}
-use Rattle.ae_system_checks.specs.Clauses.{HasTerms, HasLeaves, IsCongruent, AllNamesJoin}
+use Rattle.ae_decide.specs.Clauses.{HasTerms, HasLeaves, IsCongruent, AllNamesJoin}
 use Rattle.ae_system_checks.specs.Examples.{signature, T, a, b, u_entry, pair, rule}
 use Rattle.ae_system_checks.proofs.Facts.{T_fields, put_T, a_sort, b_sort, args_of, args_are, head_of, head_is}
 use Rattle.ae_system_checks.proofs.Symbols.{IsOfLeaves, IsSymbolTerm, terms_of, leaves_of, own_leaf, leaf_tells}

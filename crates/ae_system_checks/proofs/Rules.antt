@@ -11,7 +11,7 @@ use Rattle.ae_journal.specs.Systems.{IsRule}
 use Rattle.ae_journal.specs.declared.systems.System.{System}
 use Rattle.ae_journal.specs.declared.systems.RuleEntry.{RuleEntry}
 use Rattle.ae_system_checks.proofs.Entries.{of_one, of_two}
-use Rattle.ae_system_checks.specs.Clauses.{RulesFit, AreReduced, AllOverlapsJoin}
+use Rattle.ae_decide.specs.Clauses.{RulesFit, AreReduced, AllOverlapsJoin}
 use Rattle.ae_system_checks.specs.Examples.{pair, rule, signature}
 use Rattle.ae_core.specs.declared.problems.Signature.{Signature}
 

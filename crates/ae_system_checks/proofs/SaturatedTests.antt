@@ -44,7 +44,8 @@ use Rattle.ae_journal.specs.declared.systems.Saturated.{Saturated}
 use Rattle.ae_journal.proofs.Splits.{all_contained, contains_cases, contains_here, contains_later}
 use Rattle.ae_system_checks.specs.Tests.{IsQuantifierFree}
 use Rattle.ae_system_checks.specs.Whole.{IsWhole}
-use Rattle.ae_system_checks.proofs.Decide.{both, either, implied, denied, at_all, at_some, of_each, where_known, known_with}
+use Rattle.ae_decide.specs.Inner.Decisions.{both, denied, of_each}
+use Rattle.ae_system_checks.proofs.Decide.{either, implied, at_all, at_some, where_known, known_with}
 use Rattle.ae_system_checks.proofs.Overlaps.{decide_completed}
 use Rattle.ae_system_checks.proofs.Tests.{each_applied, has_value, is_named, sort_is, value_is}
 use Rattle.ae_system_checks.proofs.WholeValues.{decide_whole}

@@ -18,7 +18,7 @@ use Rattle.ae_journal.specs.Values.{Val, leaf, once, meaning}
 use Rattle.ae_journal.specs.Systems.{Has, IsLeaf, IsName, IsNamed, IsNormalValue, IsOver, beside, linear, own, record_fields, value_at}
 use Rattle.ae_journal.specs.declared.systems.System.{System}
 use Rattle.ae_evaluation.proofs.ExampleSystem.{leaf_at, normal_leaf}
-use Rattle.ae_system_checks.specs.Clauses.{HasTerms, HasLeaves, IsComputed, HasRecords}
+use Rattle.ae_decide.specs.Clauses.{HasTerms, HasLeaves, IsComputed, HasRecords}
 use Rattle.ae_system_checks.specs.Examples.{T}
 use Rattle.ae_system_checks.proofs.Facts.{not_numeric, no_record, sorted_is_no_predicate, same_head}
 

@@ -1,18 +1,11 @@
 -- A decision for each clause of a completed system.
 use Rattle.std.proofs.Math.Bool.{Bool-discrete}
-use Rattle.std.specs.Prelude.{ℕ, zero, suc, ℤ, pos, ◌<◌, ◌≤◌, Bool, true, false, ◌≡◌, ◌≢◌, ◌⊎◌, ◌<ℤ◌, List, [], ◌∷◌, length, slice_get, Option, Some, None}
-use Rattle.std.specs.Int.{◌∣◌}
+use Rattle.std.specs.Prelude.{ℕ, ℤ, ◌<◌, ◌≤◌, Bool, true, false, ◌≡◌, ◌≢◌, ◌⊎◌, List, [], ◌∷◌, length, slice_get, Option, Some, None}
 use Rattle.std.specs.List.{AllByRecursion}
-use Rattle.std.proofs.Common.{inl, inr}
-use Rattle.std.proofs.Math.Nat.{eq-one_of_dvd-one}
-use Rattle.std.proofs.lemmas.Nat.Gcd.{dvd-zero, dvd_trans}
-use lib.IntN.{ℤ_discrete, negsuc}
 use mathlib.Core.Path.{refl, sym, ap, subst, ◌∙◌}
 use native.Mathlib.Decide.{map_dec, dec_le, dec_lt, ℕ_discrete}
 use native.Mathlib.Omega.{arith}
-use borrow.Author.Differences.{ints}
 use Rattle.ae_base.proofs.Options.{never_some}
-use Rattle.ae_math.proofs.Divisors.{gcd_exists}
 use Rattle.ae_math.specs.Fractions.{ratio}
 use Rattle.ae_core.specs.Decided.{Head_discrete, Sort_discrete, Sorts_discrete, Term_discrete}
 use Rattle.ae_core.specs.Sorts.{sort_of, formula_ok, is_numeric}
@@ -27,60 +20,21 @@ use Rattle.ae_core.specs.declared.terms.Op.TheVariants as op
 use Rattle.ae_core.specs.declared.terms.Sort.{Sort, Int, Real}
 use Rattle.ae_core.specs.declared.terms.Term.{Term, Num, Apply}
 use Rattle.ae_rules.specs.Lines.{IsAc, IsNumeric}
-use Rattle.ae_num.specs.Forms.{IsNormal, IsRising, IsCommonDivisor, DividesAll, sizes}
-use Rattle.ae_num.specs.declared.forms.Lin.{Lin}
-use Rattle.ae_num.specs.declared.forms.Part.{Part}
-use Rattle.ae_multiset.specs.Multisets.{count, minus, IsPart, IsSame, IsLess}
+use Rattle.ae_num.specs.Forms.{IsNormal}
+use Rattle.ae_multiset.specs.Multisets.{count, minus, IsPart, IsLess}
 use Rattle.ae_multiset.proofs.Counts.{count-minus, count_same}
-use Rattle.ae_multiset.proofs.Comparing.{less_total, less_differs, less_then}
 use Rattle.ae_journal.specs.Values.{Val, Vals, Val_discrete, number, leaf, fields, none, more, constant_val, vals}
 use Rattle.ae_journal.specs.Systems.{AreOver, Has, IsLeaf, IsName, IsNamed, IsNormalValue, IsOver, IsPredicateName, IsRepresentative, IsRuleFit}
 use Rattle.ae_journal.specs.Systems.{Represents, ValueOf, ValuesOf, ac_sort, beside, field_terms, forms_in, linear, own, record_fields, value_at}
 use Rattle.ae_journal.specs.declared.systems.RuleEntry.{RuleEntry}
 use Rattle.ae_journal.specs.declared.systems.System.{System}
-use Rattle.ae_system_checks.specs.Clauses.{HasTerms, HasLeaves, IsComputed, HasRecords, IsCongruent, RulesFit, AreReduced}
-use Rattle.ae_system_checks.proofs.Decide.{both, three, six, either, implied, denied, at_all, at_some, of_each, where_known, known_with, option_discrete, where_applied, applied_with, where_numeral}
+use Rattle.ae_decide.specs.Clauses.{HasTerms, HasLeaves, IsComputed, HasRecords, IsCongruent, RulesFit, AreReduced}
+use Rattle.ae_decide.specs.Inner.Decisions.{both, denied, of_each, normal_decided, less_decided}
+use Rattle.ae_system_checks.proofs.Decide.{three, six, either, implied, at_all, at_some, where_known, known_with, option_discrete, where_applied, applied_with, where_numeral}
 
 pub is_so : (c : Bool) → Dec (c ≡ true)
 is_so true = yes refl
 is_so false = no (λ e. cc)
-
--- ---- numbers
-divides_more : (g k : ℕ) (ns : List ℕ) → k ∣ g → DividesAll g ns → DividesAll k ns
-divides_more g k [] h a = tt
-divides_more g k (n ∷ ns) h a = (dvd_trans k h a.0, divides_more g k ns h a.1)
-
-pub divisor_of : (ns : List ℕ) → (g : ℕ) × IsCommonDivisor ns g
-divisor_of [] = (0, (tt, λ d a. dvd-zero d))
-divisor_of (n ∷ ns) =
-    let r = divisor_of ns in
-    let g = gcd_exists n r.0 in
-    (g.0, ((g.1.0, divides_more r.0 g.0 ns (g.1.1) (r.1).0), λ d a. g.1.2 d a.0 ((r.1).1 d a.1)))
-
-is_lowest : (ns : List ℕ) → Dec (IsCommonDivisor ns 1)
-is_lowest ns = go (divisor_of ns)
-  where
-    go : (g : ℕ) × IsCommonDivisor ns g → Dec (IsCommonDivisor ns 1)
-    go (g, c) = map_dec (λ e. subst (IsCommonDivisor ns) e c) (λ d. eq-one_of_dvd-one (d.1 g c.0)) (ℕ_discrete g 1)
-
-is_positive : (z : ℤ) → Dec (pos 0 <ℤ z)
-is_positive (pos zero) = no (λ h. omega (arith, ints, h))
-is_positive (pos (suc n)) = yes (omega (arith, ints))
-is_positive (negsuc n) = no (λ h. omega (arith, ints, h))
-
-is_rising : (ps : List Part) → Dec (IsRising ps)
-is_rising [] = yes tt
-is_rising (p ∷ ps) = both (of_each (λ q. p.key < q.key) (λ q. dec_lt p.key q.key) ps) (is_rising ps)
-
-is_normal : (l : Lin) → Dec (IsNormal l)
-is_normal l =
-    map_dec (λ (a, (b, (c, (d, e)))). record { positive = a; rising = b; nonzero = c; lowest = d; within = e })
-    (λ n. (n.positive, (n.rising, (n.nonzero, (n.lowest, n.within)))))
-    (both (is_positive l.den)
-    (both (is_rising l.parts)
-    (both (of_each (λ p. p.factor ≢ pos 0) (λ p. denied (ℤ_discrete p.factor (pos 0))) l.parts)
-    (both (is_lowest (sizes l.den l.parts l.constant))
-    (of_each (λ n. n < 170141183460469231731687303715884105728) (λ n. dec_lt n 170141183460469231731687303715884105728) (sizes l.den l.parts l.constant))))))
 
 -- ---- multisets
 pub is_part : (a b : List ℕ) → Dec (IsPart a b)
@@ -89,14 +43,6 @@ is_part a b = go (minus a b) refl
     go : (m : List ℕ) → minus a b ≡ m → Dec (IsPart a b)
     go [] e = yes (record { each = λ x. omega (arith, count-minus x a b, ap (count x) e) })
     go (x ∷ xs) e = no (λ p. omega (arith, p.each x, count-minus x a b, ap (count x) e, count_same x xs))
-
-is_less : (a b : List ℕ) → Dec (IsLess a b)
-is_less a b = go (less_total a b)
-  where
-    go : IsLess a b ⊎ IsSame a b ⊎ IsLess b a → Dec (IsLess a b)
-    go (inl l) = yes l
-    go (inr (inl s)) = no (λ l. less_differs a b l s)
-    go (inr (inr g)) = no (λ l. less_differs a a (less_then l g) (record { each = λ x. refl }))
 
 pub symbol_discrete : Discrete AcSymbol
 symbol_discrete c d =
@@ -260,7 +206,7 @@ module _ (sig : Signature) (y : System) where
   decide_leaves =
       map_dec (λ (a, (b, c)). record { normal = a; over = λ s v n h. b n h.term h.is s h.sort v h.value; predicate_value = c })
       (λ h. (h.normal, ((λ n t i s e v w. h.over s v n (record { term = t; is = i; sort = e; value = w })), h.predicate_value)))
-      (both (at_all y.values (λ n v. IsNormalValue v) (λ n v. of_each IsNormal is_normal (forms_in v)))
+      (both (at_all y.values (λ n v. IsNormalValue v) (λ n v. of_each IsNormal normal_decided (forms_in v)))
       (both (at_all y.names (λ n t. (s : Sort) → sort_of sig t ≡ Some s → (v : Val) → value_at y n ≡ Some v → IsOver sig y s v)
       (λ n t. where_known (sort_of sig t) (λ s. (v : Val) → value_at y n ≡ Some v → IsOver sig y s v)
       (λ s. where_known (value_at y n) (IsOver sig y s) (is_over s))))
@@ -426,7 +372,7 @@ module _ (sig : Signature) (y : System) where
       × (0 < length e.right) × (2 ≤ length e.left) × IsLess e.right e.left)
       (λ s. six (is_ac e.symbol.head) (of_each (IsRepresentative sig y s) (is_representative s) e.left)
       (of_each (IsRepresentative sig y s) (is_representative s) e.right) (dec_lt 0 (length e.right)) (dec_le 2 (length e.left))
-      (is_less e.right e.left)))
+      (less_decided e.right e.left)))
 
   pub decide_rules : Dec (RulesFit sig y)
   decide_rules = at_all y.rules (λ k e. IsRuleFit sig y e) (λ k e. rule_fits e)

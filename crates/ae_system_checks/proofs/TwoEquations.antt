@@ -37,11 +37,11 @@ use Rattle.ae_evaluation.proofs.Decisions.{yes_sorts}
 use Rattle.ae_evaluation.proofs.ExampleSystem.{leaf_at, no_entry}
 use Rattle.ae_evaluation.proofs.Literals.{outside-Eq}
 use Rattle.ae_evaluation.proofs.Plainness.{sort-Apply}
-use Rattle.ae_system_checks.specs.Clauses.{Part, Clause as ClauseOf, IsCongruent, AllNamesJoin}
-use Rattle.ae_system_checks.specs.Clauses.Part.{terms, leaves, computing, records, congruence, rules, reduction, overlaps, joins}
+use Rattle.ae_decide.specs.Clauses.{Part, Clause as ClauseOf, IsCongruent, AllNamesJoin}
+use Rattle.ae_decide.specs.Clauses.Part.{terms, leaves, computing, records, congruence, rules, reduction, overlaps, joins}
 use Rattle.ae_system_checks.specs.Examples.{T}
 use Rattle.ae_system_checks.specs.TwoEquations.{signature, constant, u, first, second, last, rest, goal, problem, names, system, literals, state}
-use Rattle.ae_system_checks.proofs.Completed.{completed_of}
+use Rattle.ae_decide.proofs.NineClauses.{completed_of}
 use Rattle.ae_system_checks.proofs.Entries.{places}
 use Rattle.ae_system_checks.proofs.Facts.{put_T, constant_result, same_head, args_of, args_are, head_of, head_is}
 use Rattle.ae_system_checks.proofs.Rules.{none_fit, none_reduced, none_overlap}

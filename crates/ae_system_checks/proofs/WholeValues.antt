@@ -15,7 +15,7 @@ use Rattle.ae_math.proofs.Divisors.{divided}
 use Rattle.ae_num.specs.Forms.{DividesAll, IsCommonDivisor}
 use Rattle.ae_num.specs.declared.forms.Lin.{Lin}
 use Rattle.ae_num.specs.declared.forms.Part.{Part}
-use Rattle.ae_system_checks.proofs.Tests.{divisor_of}
+use Rattle.ae_decide.specs.Inner.Decisions.{divisor_of}
 use Rattle.ae_system_checks.specs.Whole.{IsMultipleOf, IsWhole}
 
 abbrev pub factors : List Part → List ℕ

@@ -1,11 +1,9 @@
 -- The laws, as statements.
-use Rattle.std.specs.Prelude.{ℕ, ◌<◌, ◌↔◌, []}
-use Rattle.ae_core.specs.declared.problems.Signature.{Signature}
+use Rattle.std.specs.Prelude.{ℕ, ◌<◌, []}
 use Rattle.ae_core.specs.declared.terms.Term.{Term}
 use Rattle.ae_rules.specs.Lines.{PlainConseq, Conseq}
 use Rattle.ae_journal.specs.Values.{leaf}
-use Rattle.ae_journal.specs.Systems.{IsCompleted, IsEquation, IsLeaf, Represents}
-use Rattle.ae_journal.specs.declared.systems.System.{System}
+use Rattle.ae_journal.specs.Systems.{IsEquation, IsLeaf, Represents}
 use Rattle.ae_journal.specs.Answers.{IsAnswer}
 use Rattle.ae_journal.specs.declared.answers.Answer.TheVariants.{Unknown}
 use Rattle.ae_evaluation.specs.Consequences.{Stated}
@@ -13,12 +11,7 @@ use Rattle.ae_evaluation.specs.Examples.{problem, state, system}
 use Rattle.ae_system_checks.specs.OneEquation as one_equation
 use Rattle.ae_system_checks.specs.TwoEquations as two_equations
 use Rattle.ae_system_checks.specs.Quantified as quantified
-use Rattle.ae_system_checks.specs.Clauses.{Part, Clause}
 use Rattle.ae_system_checks.specs.Examples.{signature, T, second_leaf, equated, equation}
-
--- a system is completed exactly where each of the nine clauses holds
-abbrev pub NineClauses : Type 0
-NineClauses = (sig : Signature) (y : System) → IsCompleted sig y ↔ ((part : Part) → Clause sig y part)
 
 -- a leaf that a smaller name represents
 abbrev pub LeafOfOther : Type 0

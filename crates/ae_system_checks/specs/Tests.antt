@@ -9,7 +9,7 @@ use Rattle.ae_journal.specs.States.{IsSaturated, Pattern, of_axiom, pattern_of, 
 use Rattle.ae_journal.specs.declared.systems.Saturated.{Saturated}
 use Rattle.ae_core.specs.declared.problems.Signature.{Signature}
 use Rattle.ae_journal.specs.declared.systems.System.{System}
-use Rattle.ae_system_checks.specs.Clauses.{Part, Clause, RulesFit, AllOverlapsJoin, AllNamesJoin}
+use Rattle.ae_decide.specs.Clauses.{Part, Clause, RulesFit, AllOverlapsJoin, AllNamesJoin}
 
 -- there is a test that says `true` exactly of the systems that have the property
 abbrev pub HasTest : (Signature → System → Type 0) → Type 0

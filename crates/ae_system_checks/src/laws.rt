@@ -2,18 +2,13 @@
 ghost use Rattle.ae_core.specs.Signatures.{IsLawful};
 ghost use Rattle.ae_evaluation.specs.Consequences.{MakesTrue, NamesArePlain};
 ghost use Rattle.ae_journal.specs.Systems.{IsCompleted};
-ghost use Rattle.ae_system_checks.specs.Clauses.{FailsAlone};
-ghost use Rattle.ae_system_checks.specs.Clauses.Part.{terms, leaves, computing, records, congruence, rules, reduction, overlaps, joins};
+ghost use Rattle.ae_decide.specs.Clauses.{FailsAlone};
+ghost use Rattle.ae_decide.specs.Clauses.Part.{terms, leaves, computing, records, congruence, rules, reduction, overlaps, joins};
 ghost use Rattle.ae_system_checks.specs.Examples.{signature, overlapping, second_leaf, equated, equation};
 ghost use Rattle.ae_system_checks.specs.Examples.{named_twice, crossed, opaque_numeral, other_field, incongruent, single_left, reducible, apart, without_rule};
 ghost use Rattle.ae_system_checks.specs.Tests.{HasTest, ClauseHasTest, SaturatedHasTest, OverlapsHaveTest, JoinsHaveTest};
-ghost use Rattle.ae_system_checks.specs.Laws.{NineClauses, LeafOfOther, EquationsFollowPlainly, EquationsFollow, StateAnswers, TwoEquationsAnswer, NoLiteralsAreRefused};
+ghost use Rattle.ae_system_checks.specs.Laws.{LeafOfOther, EquationsFollowPlainly, EquationsFollow, StateAnswers, TwoEquationsAnswer, NoLiteralsAreRefused};
 ghost use Rattle.ae_system_checks.specs.Laws.{OneEquationAnswers, QuantifiedAnswers, TriggerMatches, NoInstanceIsRefused};
-
-/// A system is completed exactly where each of the nine clauses holds of it.
-pub fn completed_by_nine_clauses()
-    ensures { NineClauses }
-{}
 
 /// For each clause there is a system that it alone refuses.
 pub fn each_clause_refuses()

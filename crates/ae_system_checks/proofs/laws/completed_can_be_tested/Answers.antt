@@ -4,7 +4,7 @@ use Rattle.ae_base.specs.Decided.{decided}
 use Rattle.ae_base.proofs.Decided.{decided_of, decided_yes}
 use Rattle.ae_core.specs.declared.problems.Signature.{Signature}
 use Rattle.ae_journal.specs.declared.systems.System.{System}
-use Rattle.ae_system_checks.specs.Clauses.{RulesFit, AllOverlapsJoin}
+use Rattle.ae_decide.specs.Clauses.{RulesFit, AllOverlapsJoin}
 use Rattle.ae_system_checks.specs.Tests.{HasTest, HasTestAmong}
 use Rattle.ae_system_checks.proofs.Overlaps.{decide_completed, decide_overlaps, decide_joins}
 use Rattle.ae_system_checks.proofs.Tests.{decide_terms, decide_leaves, decide_computed, decide_records, decide_congruence, decide_rules, decide_reduction}

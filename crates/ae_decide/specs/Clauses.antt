@@ -1,5 +1,5 @@
 -- The nine clauses of a completed system (ae_journal, Systems), each by itself.
-use Rattle.std.specs.Prelude.{ℕ, ℤ, Bool, List, [], ◌∷◌, ◌≡◌, ◌≢◌, ◌⊎◌, length, slice_get, Some}
+use Rattle.std.specs.Prelude.{ℕ, ℤ, Bool, List, [], ◌∷◌, ◌≡◌, ◌≢◌, ◌⊎◌, ◌↔◌, length, slice_get, Some}
 use Rattle.std.specs.List.{AllByRecursion}
 use Rattle.ae_math.specs.Fractions.{ratio}
 use Rattle.ae_core.specs.Sorts.{sort_of}
@@ -12,7 +12,7 @@ use Rattle.ae_multiset.specs.Multisets.{IsPart}
 use Rattle.ae_multiset.specs.Rewriting.{ReducesTo, OverlapsJoin}
 use Rattle.ae_num.specs.declared.forms.Value.{Value}
 use Rattle.ae_journal.specs.Values.{Val, leaf, fields, constant_val, vals}
-use Rattle.ae_journal.specs.Systems.{IsName, IsNamed, IsNormalValue, IsOver, IsPredicateName, IsRule, IsRuleFit, IsJoin, Has, StandsFor, ValueOf, ValuesOf, value_at, record_fields, field_terms, linear, beside}
+use Rattle.ae_journal.specs.Systems.{IsName, IsNamed, IsNormalValue, IsOver, IsPredicateName, IsRule, IsRuleFit, IsJoin, IsCompleted, Has, StandsFor, ValueOf, ValuesOf, value_at, record_fields, field_terms, linear, beside}
 use Rattle.ae_journal.specs.declared.systems.RuleEntry.{RuleEntry}
 use Rattle.ae_journal.specs.declared.systems.System.{System}
 
@@ -102,3 +102,7 @@ module _ (sig : Signature) (y : System) where
   -- this clause doesn't hold, and each other one does
   abbrev pub FailsAlone : Part → Type 0
   FailsAlone part = (¬ Clause part) × ((other : Part) → other ≢ part → Clause other)
+
+-- a system is completed exactly where each of the nine clauses holds
+abbrev pub NineClauses : Type 0
+NineClauses = (sig : Signature) (y : System) → IsCompleted sig y ↔ ((part : Part) → Clause sig y part)

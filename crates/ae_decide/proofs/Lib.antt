@@ -1,0 +1,11 @@
+pub mod NameTests
+pub mod ReductionTests
+pub mod NormalValues
+pub mod ValueTests
+pub mod NineClauses
+pub mod CongruenceTests
+pub mod RecordTests
+pub mod LeafTests
+pub mod RuleTests
+pub mod NormalForms
+pub mod OverlapTests
