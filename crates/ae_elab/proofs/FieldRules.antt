@@ -1,9 +1,8 @@
 -- The index of the fields of record types.
-use Rattle.std.proofs.Common.{arith, ◌≡◌, ◌∙◌, ℕ, suc, ◌+◌, Bool, true, false, Option, Some, None, List, [], ◌∷◌, ◌++◌, map, length, slice_get, refl, sym, ap, append_assoc, length-append}
+use Rattle.std.proofs.Common.{arith, ◌≡◌, ◌∙◌, ℕ, suc, ◌+◌, Bool, true, false, Option, Some, None, List, [], ◌∷◌, ◌++◌, map, length, slice_get, refl, sym, ap, append_assoc}
 use Rattle.std.specs.Option.{option_map}
 use Rattle.std.specs.Str.{bytes_eq}
 use Rattle.std.proofs.lemmas.List.{append-nil, map_push}
-use Rattle.ae_base.proofs.ListFacts.{cons_head, cons_tail}
 use Rattle.ae_core.specs.declared.problems.FieldEntry.{FieldEntry}
 use Rattle.ae_core.specs.declared.problems.TypeEntry.{TypeEntry}
 use Rattle.ae_core.specs.Signatures.{fields_of}
@@ -145,12 +144,3 @@ index_field es e d fs f names places h k i = record {
 
     last : 0 + length fs ≡ length fs
     last = omega arith
-
--- lists with the same last element
-pub same_ends : {X : Type 0} (xs ys : List X) (x y : X) → xs ++ x ∷ [] ≡ ys ++ y ∷ [] → (xs ≡ ys) × (x ≡ y)
-same_ends [] [] x y e = (refl, cons_head x y [] [] e)
-same_ends [] (z ∷ ys) x y e = absurd (omega (arith, ap length e, length-append ys (y ∷ [])))
-same_ends (z ∷ xs) [] x y e = absurd (omega (arith, ap length e, length-append xs (x ∷ [])))
-same_ends (z ∷ xs) (w ∷ ys) x y e =
-    let h = same_ends xs ys x y (cons_tail z w (xs ++ x ∷ []) (ys ++ y ∷ []) e) in
-    (ap (λ v. v ∷ xs) (cons_head z w (xs ++ x ∷ []) (ys ++ y ∷ []) e) ∙ ap (λ vs. w ∷ vs) h.0, h.1)

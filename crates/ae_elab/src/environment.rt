@@ -5,7 +5,7 @@ ghost use Rattle.ae_elab.specs.Inner.Locals.{DropsLast};
 ghost use Rattle.ae_elab.specs.Environments.{IsMeaning, meaning_in, entries, locals, locals_inside, Finds, FindsAmong};
 ghost use Rattle.ae_elab.specs.Nodes.{Entry};
 ghost use Rattle.std.specs.List.{AllByRecursion};
-ghost use Rattle.ae_elab.specs.Nodes.{entry_of};
+ghost use Rattle.ae_elab.specs.Nodes.{entries_of, entry_of};
 ghost use Rattle.ae_elab.specs.Scope as scope;
 ghost use Rattle.ae_elab.specs.Scope.{named};
 
@@ -138,6 +138,13 @@ impl<'a> Environment<'a> {
             nodes: List::new(alloc),
             locals: List::new(alloc),
         }
+    }
+
+    /// The nodes.
+    pub fn nodes(&self) -> &[Node]
+        ensures { entries_of result.now ≡ entries self.now }
+    {
+        self.nodes.as_slice()
     }
 
     /// A node behind the others, and its place.

@@ -18,7 +18,7 @@ use ae_syntax::spans::Span;
 use std::alloc::{AllocError, Global};
 
 // The fault of a name that stands there for the second time.
-pub(crate) fn twice(alloc: Global, name: &str, place: Span) -> Result<TypeFault, AllocError>
+pub fn twice(alloc: Global, name: &str, place: Span) -> Result<TypeFault, AllocError>
     ensures { IfOk result (λ e. e ≡ fault.Twice name.now place.from place.to) }
 {
     let name = word_of(alloc, name)?;

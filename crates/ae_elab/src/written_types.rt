@@ -22,8 +22,8 @@ use ae_syntax::spans::Span;
 use ae_syntax::types::{TypeKind, WrittenType};
 use std::alloc::{AllocError, Global};
 
-// The fault of a name that isn't declared.
-fn unknown_name(alloc: Global, name: &str, place: Span) -> Result<TypeFault, AllocError>
+/// The fault of a name that isn't declared.
+pub fn unknown_name(alloc: Global, name: &str, place: Span) -> Result<TypeFault, AllocError>
     ensures { IfOk result (λ e. e ≡ fault.UnknownName name.now place.from place.to) }
 {
     let name = word_of(alloc, name)?;

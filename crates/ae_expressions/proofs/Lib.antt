@@ -1,0 +1,10 @@
+pub mod AnswerLaws
+pub mod ExprParts
+pub mod PartForms
+pub mod SymbolLaws
+pub mod ClassLaws
+pub mod FieldSteps
+pub mod NameSteps
+pub mod BlockLaws
+pub mod MarkLaws
+pub mod MergeLaws
