@@ -1,0 +1,4 @@
+pub mod Forms
+pub mod Ranges
+pub mod SortReading
+pub mod TermReading
