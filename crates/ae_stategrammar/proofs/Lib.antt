@@ -1,0 +1,4 @@
+pub mod MultisetLaws
+pub mod StateFits
+pub mod TextLaws
+pub mod ValueFits

@@ -1,0 +1,7 @@
+use Rattle.std.proofs.Common.{◌≡◌, ◌++◌, drop}
+use Rattle.std.specs.List.{flat_map}
+use Rattle.ae_valuetext.specs.Texts.{part_text}
+use Rattle.ae_statetext.proofs.values.put_form_parts.Given as goal
+
+abbrev pub invariant-loop-part : goal.invariant-loop-part
+invariant-loop-part l = l.out.items ++ flat_map part_text (drop l.part-index l.parts) ≡ l.fn.out.items ++ flat_map part_text l.parts
