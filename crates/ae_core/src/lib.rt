@@ -12,6 +12,4 @@ pub mod proofs;
 pub mod putting;
 pub mod sorts;
 pub mod terms;
-#[cfg(test)]
-mod tests;
 pub mod words;

@@ -16,6 +16,3 @@ pub use memory::{MemSink, MemSource};
 pub use streams::{StdSink, StdSource};
 pub use traits::{Failed, Sink, Source};
 pub use whole::{ReadEnd, WriteEnd, read_all, write_all};
-
-#[cfg(test)]
-mod tests;

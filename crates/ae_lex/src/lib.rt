@@ -29,6 +29,3 @@ pub use kinds::{LexFault, Reserved, Sign, Token, TokenKind};
 pub use laws::{lowest_terms, one_answer};
 pub use lexer::{first_fault, tokens};
 pub use token_list::TokenList;
-
-#[cfg(test)]
-mod tests;

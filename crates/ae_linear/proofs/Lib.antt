@@ -1,6 +1,6 @@
 pub mod Largest
 pub mod Solutions
-mod Links
+pub mod Links
 mod RowLaws
 mod Versions
 mod Answered

@@ -4,8 +4,6 @@
 mod occurrences;
 mod rows;
 mod solving;
-#[cfg(test)]
-mod tests;
 
 pub use rows::{Row, Rows, Shared};
 pub use solving::{Solved, solution, solve};

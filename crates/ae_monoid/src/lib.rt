@@ -12,8 +12,6 @@ mod reducing;
 mod releasing;
 mod rules;
 mod symbols;
-#[cfg(test)]
-mod tests;
 mod versions;
 
 pub use finding::part_of;

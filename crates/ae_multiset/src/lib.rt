@@ -12,8 +12,6 @@ mod ordering;
 mod overlap;
 mod part;
 mod spelling;
-#[cfg(test)]
-mod tests;
 mod union;
 
 pub use addition::sum;

@@ -8,5 +8,3 @@ pub mod numbers;
 mod pairs;
 pub mod reduction;
 mod sums;
-#[cfg(test)]
-mod tests;

@@ -7,8 +7,6 @@
 
 mod map;
 mod nodes;
-#[cfg(test)]
-mod tests;
 mod walk;
 
 pub use map::{Pmap, Version};

@@ -20,6 +20,3 @@ pub use laws::{name_texts, number_texts};
 pub use names::{Form, may_stand, read_name};
 pub use numbers::{is_wide, read_size};
 pub use words::read_fixed;
-
-#[cfg(test)]
-mod tests;

@@ -57,6 +57,3 @@ pub use faults::SyntaxFault;
 pub use file_laws::{faults_within, one_answer};
 pub use laws::one_tree;
 pub use parser::parse;
-
-#[cfg(test)]
-mod tests;

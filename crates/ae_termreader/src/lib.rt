@@ -13,6 +13,3 @@ pub use numerals::read_numeral;
 pub use sorts::{read_sort, read_sort_row, read_sorts};
 pub use tables::Tables;
 pub use terms::{read_arguments, read_term};
-
-#[cfg(test)]
-mod tests;

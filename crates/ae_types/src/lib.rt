@@ -7,8 +7,6 @@ mod enter;
 mod graph;
 mod joins;
 mod pairs;
-#[cfg(test)]
-mod tests;
 
 pub use bindings::{Bindings, unify};
 pub use pairs::{Clash, SortPair};

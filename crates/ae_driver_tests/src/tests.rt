@@ -1,0 +1,199 @@
+//! Runs over a source and a sink in memory.
+
+ghost use Rattle.std.specs.Prelude.{◌≤◌};
+
+use ae_driver::{INPUT_LIMIT, Status, run};
+use ae_io::{MemSink, MemSource};
+use std::alloc::{AllocError, Global};
+use std::test::Fail;
+
+// How many bytes a call gives or takes at most, and the number of the call that fails.
+#[derive(Clone, Copy)]
+struct Calls {
+    piece: usize,
+    failing: Option<u64>,
+}
+
+const WHOLE: Calls = Calls {
+    piece: 4096,
+    failing: None,
+};
+
+fn failing_calls(alloc: Global, calls: Calls) -> Result<Vec<u64>, AllocError> {
+    let mut failing = Vec::new(alloc);
+    if let Some(call) = calls.failing {
+        failing.push(call)?;
+    }
+    Ok(failing)
+}
+
+// How the run over these calls ends, and what it writes into so much room.
+fn answer(
+    alloc: Global,
+    text: &[u8],
+    room: usize,
+    reads: Calls,
+    writes: Calls,
+) -> Result<(Status, Vec<u8>), AllocError>
+    requires reads { 1 ≤ reads.piece }
+    requires writes { 1 ≤ writes.piece }
+{
+    let bytes = Vec::from_slice(alloc, text)?;
+    let mut source = MemSource::new(bytes, reads.piece, failing_calls(alloc, reads)?);
+    let room = Vec::with_capacity(alloc, room)?;
+    let mut sink = MemSink::new(room, writes.piece, failing_calls(alloc, writes)?);
+    let status = run(alloc, &[], &mut source, &mut sink);
+    Ok((status, Vec::from_slice(alloc, sink.kept())?))
+}
+
+const TRANSITIVITY: &[u8] = b"type t\nlogic a, b, c, d, e : t\ngoal g : a = b -> b = c -> a = c\n";
+
+const TRANSITIVITY_PART: &[u8] =
+    b"goal g Valid\nproof 1\ngoal\ndef 4 (@or (@not (= a b)) (@or (@not (= b c)) (= a c)))\ndef 5 (@or (@not (= a b)) (@or (@not (= b c)) (= a c)))\ndef 4 (@or (@not (= b c)) (= a c))\ndef 5 (@or (@not (= b c)) (= a c))\nblock\nh +(= a b)\nh +(= b c)\nh -(= a c)\neq a b hyp 0\neq b c hyp 1\neq a c trans 0 1\nneq 2 2\nrup [] 0 1 2 3 5 4\nend\n";
+
+const ITSELF_PART: &[u8] =
+    b"goal g Valid\nproof 1\ngoal\nblock\nh -(= a a)\neq a a refl\nneq 0 0\nrup [] 1 0\nend\n";
+
+const UNKNOWN_PART: &[u8] =
+    b"goal g I don't know\nstate 1\nlit -(@or (@not (= a b)) (= a c))\nlit +(= a b)\nlit -(= a c)\nname 0 a\nname 1 b\nname 2 c\nvalue 0 0\nvalue 1 0\nvalue 2 2\nend\n";
+
+const UNKNOWN_PARTS: &[u8] =
+    b"goal g1 I don't know\nstate 1\nlit -(= a b)\nname 0 a\nname 1 b\nvalue 0 0\nvalue 1 1\nend\ngoal g2 I don't know\nstate 1\nlit -(= a b)\nname 0 a\nname 1 b\nvalue 0 0\nvalue 1 1\nend\n";
+
+// Texts that are answered, and what is written.
+const ANSWERED: [(&[u8], &[u8]); 6] = [
+    (TRANSITIVITY, TRANSITIVITY_PART),
+    (b"type t\nlogic a : t\ngoal g : a = a", ITSELF_PART),
+    (
+        b"type t (* a (* type *) *) logic(**)a : t goal g : a =(* = *)a",
+        ITSELF_PART,
+    ),
+    (
+        b"type t\nlogic a, b, c : t\ngoal g : a = b -> a = c\n",
+        UNKNOWN_PART,
+    ),
+    (
+        b"type t\nlogic a, b : t\ngoal g1 : a = b\ngoal g2 : a = b\n",
+        UNKNOWN_PARTS,
+    ),
+    (b"type t\nlogic a, b : t\n", b""),
+];
+
+// Texts that are refused, and the line.
+const REFUSED: [(&[u8], &[u8]); 8] = [
+    (b"goal g : a =", b"refused 1:13 unexpected\n"),
+    (b"(* a (* b *)", b"refused 1:1 open comment\n"),
+    (
+        b"goal g : 170141183460469231731687303715884105728 = 0",
+        b"refused 1:10 wide literal\n",
+    ),
+    (b"theory T", b"refused 1:1 outside profile\n"),
+    (b"logic c : int $", b"refused 1:15 bad byte\n"),
+    (b"type t\nlogic : t", b"refused 2:7 unexpected\n"),
+    (b"type t\nlogic a : t\ngoal g : (a = a)", b"refused form\n"),
+    (b"type t\nlogic a : t\ngoal g : a = b", b"refused form\n"),
+];
+
+// The first of these texts that isn't answered so.
+fn first_other(
+    alloc: Global,
+    cases: &[(&[u8], &[u8])],
+    wanted: Status,
+) -> Result<Option<usize>, AllocError> {
+    for (i, case) in cases.iter().enumerate() {
+        let (status, written) = answer(alloc, case.0, 1000, WHOLE, WHOLE)?;
+        if status != wanted || written.as_slice() != case.1 {
+            return Ok(Some(i));
+        }
+    }
+    Ok(None)
+}
+
+#[test]
+fn texts_and_their_answers(rt: HostRuntime) -> Result<(), Fail> {
+    assert_eq!(rt;
+        first_other(rt.alloc(), ANSWERED.as_slice(), Status::Done)?,
+        None
+    );
+    assert_eq!(rt;
+        first_other(rt.alloc(), REFUSED.as_slice(), Status::Refused)?,
+        None
+    );
+    Ok(())
+}
+
+// How a text of blanks alone ends that is one byte too long.
+fn too_long(alloc: Global) -> Result<(Status, Vec<u8>), AllocError> {
+    let long = vec![in alloc; b' '; INPUT_LIMIT + 1]?;
+    answer(alloc, long.as_slice(), 1000, WHOLE, WHOLE)
+}
+
+// The longest chain there is: 1,001 equations.
+fn longest_chain(alloc: Global) -> Result<(Status, Vec<u8>), AllocError> {
+    let mut text = Vec::new(alloc);
+    text.extend_from_slice(b"type t logic a, b : t goal g : ")?;
+    for _ in 0..1000 {
+        text.extend_from_slice(b"a = b -> ")?;
+    }
+    text.extend_from_slice(b"b = a")?;
+    answer(alloc, text.as_slice(), 1 << 26, WHOLE, WHOLE)
+}
+
+#[test]
+fn limits(rt: HostRuntime) -> Result<(), Fail> {
+    let (status, line) = too_long(rt.alloc())?;
+    assert!(rt;
+        status == Status::Refused && line.as_slice() == b"refused input too long\n".as_slice()
+    );
+    let (status, part) = longest_chain(rt.alloc())?;
+    assert!(rt; status == Status::Done && part.starts_with(b"goal g Valid\nproof 1\ngoal\n"));
+    Ok(())
+}
+
+// How the run ends over pieces of this size where this read or this write fails, and how many bytes of the whole part it
+// writes; none where it writes anything else.
+fn cut(
+    alloc: Global,
+    piece: usize,
+    read: Option<u64>,
+    write: Option<u64>,
+) -> Result<(Status, Option<usize>), AllocError>
+    requires { 1 ≤ piece }
+{
+    let reads = Calls {
+        piece,
+        failing: read,
+    };
+    let writes = Calls {
+        piece,
+        failing: write,
+    };
+    let (status, part) = answer(alloc, TRANSITIVITY, 1000, reads, writes)?;
+    let count = part.len();
+    Ok((
+        status,
+        TRANSITIVITY_PART
+            .starts_with(part.as_slice())
+            .then_some(count),
+    ))
+}
+
+#[test]
+fn pieces_and_faults(rt: HostRuntime) -> Result<(), Fail> {
+    let alloc = rt.alloc();
+    let whole = (Status::Done, Some(TRANSITIVITY_PART.len()));
+    assert_eq!(rt; cut(alloc, 7, None, None)?, whole);
+    assert_eq!(rt;
+        cut(alloc, 20, Some(2), None)?,
+        (Status::ReadFault, Some(0))
+    );
+    assert_eq!(rt;
+        cut(alloc, 64, None, Some(0))?,
+        (Status::WriteFault, Some(0))
+    );
+    assert_eq!(rt;
+        cut(alloc, 64, None, Some(3))?,
+        (Status::WriteFault, Some(192))
+    );
+    Ok(())
+}

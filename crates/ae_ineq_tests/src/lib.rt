@@ -1,0 +1,5 @@
+//! Tests of linear inequalities.
+#![tactic(auto)]
+
+#[cfg(test)]
+mod tests;

@@ -1,0 +1,5 @@
+//! Tests of the lexis by example.
+#![tactic(auto)]
+
+#[cfg(test)]
+mod tests;

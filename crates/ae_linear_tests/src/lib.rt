@@ -1,0 +1,5 @@
+//! Tests of rows of linear equations.
+#![tactic(auto)]
+
+#[cfg(test)]
+mod tests;

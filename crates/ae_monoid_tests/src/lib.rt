@@ -1,0 +1,5 @@
+//! Tests of rules over multisets.
+#![tactic(auto)]
+
+#[cfg(test)]
+mod tests;

@@ -1,0 +1,5 @@
+//! Tests of multisets: an example of rules, joined.
+#![tactic(auto)]
+
+#[cfg(test)]
+mod tests;

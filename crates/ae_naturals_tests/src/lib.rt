@@ -1,0 +1,5 @@
+//! Tests of numbers of any size.
+#![tactic(auto)]
+
+#[cfg(test)]
+mod tests;

@@ -1,0 +1,5 @@
+//! Tests of persistent maps.
+#![tactic(auto)]
+
+#[cfg(test)]
+mod tests;

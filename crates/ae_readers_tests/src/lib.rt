@@ -1,0 +1,5 @@
+//! Tests of what reads numbers, words and names.
+#![tactic(auto)]
+
+#[cfg(test)]
+mod tests;

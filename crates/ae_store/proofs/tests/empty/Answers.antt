@@ -1,5 +1,0 @@
-use Rattle.ae_store.proofs.EmptySignature.{empty_lawful}
-use Rattle.ae_store.proofs.tests.empty.Goals as goal
-
-pub returns : goal.returns
-returns c = empty_lawful _ c.new.ensures c.new-2.ensures

@@ -1,0 +1,5 @@
+//! Tests of shared terms.
+#![tactic(auto)]
+
+#[cfg(test)]
+mod tests;

@@ -1,0 +1,5 @@
+//! Tests of the grammar by example.
+#![tactic(auto)]
+
+#[cfg(test)]
+mod tests;

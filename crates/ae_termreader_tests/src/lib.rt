@@ -1,0 +1,5 @@
+//! Tests of what reads terms.
+#![tactic(auto)]
+
+#[cfg(test)]
+mod tests;

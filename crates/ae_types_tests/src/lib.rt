@@ -1,0 +1,5 @@
+//! Tests of unification of sorts.
+#![tactic(auto)]
+
+#[cfg(test)]
+mod tests;
