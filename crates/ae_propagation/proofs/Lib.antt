@@ -7,3 +7,6 @@ pub mod Numbering
 pub mod Entering
 pub mod Watching
 pub mod Bounding
+pub mod Coding
+pub mod Valuing
+pub mod Fitting

@@ -1,9 +1,9 @@
 -- The numbers of formulas, and what stands at their places.
-use Rattle.std.proofs.Common.{◌≡◌, ◌≢◌, ℕ, ◌<◌, Bool, true, false, cond, List, [], ◌∷◌, ◌++◌, length, get_or, set, refl, sym, ◌∙◌, ap, subst, arith, ◌⊎◌, inl, inr, Option, Some, None, length-set}
+use Rattle.std.proofs.Common.{◌≡◌, ◌≢◌, ℕ, ◌<◌, ◌≤◌, Bool, true, false, cond, List, [], ◌∷◌, ◌++◌, length, get_or, set, refl, sym, ◌∙◌, ap, subst, arith, ◌⊎◌, inl, inr, Option, Some, None, length-set}
 use Rattle.std.specs.Prelude.{not}
 use Rattle.std.specs.Ordering.{is_eq}
 use Rattle.std.proofs.lemmas.Bool.{cases_eq}
-use Rattle.std.proofs.lemmas.Option.{same_Some}
+use Rattle.std.proofs.lemmas.Option.{same_Some, none-some}
 use Rattle.std.proofs.lemmas.List.{length_push, get_or_push, get_or_append_left, get_or-set_same, get_or-set_other}
 use Rattle.ae_base.proofs.Orders.{not_equal}
 use Rattle.ae_core.specs.Decided.{Formula_discrete}
@@ -12,7 +12,10 @@ use Rattle.ae_core.proofs.OrderLaws.{formula_exact}
 use Rattle.ae_core.specs.declared.formulas.Formula.{Formula}
 use Rattle.ae_core.specs.declared.formulas.Lit.{Lit}
 use Rattle.ae_propagation.specs.declared.occurrences.Occurrences.{Occurrences}
-use Rattle.ae_propagation.specs.Inner.Finding.{side, none_listed, occurrences_at, listed, IsTable}
+use Rattle.ae_propagation.specs.declared.codes.Code.{Code}
+use Rattle.ae_propagation.specs.Inner.Coding.{IsCode}
+use Rattle.ae_propagation.specs.Inner.Finding.{side, none_listed, occurrences_at, listed, IsTable, Adds, IsWidened}
+use Rattle.ae_propagation.proofs.Members.{lit_cases}
 
 -- ---- one formula more has a number
 module _ (old new : Formula → Option ℕ) (k : Formula) (n : ℕ) (u : (f : Formula) → new f ≡ cond (is_eq (formula_order k f)) (Some n) (old f)) where
@@ -105,3 +108,67 @@ set_others numbers table l m n o h e s d = by_number (numbers m.formula) refl
       | inr far ↦
           listed_at numbers (set table n o) m k q ∙ (ap (side m.positive) (get_or-set_other table n k o none_listed far) ∙ sym (listed_at numbers table m k q))
     ]
+
+-- ---- numbers that are given
+pub adds_none : (n : ℕ) (f : Formula → Option ℕ) → Adds n f f
+adds_none n f = record { stay = λ g k e. e; beyond = λ g k e. inl e }
+
+adds_trans : (m n : ℕ) (f g h : Formula → Option ℕ) → m ≤ n → Adds m f g → Adds n g h → Adds m f h
+adds_trans m n f g h l a b = record {
+  stay = λ x k e. b.stay x k (a.stay x k e);
+  beyond = λ x k e. elim (b.beyond x k e) as (λ _. (f x ≡ Some k) ⊎ (m ≤ k)) [
+    | inl q ↦ a.beyond x k q
+    | inr q ↦ inr (omega (arith, l, q))
+  ];
+}
+
+pub adds_one : (old new : Formula → Option ℕ) (table : List Occurrences) (k : Formula) → ((f : Formula) → new f ≡ cond (is_eq (formula_order k f)) (Some (length table)) (old f)) → old k ≡ None → Adds (length table) old new
+adds_one old new table k u none = record {
+  stay = λ f n e. elim (new_cases old new k (length table) u f) as (λ _. new f ≡ Some n) [
+    | inl q ↦ absurd (none-some n (sym none ∙ (ap old q.0 ∙ e)))
+    | inr q ↦ q ∙ e
+  ];
+  beyond = λ f n e. elim (new_cases old new k (length table) u f) as (λ _. (old f ≡ Some n) ⊎ (length table ≤ n)) [
+    | inl q ↦
+        let s : n ≡ length table = same_Some n (length table) (sym e ∙ q.1) in
+        inr (omega (arith, s))
+    | inr q ↦ inl (sym q ∙ e)
+  ];
+}
+
+pub widened_none : (f : Formula → Option ℕ) (s : List Occurrences) → IsTable f s → IsWidened f s f s
+widened_none f s h = record { is_table = h; same = λ l. refl; adds = adds_none (length s) f; room = omega arith }
+
+pub widened_trans : (f : Formula → Option ℕ) (s : List Occurrences) (g : Formula → Option ℕ) (t : List Occurrences) (h : Formula → Option ℕ) (u : List Occurrences) → IsWidened f s g t → IsWidened g t h u → IsWidened f s h u
+widened_trans f s g t h u a b = record {
+  is_table = b.is_table;
+  same = λ l. b.same l ∙ a.same l;
+  adds = adds_trans (length s) (length t) f g h a.room a.adds b.adds;
+  room = omega (arith, a.room, b.room);
+}
+
+-- ---- the list of a literal, by its code
+pub table_sized : (numbers : Formula → Option ℕ) (s t : List Occurrences) → length t ≡ length s → IsTable numbers s → IsTable numbers t
+table_sized numbers s t e h = record { within = λ f n q. omega (arith, h.within f n q, e); apart = h.apart }
+
+pub code_own : (R : List ℕ → List ℕ → Type 0) (numbers : Formula → Option ℕ) (table : List Occurrences) (l : Lit) (k : Code) (o : Occurrences) → IsCode numbers l k → k.number < length table
+    → R (side k.positive (get_or table k.number none_listed)) (side k.positive o) → R (listed numbers table l) (listed numbers (set table k.number o) l)
+code_own R numbers table l k o c w r =
+    let a : side k.positive (get_or table k.number none_listed) ≡ listed numbers table l =
+    ap (λ (b : Bool). side b (get_or table k.number none_listed)) (sym c.1) ∙ sym (listed_at numbers table l k.number c.0) in
+    let b : side k.positive o ≡ listed numbers (set table k.number o) l = ap (λ (b : Bool). side b o) (sym c.1) ∙ sym (set_own numbers table l k.number o c.0 w) in
+    subst (λ (x : List ℕ). R x (listed numbers (set table k.number o) l)) a (subst (λ (y : List ℕ). R (side k.positive (get_or table k.number none_listed)) y) b r)
+
+pub code_others : (numbers : Formula → Option ℕ) (table : List Occurrences) (l m : Lit) (k : Code) (o : Occurrences) → IsTable numbers table → IsCode numbers l k
+    → side (not k.positive) o ≡ side (not k.positive) (get_or table k.number none_listed) → m ≢ l → listed numbers (set table k.number o) m ≡ listed numbers table m
+code_others numbers table l m k o h c s d =
+    set_others numbers table l m k.number o h c.0 (subst (λ (b : Bool). side (not b) o ≡ side (not b) (get_or table k.number none_listed)) (sym c.1) s) d
+
+pub code_same : (numbers : Formula → Option ℕ) (table : List Occurrences) (l m : Lit) (k : Code) (o : Occurrences) → IsTable numbers table → IsCode numbers l k
+    → side k.positive o ≡ side k.positive (get_or table k.number none_listed) → side (not k.positive) o ≡ side (not k.positive) (get_or table k.number none_listed)
+    → listed numbers (set table k.number o) m ≡ listed numbers table m
+code_same numbers table l m k o h c own other = elim (lit_cases l m) as (λ _. listed numbers (set table k.number o) m ≡ listed numbers table m) [
+  | inl e ↦ subst (λ (x : Lit). listed numbers (set table k.number o) x ≡ listed numbers table x) e
+      (code_own (λ (x y : List ℕ). y ≡ x) numbers table l k o c (h.within l.formula k.number c.0) own)
+  | inr d ↦ code_others numbers table l m k o h c other (λ e. d (sym e))
+]

@@ -1,2 +1,3 @@
 pub mod Scan
 pub mod Finding
+pub mod Coding

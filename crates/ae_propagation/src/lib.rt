@@ -2,6 +2,9 @@
 //! the clauses that have a literal.
 #![tactic(auto)]
 
+mod coded;
+mod codes;
 mod occurrences;
+pub mod propagation;
 pub mod settle;
-pub mod watches;
+mod valued;

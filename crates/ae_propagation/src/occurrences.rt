@@ -1,11 +1,15 @@
 //! Which clauses have a literal: lists of their numbers, found by the literal's formula.
-ghost use Rattle.std.specs.Prelude.{◌≡◌, ◌≢◌, ◌∷◌, ◌++◌, [], ℕ, List, length, not, MatchBool, Some, IfOk, OnOk, OnErr};
+ghost use Rattle.std.specs.Prelude.{◌≡◌, ◌≢◌, ◌∷◌, ◌++◌, ◌<◌, ◌≤◌, [], ℕ, List, length, not, slice_index_or, MatchBool, Option, Some, IfOk, OnOk, OnErr};
 ghost use Rattle.std.specs.BTreeMap.{get};
 ghost use Rattle.ae_core.specs.Orders.{formula_order};
 ghost use Rattle.ae_core.specs.declared.formulas.Lit.{Lit};
 ghost use Rattle.ae_rules.specs.Clauses.{Clause};
-ghost use Rattle.ae_propagation.specs.Inner.Finding.{EndsIn, IsPut, IsTaken, none_listed, side, listed, IsTable, AreListed, AreLeft};
+ghost use Rattle.ae_core.specs.declared.formulas.Formula.{Formula};
+ghost use Rattle.ae_propagation.specs.declared.codes.Code.{Code};
+ghost use Rattle.ae_propagation.specs.Inner.Coding.{IsCode, AreCodes};
+ghost use Rattle.ae_propagation.specs.Inner.Finding.{Adds, EndsIn, IsPut, IsTaken, none_listed, side, listed, IsTable, IsWidened, AreListed, AreLeft};
 
+use crate::codes::Code;
 use ae_core::copies::copy_formula;
 use ae_core::formulas::{Formula, Lit};
 use ae_core::lists::List;
@@ -97,7 +101,7 @@ fn no_occurrences(alloc: Global) -> Occurrences
 }
 
 /// A formula's number; the next one where it has none yet.
-fn number_of(
+pub(crate) fn number_of(
     alloc: Global,
     numbers: &mut BTreeMap<Formula, usize>,
     table: &mut Vec<Occurrences>,
@@ -106,6 +110,8 @@ fn number_of(
     requires { IsTable (get formula_order numbers.old) table.old.items }
     ensures is_table { IsTable (get formula_order numbers.new) table.new.items }
     ensures same { (l : Lit) → listed (get formula_order numbers.new) table.new.items l ≡ listed (get formula_order numbers.old) table.old.items l }
+    ensures adds { Adds (length table.old.items) (get formula_order numbers.old) (get formula_order numbers.new) }
+    ensures room { length table.old.items ≤ length table.new.items }
     ensures number { IfOk result (λ n. get formula_order numbers.new formula.now ≡ Some n) }
 {
     if let Some(number) = numbers.get(formula).copied() {
@@ -120,70 +126,91 @@ fn number_of(
     }
 }
 
-/// Adds a clause's number to the list of a literal, unless it is the last one there.
-fn put(
+/// A literal's code.
+fn code_of(
     alloc: Global,
     numbers: &mut BTreeMap<Formula, usize>,
     table: &mut Vec<Occurrences>,
     lit: &Lit,
-    clause: usize,
-) -> Result<(), AllocError>
+) -> Result<Code, AllocError>
     requires { IsTable (get formula_order numbers.old) table.old.items }
-    ensures is_table { IsTable (get formula_order numbers.new) table.new.items }
-    ensures own { OnOk result (IsPut clause (listed (get formula_order numbers.old) table.old.items lit.now) (listed (get formula_order numbers.new) table.new.items lit.now)) }
-    ensures others { (l : Lit) → l ≢ lit.now → listed (get formula_order numbers.new) table.new.items l ≡ listed (get formula_order numbers.old) table.old.items l }
-    ensures err { OnErr result ((l : Lit) → listed (get formula_order numbers.new) table.new.items l ≡ listed (get formula_order numbers.old) table.old.items l) }
+    ensures wide { IsWidened (get formula_order numbers.old) table.old.items (get formula_order numbers.new) table.new.items }
+    ensures code { IfOk result (λ k. IsCode (get formula_order numbers.new) lit.now k) }
 {
     let number = number_of(alloc, numbers, table, &lit.formula)?;
-    push_side(&mut table[number], lit.positive, clause)
+    let positive = lit.positive;
+    Ok(Code { number, positive })
+}
+
+/// The codes of a clause's literals.
+pub(crate) fn codes_of(
+    alloc: Global,
+    numbers: &mut BTreeMap<Formula, usize>,
+    table: &mut Vec<Occurrences>,
+    lits: &[Lit],
+) -> Result<List<Code>, AllocError>
+    requires { IsTable (get formula_order numbers.old) table.old.items }
+    ensures wide { IsWidened (get formula_order numbers.old) table.old.items (get formula_order numbers.new) table.new.items }
+    ensures codes { IfOk result (λ ks. AreCodes (get formula_order numbers.new) lits.now ks) }
+{
+    let mut codes = List::new(alloc);
+    for i in 0..lits.len() {
+        let code = code_of(alloc, numbers, table, &lits[i])?;
+        codes.push(code)?;
+    }
+    Ok(codes)
+}
+
+/// Adds a clause's number to the list of a literal, unless it is the last one there.
+fn put(table: &mut Vec<Occurrences>, code: &Code, clause: usize) -> Result<(), AllocError>
+    requires within { code.now.number < length table.old.items }
+    ensures size { length table.new.items ≡ length table.old.items }
+    ensures own { OnOk result ((numbers : Formula → Option ℕ) (l : Lit) → IsCode numbers l code.now → IsPut clause (listed numbers table.old.items l) (listed numbers table.new.items l)) }
+    ensures others { (numbers : Formula → Option ℕ) (l m : Lit) → IsTable numbers table.old.items → IsCode numbers l code.now → m ≢ l → listed numbers table.new.items m ≡ listed numbers table.old.items m }
+    ensures err { OnErr result ((numbers : Formula → Option ℕ) (l m : Lit) → IsTable numbers table.old.items → IsCode numbers l code.now → listed numbers table.new.items m ≡ listed numbers table.old.items m) }
+{
+    push_side(&mut table[code.number], code.positive, clause)
 }
 
 /// Drops the last number of a literal's list if it is this one.
-fn take(numbers: &BTreeMap<Formula, usize>, table: &mut Vec<Occurrences>, lit: &Lit, clause: usize)
-    requires { IsTable (get formula_order numbers.now) table.old.items }
-    ensures is_table { IsTable (get formula_order numbers.now) table.new.items }
-    ensures own { IsTaken clause (listed (get formula_order numbers.now) table.old.items lit.now) (listed (get formula_order numbers.now) table.new.items lit.now) }
-    ensures others { (l : Lit) → l ≢ lit.now → listed (get formula_order numbers.now) table.new.items l ≡ listed (get formula_order numbers.now) table.old.items l }
+fn take(table: &mut Vec<Occurrences>, code: &Code, clause: usize)
+    requires within { code.now.number < length table.old.items }
+    ensures size { length table.new.items ≡ length table.old.items }
+    ensures own { (numbers : Formula → Option ℕ) (l : Lit) → IsCode numbers l code.now → IsTaken clause (listed numbers table.old.items l) (listed numbers table.new.items l) }
+    ensures others { (numbers : Formula → Option ℕ) (l m : Lit) → IsTable numbers table.old.items → IsCode numbers l code.now → m ≢ l → listed numbers table.new.items m ≡ listed numbers table.old.items m }
 {
-    match numbers.get(&lit.formula).copied() {
-        Some(number) => take_side(&mut table[number], lit.positive, clause),
-        None => {}
-    }
+    take_side(&mut table[code.number], code.positive, clause);
 }
 
 /// Takes a clause out of the lists, whose number stands last there if at all. It takes no memory.
-pub(crate) fn forget(
-    numbers: &BTreeMap<Formula, usize>,
-    table: &mut Vec<Occurrences>,
-    lits: &[Lit],
-    clause: usize,
-)
-    requires { IsTable (get formula_order numbers.now) table.old.items }
-    ensures is_table { IsTable (get formula_order numbers.now) table.new.items }
-    ensures each { (cs : List Clause) → length cs ≡ clause → AreLeft (listed (get formula_order numbers.now) table.old.items) cs lits.now 0 → AreListed (listed (get formula_order numbers.now) table.new.items) cs }
+pub(crate) fn forget(table: &mut Vec<Occurrences>, codes: &[Code], clause: usize)
+    requires within { (i : ℕ) (k : Code) → i < length codes.now → (slice_index_or codes.now i k).number < length table.old.items }
+    ensures size { length table.new.items ≡ length table.old.items }
+    ensures each { (numbers : Formula → Option ℕ) (c : Clause) (cs : List Clause) → IsTable numbers table.old.items → AreCodes numbers c codes.now → length cs ≡ clause
+        → AreLeft (listed numbers table.old.items) cs c 0 → AreListed (listed numbers table.new.items) cs }
 {
-    for i in 0..lits.len() {
-        take(numbers, table, &lits[i], clause);
+    for i in 0..codes.len() {
+        take(table, &codes[i], clause);
     }
 }
 
 /// Puts a clause, which gets the number behind all others, into the lists of its literals. Refused memory leaves the
 /// lists as they were.
 pub(crate) fn enter(
-    alloc: Global,
-    numbers: &mut BTreeMap<Formula, usize>,
     table: &mut Vec<Occurrences>,
-    lits: &[Lit],
+    codes: &[Code],
     clause: usize,
 ) -> Result<(), AllocError>
-    requires { IsTable (get formula_order numbers.old) table.old.items }
-    ensures is_table { IsTable (get formula_order numbers.new) table.new.items }
-    ensures ok { (cs : List Clause) → length cs ≡ clause → AreListed (listed (get formula_order numbers.old) table.old.items) cs → OnOk result (AreListed (listed (get formula_order numbers.new) table.new.items) (cs ++ lits.now ∷ [])) }
-    ensures err { (cs : List Clause) → length cs ≡ clause → AreListed (listed (get formula_order numbers.old) table.old.items) cs → OnErr result (AreListed (listed (get formula_order numbers.new) table.new.items) cs) }
+    requires within { (i : ℕ) (k : Code) → i < length codes.now → (slice_index_or codes.now i k).number < length table.old.items }
+    ensures size { length table.new.items ≡ length table.old.items }
+    ensures ok { (numbers : Formula → Option ℕ) (c : Clause) (cs : List Clause) → IsTable numbers table.old.items → AreCodes numbers c codes.now → length cs ≡ clause
+        → AreListed (listed numbers table.old.items) cs → OnOk result (AreListed (listed numbers table.new.items) (cs ++ c ∷ [])) }
+    ensures err { (numbers : Formula → Option ℕ) (c : Clause) (cs : List Clause) → IsTable numbers table.old.items → AreCodes numbers c codes.now → length cs ≡ clause
+        → AreListed (listed numbers table.old.items) cs → OnErr result (AreListed (listed numbers table.new.items) cs) }
 {
-    for i in 0..lits.len() {
-        if let Err(failed) = put(alloc, numbers, table, &lits[i], clause) {
-            forget(numbers, table, lits, clause);
+    for i in 0..codes.len() {
+        if let Err(failed) = put(table, &codes[i], clause) {
+            forget(table, codes, clause);
             return Err(failed);
         }
     }

@@ -5,7 +5,7 @@ ghost use Rattle.ae_explain.specs.Trail.{clause, IsFalse, IsLawful};
 ghost use Rattle.ae_core.specs.declared.formulas.Lit.{Lit};
 ghost use Rattle.ae_explain.specs.declared.trail.Assigned.{Assigned};
 ghost use Rattle.ae_propagation.specs.Settled.{Holds, HasTrue, IsOpenAlone, Says, Grown, Ends, last_level};
-ghost use Rattle.ae_propagation.specs.Inner.Scan.{Finds, IsNotFalse, open_all};
+ghost use Rattle.ae_propagation.specs.Inner.Scan.{Finds, IsNotFalse, IsUnitStep, open_all};
 
 use ae_core::copies::copy_lit;
 use ae_core::equality::same_lit;
@@ -153,8 +153,27 @@ pub fn level_now(trail: &Trail) -> usize
     if n == 0 { 0 } else { trail.level_at(n - 1) }
 }
 
+/// The one open literal of a clause, as it becomes true by the clause.
+pub(crate) fn unit_at(
+    alloc: Global,
+    clauses: &[Clause],
+    trail: &Trail,
+    k: usize,
+    p: usize,
+) -> Result<Assigned, AllocError>
+    requires lawful { IsLawful trail.now clauses.now }
+    requires within { k < length clauses.now }
+    requires alone { IsOpenAlone trail.now (clause clauses.now k) p }
+    ensures { IfOk result (λ a. IsUnitStep trail.now clauses.now k p a) }
+{
+    let lit = copy_lit(alloc, &clauses[k].as_slice()[p])?;
+    let level = level_now(trail);
+    let by = Some(k);
+    Ok(Assigned { lit, level, by })
+}
+
 /// Makes the one open literal of a clause true.
-pub(crate) fn push_unit(
+fn push_unit(
     alloc: Global,
     clauses: &[Clause],
     trail: &mut Trail,
@@ -167,19 +186,9 @@ pub(crate) fn push_unit(
     ensures lawful { IsLawful trail.new clauses.now }
     ensures grown { (first : List Assigned) → Grown first trail.old → Grown first trail.new }
     ensures falls { OnOk result (open_all trail.new clauses.now < open_all trail.old clauses.now) }
-    ensures longer { OnOk result (length trail.new ≡ length trail.old + 1) }
-    ensures made { OnOk result (HasTrue trail.new (clause clauses.now k)) }
 {
-    let lit = copy_lit(alloc, &clauses[k].as_slice()[p])?;
-    let level = level_now(trail);
-    trail.assign(
-        alloc,
-        Assigned {
-            lit,
-            level,
-            by: Some(k),
-        },
-    )
+    let assigned = unit_at(alloc, clauses, trail, k, p)?;
+    trail.assign(alloc, assigned)
 }
 
 /// Assigns the literals of unit clauses, each by its clause and at the last literal's level, until there is none, or a

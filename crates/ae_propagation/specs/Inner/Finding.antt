@@ -46,13 +46,21 @@ pub record IsTable (numbers : Formula → Option ℕ) (table : List Occurrences)
   pub within : (f : Formula) (n : ℕ) → numbers f ≡ Some n → n < length table
   pub apart : (f g : Formula) (n : ℕ) → numbers f ≡ Some n → numbers g ≡ Some n → f ≡ g
 
+-- formulas that have a number keep it, and those that get one get one that isn't below a bound
+pub record Adds (bound : ℕ) (old new : Formula → Option ℕ) : Type 0 where
+  pub stay : (f : Formula) (n : ℕ) → old f ≡ Some n → new f ≡ Some n
+  pub beyond : (f : Formula) (n : ℕ) → new f ≡ Some n → (old f ≡ Some n) ⊎ (bound ≤ n)
+
+-- formulas may have got numbers, and the table may have got places; the lists stay
+pub record IsWidened (old : Formula → Option ℕ) (before : List Occurrences) (new : Formula → Option ℕ) (after : List Occurrences) : Type 0 where
+  pub is_table : IsTable new after
+  pub same : (l : Lit) → listed new after l ≡ listed old before l
+  pub adds : Adds (length before) old new
+  pub room : length before ≤ length after
+
 -- each literal leads to the numbers of the clauses that have it
 abbrev pub AreListed : (Lit → List ℕ) → List Clause → Type 0
 AreListed list clauses = (l : Lit) → list l ≡ holders clauses l
-
-pub record IsFinding (numbers : Formula → Option ℕ) (table : List Occurrences) (clauses : List Clause) : Type 0 where
-  pub is_table : IsTable numbers table
-  pub each : AreListed (listed numbers table) clauses
 
 -- ---- while a clause comes in or goes, that gets or has the number behind those of the others
 -- it has the literal among its first i

@@ -1,12 +1,13 @@
-use Rattle.std.proofs.Common.{◌≡◌, List, length}
-use Rattle.std.specs.BTreeMap.{get}
-use Rattle.ae_core.specs.Orders.{formula_order}
+use Rattle.std.proofs.Common.{◌≡◌, ℕ, List, Option, length}
 use Rattle.ae_rules.specs.Clauses.{Clause}
+use Rattle.ae_core.specs.declared.formulas.Formula.{Formula}
 use Rattle.ae_propagation.specs.Inner.Finding.{listed, IsTable, AreListed, AreEntered}
+use Rattle.ae_propagation.specs.Inner.Coding.{AreCodes}
 use Rattle.ae_propagation.proofs.occurrences.enter.Given as goal
 
 abbrev pub invariant-loop-i : goal.invariant-loop-i
 invariant-loop-i l = record {
-  is_table : IsTable (get formula_order l.numbers) l.table.items;
-  entered : (cs : List Clause) → length cs ≡ l.clause → AreListed (listed (get formula_order l.fn.numbers) l.fn.table.items) cs → AreEntered (listed (get formula_order l.numbers) l.table.items) cs l.lits l.i;
+  size : length l.table.items ≡ length l.fn.table.items;
+  entered : (numbers : Formula → Option ℕ) (c : Clause) (cs : List Clause) → IsTable numbers l.fn.table.items → AreCodes numbers c l.codes → length cs ≡ l.clause
+      → AreListed (listed numbers l.fn.table.items) cs → AreEntered (listed numbers l.table.items) cs c l.i;
 }

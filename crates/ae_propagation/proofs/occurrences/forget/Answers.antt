@@ -1,24 +1,27 @@
-use Rattle.std.proofs.Common.{◌≡◌, ℕ, length, sym, subst, arith}
-use Rattle.std.specs.BTreeMap.{get}
-use Rattle.ae_core.specs.Orders.{formula_order}
+use Rattle.std.proofs.Common.{◌≡◌, ◌∙◌, ◌<◌, ℕ, length, get_or, sym, subst, arith}
+use Rattle.std.proofs.lemmas.List.{get_or_default}
+use Rattle.ae_core.specs.declared.formulas.Lit.{Lit}
+use Rattle.ae_explain.specs.Trail.{nothing}
 use Rattle.ae_propagation.specs.Inner.Finding.{listed, IsTaken, AreLeft}
 use Rattle.ae_propagation.proofs.Entering.{left_next, left_all}
+use Rattle.ae_propagation.proofs.Numbering.{table_sized}
 use Rattle.ae_propagation.proofs.occurrences.forget.Goals as goal
 
 pub loop-i-preserved : goal.loop-i-preserved
-loop-i-preserved c =
-    let f = listed (get formula_order c.args.numbers.now) c.loop-i.table.items in
-    let g = listed (get formula_order c.args.numbers.now) c.take.new.table.items in
-    let x = c.index-lits-i.result in
-    record {
-      is_table = c.take.ensures.is_table;
-      left = λ cs e h.
-          left_next f g cs c.args.lits.now c.loop-i.i x c.loop-i-test.true c.index-lits-i.is (subst (λ (n : ℕ). IsTaken n (f x) (g x)) (sym e) c.take.ensures.own) c.take.ensures.others
-          (c.loop-i.invariant.left cs e h);
-    }
+loop-i-preserved c = record {
+  size = c.take.ensures.size ∙ c.loop-i.invariant.size;
+  left = λ numbers u cs h ks e q.
+      let f = listed numbers c.loop-i.table.items in
+      let g = listed numbers c.take.new.table.items in
+      let i = c.loop-i.i in
+      let w : i < length u = omega (arith, c.loop-i-test.true, ks.size) in
+      let y : Lit = get_or u i nothing.lit in
+      left_next f g cs u i y w (get_or_default u i nothing.lit y w) (subst (λ (n : ℕ). IsTaken n (f y) (g y)) (sym e) (c.take.ensures.own numbers y (ks.each i nothing.lit _ w)))
+      (λ m d. c.take.ensures.others numbers y m (table_sized numbers c.args.table.now.items c.loop-i.table.items c.loop-i.invariant.size h) (ks.each i nothing.lit _ w) d) (c.loop-i.invariant.left numbers u cs h ks e q);
+}
 
 pub returns-clause-each : goal.returns-clause-each
-returns-clause-each c cs e h =
-    let g = listed (get formula_order c.args.numbers.now) c.loop-i.table.items in
-    let q : c.loop-i.i ≡ length c.args.lits.now = omega arith in
-    left_all g cs c.args.lits.now (subst (λ (n : ℕ). AreLeft g cs c.args.lits.now n) q (c.loop-i.invariant.left cs e h))
+returns-clause-each c numbers u cs h ks e q =
+    let g = listed numbers c.loop-i.table.items in
+    let n : c.loop-i.i ≡ length u = omega (arith, ks.size) in
+    left_all g cs u (subst (λ (n : ℕ). AreLeft g cs u n) n (c.loop-i.invariant.left numbers u cs h ks e q))

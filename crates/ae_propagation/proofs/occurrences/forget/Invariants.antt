@@ -1,12 +1,13 @@
-use Rattle.std.proofs.Common.{◌≡◌, List, length}
-use Rattle.std.specs.BTreeMap.{get}
-use Rattle.ae_core.specs.Orders.{formula_order}
+use Rattle.std.proofs.Common.{◌≡◌, ℕ, List, Option, length}
 use Rattle.ae_rules.specs.Clauses.{Clause}
+use Rattle.ae_core.specs.declared.formulas.Formula.{Formula}
 use Rattle.ae_propagation.specs.Inner.Finding.{listed, IsTable, AreLeft}
+use Rattle.ae_propagation.specs.Inner.Coding.{AreCodes}
 use Rattle.ae_propagation.proofs.occurrences.forget.Given as goal
 
 abbrev pub invariant-loop-i : goal.invariant-loop-i
 invariant-loop-i l = record {
-  is_table : IsTable (get formula_order l.numbers) l.table.items;
-  left : (cs : List Clause) → length cs ≡ l.clause → AreLeft (listed (get formula_order l.numbers) l.fn.table.items) cs l.lits 0 → AreLeft (listed (get formula_order l.numbers) l.table.items) cs l.lits l.i;
+  size : length l.table.items ≡ length l.fn.table.items;
+  left : (numbers : Formula → Option ℕ) (c : Clause) (cs : List Clause) → IsTable numbers l.fn.table.items → AreCodes numbers c l.codes → length cs ≡ l.clause
+      → AreLeft (listed numbers l.fn.table.items) cs c 0 → AreLeft (listed numbers l.table.items) cs c l.i;
 }

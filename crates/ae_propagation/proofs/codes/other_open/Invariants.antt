@@ -1,0 +1,8 @@
+use Rattle.std.proofs.Common.{◌≡◌, ◌≢◌, ℕ, ◌<◌, get_or, Some}
+use Rattle.std.specs.Prelude.{not}
+use Rattle.ae_propagation.specs.declared.codes.Code.{Code}
+use Rattle.ae_propagation.specs.Inner.Coding.{value_at}
+use Rattle.ae_propagation.proofs.codes.other_open.Given as goal
+
+abbrev pub invariant-loop-i : goal.invariant-loop-i
+invariant-loop-i l = (j : ℕ) (k : Code) → j < l.i → get_or l.codes j k ≡ k → k ≢ l.own → value_at l.values k.number ≡ Some (not k.positive)
