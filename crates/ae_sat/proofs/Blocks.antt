@@ -17,7 +17,7 @@ use Rattle.ae_journal.specs.declared.lines.Line.{Line}
 use Rattle.ae_theory.specs.Tagged.{Tagged}
 use Rattle.ae_store.specs.Stores.{Stored}
 use Rattle.ae_theory.specs.Noting.{literals, IsBlockOf}
-use Rattle.ae_sat.specs.Settled.{Holds}
+use Rattle.ae_propagation.specs.Settled.{Holds}
 use Rattle.ae_sat.specs.Marked.{atoms}
 use Rattle.ae_sat.specs.Search.{IsStated, IsLawfulState, IsAlive}
 use Rattle.ae_rules.proofs.SortedLines.{clause_stated}

@@ -14,10 +14,6 @@ use Rattle.ae_sat.proofs.Searching.{notes_none, keeps_same}
 use Rattle.ae_journal.specs.SolverLines.{MayDecide}
 use Rattle.ae_journal.specs.Standing.{Setting}
 
--- the clause that is read is the one of its number
-pub read_clause : (clauses items : List Clause) (k : ℕ) (own at_k : Clause) → items ≡ clauses → k < length clauses → own ≡ at_k → at_k ≡ get_or items k at_k → own ≡ clause clauses k
-read_clause clauses items k own at_k e l same is = same ∙ (is ∙ (ap (λ (w : List Clause). get_or w k at_k) e ∙ get_or_default clauses k at_k [] l))
-
 pub progresses : (old new : Noted) (l : Lit) → new ≡ record old { lines = old.lines ++ line.Decide l ∷ [] } → counted_in new.lines ≤ new.limit → Progresses old new
 progresses old new l e h = record {
   limit = ap (λ (n : Noted). n.limit) e;

@@ -8,8 +8,8 @@ use Rattle.ae_rules.specs.Clauses.{Clause}
 use Rattle.ae_core.specs.declared.formulas.Lit.{Lit}
 use Rattle.ae_explain.specs.declared.trail.Assigned.{Assigned}
 use Rattle.ae_explain.specs.Trail.{IsFalse}
-use Rattle.ae_sat.specs.Settled.{IsNotFalse}
-use Rattle.ae_sat.proofs.Settling.{more_each}
+use Rattle.ae_propagation.specs.Inner.Scan.{IsNotFalse}
+use Rattle.ae_propagation.proofs.Settling.{more_each}
 
 pub record IsChosen (t : List Assigned) (c : Clause) (places : List ℕ) (n : ℕ) : Type 0 where
   pub kept : (j d : ℕ) → j < length places → IsNotFalse t c (get_or places j d)

@@ -11,12 +11,12 @@ use Rattle.ae_explain.specs.declared.trail.Assigned.{Assigned}
 use Rattle.ae_explain.specs.Trail.{at, nothing, IsLawful}
 use Rattle.ae_journal.specs.declared.lines.Line.{Line}
 use Rattle.ae_theory.specs.Tagged.{Tagged}
-use Rattle.ae_sat.specs.Settled.{Grown}
+use Rattle.ae_propagation.specs.Settled.{Grown}
 use Rattle.ae_sat.specs.Standing.{IsOneOf, HasRows, with_decision, decided_lits}
 use Rattle.ae_sat.specs.Marked.{atoms, IsRunning}
 use Rattle.ae_sat.specs.Search.{IsLawfulState}
-use Rattle.ae_sat.proofs.Trails.{at_old}
-use Rattle.ae_sat.proofs.Settling.{last_stays}
+use Rattle.ae_propagation.proofs.Trails.{at_old}
+use Rattle.ae_propagation.proofs.Settling.{last_stays}
 use Rattle.ae_sat.proofs.Decisions.{lits_append}
 use Rattle.ae_sat.proofs.Layering.{layered_grown}
 use Rattle.ae_journal.specs.Standing.{IsGiven, Setting}

@@ -11,11 +11,13 @@ use Rattle.ae_explain.specs.Trail.{at, nothing, clause, Apart, IsFalse, AreFalse
 use Rattle.ae_explain.specs.Levels.{level_of}
 use Rattle.ae_explain.proofs.Places.{level_there, rises}
 use Rattle.ae_explain.proofs.Marking.{equal_numbers}
-use Rattle.ae_sat.specs.Settled.{Holds, IsQuiet}
-use Rattle.ae_sat.specs.Layers.{HoldsUpTo, IsFalseUpTo, Fires, IsLayered, IsCut, last_level}
+use Rattle.ae_propagation.specs.Settled.{Holds, IsQuiet}
+use Rattle.ae_sat.specs.Layers.{HoldsUpTo, IsFalseUpTo, Fires, IsLayered, IsCut}
+use Rattle.ae_propagation.specs.Settled.{last_level}
 use Rattle.ae_sat.specs.Standing.{IsOneOf}
-use Rattle.ae_sat.proofs.Trails.{consistent, at_old, at_new}
-use Rattle.ae_sat.proofs.Members.{lit_cases, member_cases, one_passes, some_passes}
+use Rattle.ae_propagation.proofs.Trails.{consistent, at_old, at_new}
+use Rattle.ae_propagation.proofs.Members.{lit_cases, member_cases}
+use Rattle.ae_sat.proofs.Members.{one_passes, some_passes}
 
 pub false_up : (t : List Assigned) → Apart t → (m : Lit) (k : ℕ) → IsFalse t m → level_of t m ≤ k → IsFalseUpTo t k m
 false_up t apart m k f l =

@@ -22,12 +22,13 @@ use Rattle.ae_journal.specs.declared.lines.Line.TheVariants as line
 use Rattle.ae_journal.specs.Journals.{live, decisions, counted_in}
 use Rattle.ae_journal.proofs.Counting.{counted_push}
 use Rattle.ae_explain.specs.Fronts.{IsFront}
-use Rattle.ae_sat.specs.Layers.{IsCut, last_level}
+use Rattle.ae_sat.specs.Layers.{IsCut}
+use Rattle.ae_propagation.specs.Settled.{last_level}
 use Rattle.ae_sat.specs.Standing.{IsOneOf, decided_lits}
 use Rattle.ae_sat.specs.Search.{IsStated, IsLawfulState, NotesLegally, Keeps, Progresses}
 use Rattle.ae_sat.proofs.Layering.{top}
 use Rattle.ae_sat.proofs.Members.{some_passes}
-use Rattle.ae_sat.proofs.Trails.{at_old}
+use Rattle.ae_propagation.proofs.Trails.{at_old}
 use Rattle.ae_sat.proofs.Cutting.{is_cut}
 use Rattle.ae_explain.proofs.Marking.{numbers_equal}
 use Rattle.ae_sat.proofs.Learning.{learn_is_legal, back_is_legal, last_states}

@@ -21,7 +21,7 @@ use Rattle.ae_journal.specs.Journals.{live, decisions}
 use Rattle.ae_journal.specs.Standing.MayStand.{decided, reached}
 use Rattle.ae_rules.proofs.SortedLines.{clause_stated, states_clause}
 use Rattle.ae_journal.proofs.Living.{live_push, decisions-append, back_after}
-use Rattle.ae_sat.specs.Layers.{last_level}
+use Rattle.ae_propagation.specs.Settled.{last_level}
 use Rattle.ae_sat.specs.Standing.{IsOneOf, with_decision, decided_lits}
 use Rattle.ae_sat.specs.Search.{IsLawfulState}
 use Rattle.ae_sat.proofs.Layering.{learnt_is_new, top}

@@ -22,7 +22,8 @@ use Rattle.ae_journal.specs.Standing.IsPossible.{given}
 use Rattle.ae_journal.specs.Standing.IsBrought.{by_hypothesis, by_goal, by_type_instance, by_term_instance}
 use Rattle.ae_journal.proofs.Growing.{possible_more, formula_more}
 use Rattle.ae_journal.proofs.Living.{has_last}
-use Rattle.ae_sat.specs.Layers.{IsCut, Fires, last_level}
+use Rattle.ae_sat.specs.Layers.{IsCut, Fires}
+use Rattle.ae_propagation.specs.Settled.{last_level}
 use Rattle.ae_sat.specs.Standing.{IsOneOf}
 use Rattle.ae_sat.specs.Search.{IsLawfulState}
 use Rattle.ae_sat.proofs.Layering.{layered_cut, learnt_rests}

@@ -15,12 +15,12 @@ use Rattle.ae_journal.specs.Journals.{live, decisions}
 use Rattle.ae_journal.specs.Journals.HasLine.{here, later}
 use Rattle.ae_journal.specs.Standing.IsBrought.{by_hypothesis, by_goal, by_type_instance, by_term_instance}
 use Rattle.ae_journal.proofs.Growing.{possible_more, formula_more}
-use Rattle.ae_sat.specs.Settled.{Holds, HasTrue, IsQuiet}
-use Rattle.ae_sat.specs.Layers.{last_level}
+use Rattle.ae_propagation.specs.Settled.{Holds, HasTrue, IsQuiet}
+use Rattle.ae_propagation.specs.Settled.{last_level}
 use Rattle.ae_sat.specs.Standing.{IsOneOf, HasRows, with_decision, decided_lits}
 use Rattle.ae_sat.specs.Laws.{IsSettled}
 use Rattle.ae_sat.specs.Search.{IsLawfulState}
-use Rattle.ae_sat.proofs.Trails.{at_old}
+use Rattle.ae_propagation.proofs.Trails.{at_old}
 use Rattle.ae_sat.proofs.Layering.{layered_decision}
 use Rattle.ae_sat.proofs.Surely.{open_may_be_decided}
 use Rattle.ae_journal.specs.Journals.{BringsClause, HasLine, IsBack, IsDecided, MayLearnAgain}

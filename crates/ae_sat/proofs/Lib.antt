@@ -1,10 +1,9 @@
-pub mod Trails
 pub mod Members
+pub mod Keeping
 pub mod Layering
 pub mod Called
 pub mod Outside
 pub mod Surely
-pub mod Settling
 pub mod Results
 pub mod Cutting
 pub mod Decisions

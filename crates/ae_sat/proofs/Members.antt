@@ -1,29 +1,11 @@
--- Members of clauses, and how many of them pass a test.
-use Rattle.std.proofs.Common.{◌≡◌, ◌≢◌, zero, suc, ◌+◌, Bool, true, false, cond, [], ◌∷◌, refl, sym, ap, ◌∙◌, subst, arith, ◌⊎◌, inl, inr}
+-- How many members of a clause pass a test.
+use Rattle.std.proofs.Common.{◌≡◌, zero, suc, ◌+◌, Bool, true, false, cond, [], ◌∷◌, refl, sym, ap, ◌∙◌, subst, arith, inl, inr}
 use Rattle.std.specs.Prelude.{count_by}
 use Rattle.std.specs.List.{Contains}
 use Rattle.std.proofs.lemmas.Bool.{cases_Bool}
 use Rattle.std.proofs.lemmas.List.Sums.{sum_by-cons}
 use Rattle.ae_rules.specs.Clauses.{Clause}
-use Rattle.ae_core.specs.Decided.{Lit_discrete}
 use Rattle.ae_core.specs.declared.formulas.Lit.{Lit}
-
-pub lit_cases : (m l : Lit) → (m ≡ l) ⊎ (m ≢ l)
-lit_cases m l = elim (Lit_discrete m l) as (λ _. (m ≡ l) ⊎ (m ≢ l)) [ yes e ↦ inl e | no d ↦ inr d ]
-
-pub member_cases : (c : Clause) (l : Lit) → Contains c l ⊎ (Contains c l → ⊥)
-member_cases [] l = inr (λ h. absurd (omega (arith, h.1)))
-member_cases (x ∷ c) l = elim (lit_cases x l) as (λ _. Contains (x ∷ c) l ⊎ (Contains (x ∷ c) l → ⊥)) [
-  | inl e ↦ inl (zero, omega arith, e)
-  | inr d ↦ elim (member_cases c l) as (λ _. Contains (x ∷ c) l ⊎ (Contains (x ∷ c) l → ⊥)) [
-    | inl h ↦ inl (suc h.0, omega (arith, h.1), h.2)
-    | inr n ↦ inr (λ h. neither x c l d n h)
-  ]
-]
-  where
-    neither : (x : Lit) (c : Clause) (l : Lit) → x ≢ l → (Contains c l → ⊥) → Contains (x ∷ c) l → ⊥
-    neither x c l d n (zero, k, e) = d e
-    neither x c l d n (suc j, k, e) = n (j, omega (arith, k), e)
 
 count_cons : (p : Lit → Bool) (x : Lit) (c : Clause) → count_by p (x ∷ c) ≡ cond (p x) 1 0 + count_by p c
 count_cons p x c = sum_by-cons (λ m. cond (p m) 1 0) x c

@@ -16,7 +16,7 @@ use Rattle.ae_theory.specs.Tagged.{Tagged}
 use Rattle.ae_explain.specs.Fronts.{IsFront}
 use Rattle.ae_sat.specs.Layers.{IsCut}
 use Rattle.ae_sat.specs.Standing.{IsOneOf, HasRows}
-use Rattle.ae_sat.specs.Settled.{Grown}
+use Rattle.ae_propagation.specs.Settled.{Grown}
 use Rattle.ae_sat.specs.Marked.{IsRunning}
 use Rattle.ae_sat.specs.Search.{AllNamed, IsAlive, IsStated, IsLawfulState, Continues, AllAmong}
 use Rattle.ae_journal.specs.Journals.{live, decisions}

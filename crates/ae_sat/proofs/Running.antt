@@ -16,12 +16,12 @@ use Rattle.ae_journal.specs.Journals.{live, before_decision, decisions}
 use Rattle.ae_journal.proofs.Living.{live_push, cut_at, decisions-append}
 use Rattle.ae_theory.specs.Tagged.{Tagged}
 use Rattle.ae_explain.specs.Fronts.{IsFront}
-use Rattle.ae_sat.specs.Layers.{last_level}
+use Rattle.ae_propagation.specs.Settled.{last_level}
 use Rattle.ae_sat.specs.Standing.{IsOneOf, with_decision, decided_lits}
 use Rattle.ae_sat.specs.Marked.{atoms, IsMarkAt, IsRunning}
-use Rattle.ae_sat.proofs.Trails.{at_old, at_new}
+use Rattle.ae_propagation.proofs.Trails.{at_old, at_new}
 use Rattle.ae_sat.proofs.Cutting.{at_take}
-use Rattle.ae_sat.proofs.Settling.{lawful_decision}
+use Rattle.ae_propagation.proofs.Settling.{lawful_decision}
 use Rattle.ae_sat.proofs.Layering.{last_push}
 use Rattle.ae_sat.proofs.Decisions.{before_more, decisions_before, before_twice, lits_append, count_lits, level_ahead, front_lits, front_place}
 

@@ -1,21 +1,24 @@
 -- What surely stands is in a settled trail.
-use Rattle.std.proofs.Common.{◌≡◌, ◌≢◌, List, sym, subst, Some, None, inl, inr}
+use Rattle.std.proofs.Common.{◌≡◌, ◌≢◌, List, sym, ap, subst, Some, None, inl, inr}
 use Rattle.std.specs.List.{Contains}
 use Rattle.ae_rules.specs.Clauses.{Clause, opposite, row}
 use Rattle.ae_core.specs.declared.formulas.Lit.{Lit}
 use Rattle.ae_rules.specs.Defining.{called_rows}
 use Rattle.ae_explain.specs.declared.trail.Assigned.{Assigned}
-use Rattle.ae_explain.specs.Trail.{place_in, IsFalse}
+use Rattle.ae_explain.specs.Trail.{place_in, Apart, IsFalse}
 use Rattle.ae_journal.specs.declared.lines.Line.{Line}
 use Rattle.ae_journal.specs.Standing.SurelyStands.{by_decision, by_given, by_row}
-use Rattle.ae_sat.specs.Settled.{Holds, IsQuiet, HasTrue}
+use Rattle.ae_propagation.specs.Settled.{Holds, IsQuiet, HasTrue}
 use Rattle.ae_sat.specs.Standing.{IsOneOf}
 use Rattle.ae_sat.specs.Laws.{IsSettled}
-use Rattle.ae_sat.proofs.Trails.{open_not_held, consistent}
+use Rattle.ae_propagation.proofs.Trails.{consistent, no_place}
 use Rattle.ae_sat.proofs.Called.{called_or_own}
-use Rattle.ae_sat.proofs.Members.{lit_cases}
+use Rattle.ae_propagation.proofs.Members.{lit_cases}
 use Rattle.ae_journal.specs.Standing.{IsPossible, Setting, SurelyStands}
 use Rattle.ae_journal.specs.SolverLines.{MayDecide}
+
+open_not_held : (t : List Assigned) → Apart t → (m : Lit) → place_in t m.formula ≡ None → Holds t m → ⊥
+open_not_held t apart m e h = no_place t apart m.formula e h.0 h.1 (ap (λ (x : Lit). x.formula) h.2)
 
 -- a clause of the trail's clauses gives its one literal that isn't false
 gives : (t : List Assigned) (clauses : List Clause) → IsQuiet t clauses → (c : Clause) (l : Lit) → IsOneOf clauses c → Contains c l → ((m : Lit) → Contains c m → m ≢ l → IsFalse t m) → Holds t l

@@ -7,8 +7,9 @@ use Rattle.ae_explain.specs.declared.trail.Assigned.{Assigned}
 use Rattle.ae_explain.specs.Trail.{Apart, at, place_in, IsLawful, AreFalse}
 use Rattle.ae_explain.specs.Levels.{level_of}
 use Rattle.ae_journal.specs.declared.lines.Line.{Line}
-use Rattle.ae_sat.specs.Settled.{Holds, HasTrue, IsQuiet}
-use Rattle.ae_sat.specs.Layers.{Fires, IsLayered, IsCut, last_level}
+use Rattle.ae_propagation.specs.Settled.{Holds, HasTrue, IsQuiet}
+use Rattle.ae_sat.specs.Layers.{Fires, IsLayered, IsCut}
+use Rattle.ae_propagation.specs.Settled.{last_level}
 use Rattle.ae_sat.specs.Standing.{IsOneOf, HasRows, decided_lits}
 use Rattle.ae_sat.specs.Search.{IsLawfulState}
 use Rattle.ae_rules.specs.Derivations.{AreAllowed}

@@ -4,7 +4,8 @@ use Rattle.std.specs.List.{Contains}
 use Rattle.ae_rules.specs.Clauses.{Clause, opposite}
 use Rattle.ae_core.specs.declared.formulas.Lit.{Lit}
 use Rattle.ae_explain.specs.declared.trail.Assigned.{Assigned}
-use Rattle.ae_explain.specs.Trail.{at, level_before}
+use Rattle.ae_explain.specs.Trail.{at}
+use Rattle.ae_propagation.specs.Settled.{last_level}
 
 -- the literal, or its opposite, stands at a level of at most k
 abbrev pub HoldsUpTo : List Assigned → ℕ → Lit → Type 0
@@ -18,10 +19,6 @@ pub record Fires (t : List Assigned) (c : Clause) (k : ℕ) : Type 0 where
   pub one : Lit
   pub others : (m : Lit) → Contains c m → m ≢ one → IsFalseUpTo t k m
   pub untrue : (m : Lit) → Contains c m → ¬ HoldsUpTo t k m
-
--- the present level
-abbrev pub last_level : List Assigned → ℕ
-last_level t = level_before t (length t)
 
 -- no given clause fires at a level below the present one
 abbrev pub IsLayered : List Assigned → (Clause → Type 0) → Type 0

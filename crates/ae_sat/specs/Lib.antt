@@ -1,6 +1,6 @@
-pub mod Settled
 pub mod Layers
 pub mod Marked
 pub mod Search
 pub mod Standing
 pub mod Laws
+pub mod Inner

@@ -7,7 +7,7 @@ use Rattle.ae_journal.specs.declared.lines.Line.{Line}
 use Rattle.ae_journal.specs.Journals.{before_decision, decisions}
 use Rattle.ae_theory.specs.Tagged.{Tagged}
 use Rattle.ae_theory.specs.Names.{is_atom}
-use Rattle.ae_sat.specs.Layers.{last_level}
+use Rattle.ae_propagation.specs.Settled.{last_level}
 use Rattle.std.specs.List.{Contains}
 use Rattle.ae_sat.specs.Standing.{IsOneOf, decided_lits}
 

@@ -19,7 +19,7 @@ use Rattle.ae_journal.specs.Journals.{live, counted_in}
 use Rattle.ae_store.specs.Stores.{Stored}
 use Rattle.ae_theory.specs.Tagged.{Tagged}
 use Rattle.ae_theory.specs.Names.{AreNamed}
-use Rattle.ae_sat.specs.Settled.{HasTrue}
+use Rattle.ae_propagation.specs.Settled.{HasTrue}
 use Rattle.ae_sat.specs.Layers.{IsLayered}
 use Rattle.ae_sat.specs.Standing.{IsOneOf, HasRows}
 use Rattle.ae_sat.specs.Marked.{IsRunning}

@@ -10,11 +10,11 @@ ghost use Rattle.ae_explain.specs.Levels.{level_of, greatest_of, literals_under}
 ghost use Rattle.ae_sat.specs.Standing.{IsOneOf};
 ghost use Rattle.ae_sat.specs.Search.{IsStated};
 
+use crate::propagator::Propagator;
 use ae_core::copies::copy_clause;
-use ae_core::formulas::Clause;
 use ae_core::lists::List;
 use ae_core::proofs::ClauseLine;
-use ae_explain::{Learnt, Trail, conflict_clause};
+use ae_explain::Learnt;
 use std::alloc::{AllocError, Global};
 
 /// The line at a number; 0 where there is none.
@@ -57,28 +57,27 @@ pub(crate) fn push_line(lines: &mut Vec<ClauseLine>, line: ClauseLine) -> Result
 /// Learns from a false clause, and puts the line that derives what is learnt behind the others.
 pub fn derive(
     alloc: Global,
-    trail: &Trail,
-    clauses: &[Clause],
+    propagation: &Propagator,
     places: &[usize],
     lines: &mut Vec<ClauseLine>,
     falsified: usize,
 ) -> Result<Learnt, AllocError>
-    requires lawful { IsLawful trail.now clauses.now }
-    requires within { falsified < length clauses.now }
-    requires falsified { AreFalse trail.now (clause clauses.now falsified) }
+    requires lawful { IsLawful propagation.now.trail propagation.now.clauses }
+    requires within { falsified < length propagation.now.clauses }
+    requires falsified { AreFalse propagation.now.trail (clause propagation.now.clauses falsified) }
     // Each decision is a literal of a clause.
-    requires stands { (j : ℕ) → j < length trail.now → (at trail.now j).by ≡ None → (c : Clause) × IsOneOf clauses.now c × Contains c (at trail.now j).lit }
-    ensures false_ones { IfOk result (λ r. AreFalse trail.now r.clause) }
-    ensures empty { IfOk result (λ r. greatest_of trail.now (clause clauses.now falsified) ≡ 0 → r.clause ≡ []) }
-    ensures one { IfOk result (λ r. let level = greatest_of trail.now (clause clauses.now falsified) in
-        0 < level → count_by (λ m. level_of trail.now m == level) r.clause ≡ 1) }
-    ensures highest { IfOk result (λ r. (m : Lit) → Contains r.clause m → level_of trail.now m ≤ greatest_of trail.now (clause clauses.now falsified)) }
-    ensures level { IfOk result (λ r. r.level ≡ greatest_of trail.now (literals_under trail.now (greatest_of trail.now r.clause) r.clause)) }
+    requires stands { (j : ℕ) → j < length propagation.now.trail → (at propagation.now.trail j).by ≡ None → (c : Clause) × IsOneOf propagation.now.clauses c × Contains c (at propagation.now.trail j).lit }
+    ensures false_ones { IfOk result (λ r. AreFalse propagation.now.trail r.clause) }
+    ensures empty { IfOk result (λ r. greatest_of propagation.now.trail (clause propagation.now.clauses falsified) ≡ 0 → r.clause ≡ []) }
+    ensures one { IfOk result (λ r. let level = greatest_of propagation.now.trail (clause propagation.now.clauses falsified) in
+        0 < level → count_by (λ m. level_of propagation.now.trail m == level) r.clause ≡ 1) }
+    ensures highest { IfOk result (λ r. (m : Lit) → Contains r.clause m → level_of propagation.now.trail m ≤ greatest_of propagation.now.trail (clause propagation.now.clauses falsified)) }
+    ensures level { IfOk result (λ r. r.level ≡ greatest_of propagation.now.trail (literals_under propagation.now.trail (greatest_of propagation.now.trail r.clause) r.clause)) }
     ensures line { IfOk result (λ r. (hints : List ℕ) × (lines.new.items ≡ lines.old.items ++ Rup r.clause hints ∷ [])) }
     // The line is allowed, so all stay stated.
-    ensures stated { (p : Problem) (g : ℕ) → IsStated p g lines.old.items clauses.now places.now → IsStated p g lines.new.items clauses.now places.now }
+    ensures stated { (p : Problem) (g : ℕ) → IsStated p g lines.old.items propagation.now.clauses places.now → IsStated p g lines.new.items propagation.now.clauses places.now }
 {
-    let learnt = conflict_clause(alloc, trail, clauses, falsified)?;
+    let learnt = propagation.learn_from(alloc, falsified)?;
     let stated = copy_clause(alloc, learnt.clause.as_slice())?;
     let hints = line_numbers(alloc, places, learnt.hints.as_slice())?;
     push_line(

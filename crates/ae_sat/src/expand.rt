@@ -11,16 +11,16 @@ ghost use Rattle.ae_store.specs.Stores.{Stored};
 ghost use Rattle.ae_sat.specs.Marked.{IsRunning};
 ghost use Rattle.ae_sat.specs.Standing.{IsOneOf};
 ghost use Rattle.ae_sat.specs.Search.{AllNamed, IsAlive, IsStated, IsLawfulState, Continues};
-ghost use Rattle.ae_sat.specs.Settled.{Ends};
-ghost use Rattle.ae_sat.specs.declared.settle.Settled.TheVariants.{Quiet};
+ghost use Rattle.ae_propagation.specs.Settled.{Ends};
+ghost use Rattle.ae_propagation.specs.declared.settle.Settled.TheVariants.{Quiet};
 ghost use Rattle.ae_journal.specs.Standing.{Setting};
 
 use crate::derive::push_line;
-use crate::settle::Settled;
 use crate::solver::Solver;
 use ae_core::copies::copy_formula;
 use ae_core::formulas::Clause;
 use ae_core::proofs::ClauseLine;
+use ae_propagation::settle::Settled;
 use ae_rules::rows::{called_rows, row};
 use ae_theory::theory::Theory;
 use std::alloc::{AllocError, Global};
@@ -37,26 +37,26 @@ where
         number: usize,
         clause: Clause,
     ) -> Result<(), AllocError>
-        requires within { place < length self.old.trail }
-        requires row { row number (at self.old.trail place).lit.formula ≡ Some clause }
-        requires lawful { IsLawful self.old.trail self.old.clauses }
-        requires stands { (j : ℕ) → j < length self.old.trail → (at self.old.trail j).by ≡ None → (c : Clause) × IsOneOf self.old.clauses c × Contains c (at self.old.trail j).lit }
-        ensures running { (standing : List Line) → IsRunning T.assumed T.fits_mark T.in_step self.old.theory self.old.marks.items self.old.trail self.old.clauses self.old.handed standing
-            → OnOk result (IsRunning T.assumed T.fits_mark T.in_step self.new.theory self.new.marks.items self.new.trail self.new.clauses self.new.handed standing) }
-        ensures named { (s : Stored) → AllNamed s self.old.clauses → OnOk result (AllNamed s self.new.clauses) }
-        ensures stated { (p : Problem) (g : ℕ) → IsStated p g lines.old.items self.old.clauses self.old.places → OnOk result (IsStated p g lines.new.items self.new.clauses self.new.places) }
+        requires within { place < length self.old.propagation.trail }
+        requires row { row number (at self.old.propagation.trail place).lit.formula ≡ Some clause }
+        requires lawful { IsLawful self.old.propagation.trail self.old.propagation.clauses }
+        requires stands { (j : ℕ) → j < length self.old.propagation.trail → (at self.old.propagation.trail j).by ≡ None → (c : Clause) × IsOneOf self.old.propagation.clauses c × Contains c (at self.old.propagation.trail j).lit }
+        ensures running { (standing : List Line) → IsRunning T.assumed T.fits_mark T.in_step self.old.theory self.old.marks.items self.old.propagation.trail self.old.propagation.clauses self.old.handed standing
+            → OnOk result (IsRunning T.assumed T.fits_mark T.in_step self.new.theory self.new.marks.items self.new.propagation.trail self.new.propagation.clauses self.new.handed standing) }
+        ensures named { (s : Stored) → AllNamed s self.old.propagation.clauses → OnOk result (AllNamed s self.new.propagation.clauses) }
+        ensures stated { (p : Problem) (g : ℕ) → IsStated p g lines.old.items self.old.propagation.clauses self.old.places → OnOk result (IsStated p g lines.new.items self.new.propagation.clauses self.new.places) }
         // The lines are allowed after a refusal, too.
-        ensures allowed { (p : Problem) (g : ℕ) → IsStated p g lines.old.items self.old.clauses self.old.places → AreAllowed p g [] lines.new.items }
-        ensures state { (setting : Setting) (js : List Line) → IsStated setting.problem setting.goal lines.old.items self.old.clauses self.old.places
-            → IsLawfulState setting self.old.trail self.old.clauses self.old.expanded lines.old.items js →
-            OnOk result (IsLawfulState setting self.new.trail self.new.clauses self.new.expanded lines.new.items js) }
-        ensures clauses { OnOk result (self.new.clauses ≡ self.old.clauses ++ clause ∷ []) }
-        ensures trail { self.new.trail ≡ self.old.trail }
+        ensures allowed { (p : Problem) (g : ℕ) → IsStated p g lines.old.items self.old.propagation.clauses self.old.places → AreAllowed p g [] lines.new.items }
+        ensures state { (setting : Setting) (js : List Line) → IsStated setting.problem setting.goal lines.old.items self.old.propagation.clauses self.old.places
+            → IsLawfulState setting self.old.propagation.trail self.old.propagation.clauses self.old.expanded lines.old.items js →
+            OnOk result (IsLawfulState setting self.new.propagation.trail self.new.propagation.clauses self.new.expanded lines.new.items js) }
+        ensures clauses { OnOk result (self.new.propagation.clauses ≡ self.old.propagation.clauses ++ clause ∷ []) }
+        ensures trail { self.new.propagation.trail ≡ self.old.propagation.trail }
         ensures expanded { self.new.expanded ≡ self.old.expanded }
         ensures handed { self.new.handed ≡ self.old.handed }
         ensures theory { self.new.theory ≡ self.old.theory }
     {
-        let formula = copy_formula(self.alloc, &self.trail.lit_at(place).formula)?;
+        let formula = copy_formula(self.alloc, &self.propagation.lit_at(place).formula)?;
         let line = lines.len();
         push_line(
             lines,
@@ -76,20 +76,20 @@ where
         place: usize,
         number: usize,
     ) -> Result<(), AllocError>
-        requires within { place < length self.old.trail }
-        requires alive { (store : Stored) × (js : List Line) × IsAlive T.fits T.assumed T.fits_mark T.in_step store self.old.theory self.old.marks.items self.old.trail self.old.clauses self.old.handed self.old.expanded js }
-        ensures continues { OnOk result (Continues T.fits T.assumed T.fits_mark T.in_step self.old.theory self.old.marks.items self.old.trail self.old.clauses self.old.places self.old.handed self.old.expanded lines.old.items
-            self.new.theory self.new.marks.items self.new.trail self.new.clauses self.new.places self.new.handed self.new.expanded lines.new.items) }
+        requires within { place < length self.old.propagation.trail }
+        requires alive { (store : Stored) × (js : List Line) × IsAlive T.fits T.assumed T.fits_mark T.in_step store self.old.theory self.old.marks.items self.old.propagation.trail self.old.propagation.clauses self.old.handed self.old.expanded js }
+        ensures continues { OnOk result (Continues T.fits T.assumed T.fits_mark T.in_step self.old.theory self.old.marks.items self.old.propagation.trail self.old.propagation.clauses self.old.places self.old.handed self.old.expanded lines.old.items
+            self.new.theory self.new.marks.items self.new.propagation.trail self.new.propagation.clauses self.new.places self.new.handed self.new.expanded lines.new.items) }
         // The lines are allowed after a refusal, too.
-        ensures allowed { (p : Problem) (g : ℕ) → IsStated p g lines.old.items self.old.clauses self.old.places → AreAllowed p g [] lines.new.items }
-        ensures has { (c : Clause) → row number (at self.old.trail place).lit.formula ≡ Some c → OnOk result (IsOneOf self.new.clauses c) }
-        ensures still { (c : Clause) → IsOneOf self.old.clauses c → OnOk result (IsOneOf self.new.clauses c) }
-        ensures trail { self.new.trail ≡ self.old.trail }
+        ensures allowed { (p : Problem) (g : ℕ) → IsStated p g lines.old.items self.old.propagation.clauses self.old.places → AreAllowed p g [] lines.new.items }
+        ensures has { (c : Clause) → row number (at self.old.propagation.trail place).lit.formula ≡ Some c → OnOk result (IsOneOf self.new.propagation.clauses c) }
+        ensures still { (c : Clause) → IsOneOf self.old.propagation.clauses c → OnOk result (IsOneOf self.new.propagation.clauses c) }
+        ensures trail { self.new.propagation.trail ≡ self.old.propagation.trail }
         ensures expanded { self.new.expanded ≡ self.old.expanded }
         ensures handed { self.new.handed ≡ self.old.handed }
     {
-        let _size = self.trail.len();
-        let found = row(self.alloc, number, &self.trail.lit_at(place).formula)?;
+        let _size = self.propagation.len();
+        let found = row(self.alloc, number, &self.propagation.lit_at(place).formula)?;
         if let Some(clause) = found {
             self.attach_row(lines, place, number, clause)?;
         }
@@ -98,17 +98,17 @@ where
 
     /// Attaches the rows of the next literal.
     fn expand_one(&mut self, lines: &mut Vec<ClauseLine>) -> Result<(), AllocError>
-        requires left { self.old.expanded < length self.old.trail }
-        requires alive { (store : Stored) × (js : List Line) × IsAlive T.fits T.assumed T.fits_mark T.in_step store self.old.theory self.old.marks.items self.old.trail self.old.clauses self.old.handed self.old.expanded js }
-        ensures continues { OnOk result (Continues T.fits T.assumed T.fits_mark T.in_step self.old.theory self.old.marks.items self.old.trail self.old.clauses self.old.places self.old.handed self.old.expanded lines.old.items
-            self.new.theory self.new.marks.items self.new.trail self.new.clauses self.new.places self.new.handed self.new.expanded lines.new.items) }
+        requires left { self.old.expanded < length self.old.propagation.trail }
+        requires alive { (store : Stored) × (js : List Line) × IsAlive T.fits T.assumed T.fits_mark T.in_step store self.old.theory self.old.marks.items self.old.propagation.trail self.old.propagation.clauses self.old.handed self.old.expanded js }
+        ensures continues { OnOk result (Continues T.fits T.assumed T.fits_mark T.in_step self.old.theory self.old.marks.items self.old.propagation.trail self.old.propagation.clauses self.old.places self.old.handed self.old.expanded lines.old.items
+            self.new.theory self.new.marks.items self.new.propagation.trail self.new.propagation.clauses self.new.places self.new.handed self.new.expanded lines.new.items) }
         // The lines are allowed after a refusal, too.
-        ensures allowed { (p : Problem) (g : ℕ) → IsStated p g lines.old.items self.old.clauses self.old.places → AreAllowed p g [] lines.new.items }
+        ensures allowed { (p : Problem) (g : ℕ) → IsStated p g lines.old.items self.old.propagation.clauses self.old.places → AreAllowed p g [] lines.new.items }
         ensures next { OnOk result (self.new.expanded ≡ self.old.expanded + 1) }
     {
         let place = self.expanded;
-        let _size = self.trail.len();
-        let numbers = called_rows(self.alloc, self.trail.lit_at(place))?;
+        let _size = self.propagation.len();
+        let numbers = called_rows(self.alloc, self.propagation.lit_at(place))?;
         for number in numbers.as_slice() {
             self.attach_number(lines, place, *number)?;
         }
@@ -118,20 +118,20 @@ where
 
     /// Assigns the literals of unit clauses and attaches the rows of true literals, until nothing is left to do or a clause is false.
     pub(crate) fn settle_rows(&mut self, lines: &mut Vec<ClauseLine>) -> Result<Settled, AllocError>
-        requires alive { (store : Stored) × (js : List Line) × IsAlive T.fits T.assumed T.fits_mark T.in_step store self.old.theory self.old.marks.items self.old.trail self.old.clauses self.old.handed self.old.expanded js }
-        ensures continues { OnOk result (Continues T.fits T.assumed T.fits_mark T.in_step self.old.theory self.old.marks.items self.old.trail self.old.clauses self.old.places self.old.handed self.old.expanded lines.old.items
-            self.new.theory self.new.marks.items self.new.trail self.new.clauses self.new.places self.new.handed self.new.expanded lines.new.items) }
+        requires alive { (store : Stored) × (js : List Line) × IsAlive T.fits T.assumed T.fits_mark T.in_step store self.old.theory self.old.marks.items self.old.propagation.trail self.old.propagation.clauses self.old.handed self.old.expanded js }
+        ensures continues { OnOk result (Continues T.fits T.assumed T.fits_mark T.in_step self.old.theory self.old.marks.items self.old.propagation.trail self.old.propagation.clauses self.old.places self.old.handed self.old.expanded lines.old.items
+            self.new.theory self.new.marks.items self.new.propagation.trail self.new.propagation.clauses self.new.places self.new.handed self.new.expanded lines.new.items) }
         // The lines are allowed after a refusal, too.
-        ensures allowed { (p : Problem) (g : ℕ) → IsStated p g lines.old.items self.old.clauses self.old.places → AreAllowed p g [] lines.new.items }
-        ensures ends { IfOk result (λ r. Ends self.new.trail self.new.clauses r) }
-        ensures expanded { result ≡ Ok Quiet → self.new.expanded ≡ length self.new.trail }
+        ensures allowed { (p : Problem) (g : ℕ) → IsStated p g lines.old.items self.old.propagation.clauses self.old.places → AreAllowed p g [] lines.new.items }
+        ensures ends { IfOk result (λ r. Ends self.new.propagation.trail self.new.propagation.clauses r) }
+        ensures expanded { result ≡ Ok Quiet → self.new.expanded ≡ length self.new.propagation.trail }
     {
         loop {
             match self.settle_trail()? {
                 Settled::Falsified(k) => return Ok(Settled::Falsified(k)),
                 Settled::Quiet => {}
             }
-            if self.trail.len() <= self.expanded {
+            if self.propagation.len() <= self.expanded {
                 return Ok(Settled::Quiet);
             }
             self.expand_one(lines)?;

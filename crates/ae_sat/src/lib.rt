@@ -7,7 +7,7 @@ pub mod expand;
 pub mod laws;
 pub mod marking;
 pub mod pick;
+pub mod propagator;
 pub mod run;
-pub mod settle;
 pub mod solver;
 pub mod tell;

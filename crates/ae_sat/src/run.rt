@@ -13,7 +13,7 @@ ghost use Rattle.ae_theory.specs.declared.theory.Outcome.TheVariants.{Complete, 
 ghost use Rattle.ae_core.specs.declared.proofs.ClauseLine.{ClauseLine};
 ghost use Rattle.ae_sat.specs.declared.run.SatEnd.TheVariants.{Refuted, Open};
 ghost use Rattle.ae_sat.specs.declared.run.Found.TheVariants.{Nothing, Clause, Contradiction};
-ghost use Rattle.ae_sat.specs.Settled.{HasTrue, IsQuiet};
+ghost use Rattle.ae_propagation.specs.Settled.{HasTrue, IsQuiet};
 ghost use Rattle.ae_sat.specs.Standing.{HasRows};
 ghost use Rattle.ae_sat.specs.Search.{IsAlive, IsStated, IsLawfulState, NotesLegally, EndsEmpty, IsOpen, IsLearnt, Progresses, Keeps};
 ghost use Rattle.ae_journal.specs.Standing.{Setting};
@@ -22,14 +22,13 @@ ghost use Rattle.ae_theory.specs.Names.{IsNamedBy};
 use crate::choose::choose;
 use crate::derive::{derive, push_line};
 use crate::pick::Pick;
-use crate::settle::{Settled, is_true};
 use crate::solver::{Solver, note};
 use ae_core::copies::copy_clause;
-use ae_core::formulas::Lit;
 use ae_core::proofs::{Block, ClauseLine};
-use ae_explain::{Learnt, Trail};
+use ae_explain::Learnt;
 use ae_journal::journal::Journal;
 use ae_journal::lines::Line;
+use ae_propagation::settle::Settled;
 use ae_rules::literals::opposites;
 use ae_store::store::Store;
 use ae_theory::theory::{Explained, Fail, Outcome, Theory};
@@ -53,30 +52,17 @@ pub enum Found {
     Contradiction(Block),
 }
 
-/// Whether a clause has a true literal.
-fn has_true(trail: &Trail, clause: &[Lit]) -> bool
-    ensures { MatchBool result (HasTrue trail.now clause.now) (¬ HasTrue trail.now clause.now) }
-{
-    for lit in clause {
-        if is_true(trail, lit) {
-            return true;
-        }
-    }
-    false
-}
-
 impl<T: Theory + Drop> Solver<T>
 where
     T::Mark: Drop,
 {
     /// The first clause without a true literal.
     fn open_clause(&self) -> Option<usize>
-        ensures { MatchOption result ((k : ℕ) → k < length self.now.clauses → HasTrue self.now.trail (clause self.now.clauses k))
-            (λ k. (k < length self.now.clauses) × ¬ HasTrue self.now.trail (clause self.now.clauses k)) }
+        ensures { MatchOption result ((k : ℕ) → k < length self.now.propagation.clauses → HasTrue self.now.propagation.trail (clause self.now.propagation.clauses k))
+            (λ k. (k < length self.now.propagation.clauses) × ¬ HasTrue self.now.propagation.trail (clause self.now.propagation.clauses k)) }
     {
-        let clauses = self.clauses.as_slice();
-        for k in 0..clauses.len() {
-            if !has_true(&self.trail, clauses[k].as_slice()) {
+        for k in 0..self.propagation.count() {
+            if !self.propagation.is_satisfied(k) {
                 return Some(k);
             }
         }
@@ -85,18 +71,18 @@ where
 
     /// Saturates the theory, which was told all atoms of the trail.
     fn saturate(&mut self, store: &Store, journal: &mut Journal) -> Result<Outcome, Fail>
-        requires alive { IsAlive T.fits T.assumed T.fits_mark T.in_step store.now self.old.theory self.old.marks.items self.old.trail self.old.clauses self.old.handed self.old.expanded journal.old.lines }
-        requires told { self.old.handed ≡ length self.old.trail }
-        ensures alive { OnOk result (IsAlive T.fits T.assumed T.fits_mark T.in_step store.now self.new.theory self.new.marks.items self.new.trail self.new.clauses self.new.handed self.new.expanded journal.new.lines) }
+        requires alive { IsAlive T.fits T.assumed T.fits_mark T.in_step store.now self.old.theory self.old.marks.items self.old.propagation.trail self.old.propagation.clauses self.old.handed self.old.expanded journal.old.lines }
+        requires told { self.old.handed ≡ length self.old.propagation.trail }
+        ensures alive { OnOk result (IsAlive T.fits T.assumed T.fits_mark T.in_step store.now self.new.theory self.new.marks.items self.new.propagation.trail self.new.propagation.clauses self.new.handed self.new.expanded journal.new.lines) }
         // Each noted line is legal.
-        ensures legal { (setting : Setting) (bound : ℕ) (lines : List ClauseLine) → IsNamedBy setting store.now journal.old.lines → IsLawfulState setting self.old.trail self.old.clauses self.old.expanded lines journal.old.lines →
-            NotesLegally setting bound journal.old.lines journal.new.lines × IsLawfulState setting self.new.trail self.new.clauses self.new.expanded lines journal.new.lines }
+        ensures legal { (setting : Setting) (bound : ℕ) (lines : List ClauseLine) → IsNamedBy setting store.now journal.old.lines → IsLawfulState setting self.old.propagation.trail self.old.propagation.clauses self.old.expanded lines journal.old.lines →
+            NotesLegally setting bound journal.old.lines journal.new.lines × IsLawfulState setting self.new.propagation.trail self.new.propagation.clauses self.new.expanded lines journal.new.lines }
         ensures complete { result ≡ Ok Complete → T.is_complete self.new.theory }
         ensures conflict { (k : ℕ) → result ≡ Ok (Conflict k) → T.own_conflict self.new.theory k }
         ensures steps { result ≡ Err OutOfSteps → counted_in journal.new.lines ≡ journal.new.limit }
         ensures journal { Keeps journal.old journal.new }
-        ensures trail { self.new.trail ≡ self.old.trail }
-        ensures clauses { self.new.clauses ≡ self.old.clauses }
+        ensures trail { self.new.propagation.trail ≡ self.old.propagation.trail }
+        ensures clauses { self.new.propagation.clauses ≡ self.old.propagation.clauses }
         ensures places { self.new.places ≡ self.old.places }
         ensures handed { self.new.handed ≡ self.old.handed }
         ensures expanded { self.new.expanded ≡ self.old.expanded }
@@ -111,26 +97,26 @@ where
         journal: &mut Journal,
         lines: &mut Vec<ClauseLine>,
     ) -> Result<Found, Fail>
-        requires alive { IsAlive T.fits T.assumed T.fits_mark T.in_step store.now self.old.theory self.old.marks.items self.old.trail self.old.clauses self.old.handed self.old.expanded journal.old.lines }
-        ensures alive { OnOk result (IsAlive T.fits T.assumed T.fits_mark T.in_step store.now self.new.theory self.new.marks.items self.new.trail self.new.clauses self.new.handed self.new.expanded journal.new.lines) }
-        ensures stated { (p : Problem) (g : ℕ) → p.signature ≡ store.now.signature → IsStated p g lines.old.items self.old.clauses self.old.places →
-            OnOk result (IsStated p g lines.new.items self.new.clauses self.new.places) }
+        requires alive { IsAlive T.fits T.assumed T.fits_mark T.in_step store.now self.old.theory self.old.marks.items self.old.propagation.trail self.old.propagation.clauses self.old.handed self.old.expanded journal.old.lines }
+        ensures alive { OnOk result (IsAlive T.fits T.assumed T.fits_mark T.in_step store.now self.new.theory self.new.marks.items self.new.propagation.trail self.new.propagation.clauses self.new.handed self.new.expanded journal.new.lines) }
+        ensures stated { (p : Problem) (g : ℕ) → p.signature ≡ store.now.signature → IsStated p g lines.old.items self.old.propagation.clauses self.old.places →
+            OnOk result (IsStated p g lines.new.items self.new.propagation.clauses self.new.places) }
         // The lines are allowed after a refusal, too.
-        ensures allowed { (p : Problem) (g : ℕ) → p.signature ≡ store.now.signature → IsStated p g lines.old.items self.old.clauses self.old.places → AreAllowed p g [] lines.new.items }
-        ensures legal { (setting : Setting) (bound : ℕ) → IsNamedBy setting store.now journal.old.lines → IsStated setting.problem setting.goal lines.old.items self.old.clauses self.old.places →
-            IsLawfulState setting self.old.trail self.old.clauses self.old.expanded lines.old.items journal.old.lines →
+        ensures allowed { (p : Problem) (g : ℕ) → p.signature ≡ store.now.signature → IsStated p g lines.old.items self.old.propagation.clauses self.old.places → AreAllowed p g [] lines.new.items }
+        ensures legal { (setting : Setting) (bound : ℕ) → IsNamedBy setting store.now journal.old.lines → IsStated setting.problem setting.goal lines.old.items self.old.propagation.clauses self.old.places →
+            IsLawfulState setting self.old.propagation.trail self.old.propagation.clauses self.old.expanded lines.old.items journal.old.lines →
             NotesLegally setting bound journal.old.lines journal.new.lines
-            × OnOk result (IsLawfulState setting self.new.trail self.new.clauses self.new.expanded lines.new.items journal.new.lines) }
+            × OnOk result (IsLawfulState setting self.new.propagation.trail self.new.propagation.clauses self.new.expanded lines.new.items journal.new.lines) }
         ensures steps { result ≡ Err OutOfSteps → counted_in journal.new.lines ≡ journal.new.limit }
         ensures journal { Keeps journal.old journal.new }
-        ensures quiet { result ≡ Ok Nothing → IsQuiet self.new.trail self.new.clauses }
-        ensures told { result ≡ Ok Nothing → self.new.handed ≡ length self.new.trail }
-        ensures expanded { result ≡ Ok Nothing → self.new.expanded ≡ length self.new.trail }
-        ensures rows { result ≡ Ok Nothing → HasRows self.new.trail (length self.new.trail) self.new.clauses }
+        ensures quiet { result ≡ Ok Nothing → IsQuiet self.new.propagation.trail self.new.propagation.clauses }
+        ensures told { result ≡ Ok Nothing → self.new.handed ≡ length self.new.propagation.trail }
+        ensures expanded { result ≡ Ok Nothing → self.new.expanded ≡ length self.new.propagation.trail }
+        ensures rows { result ≡ Ok Nothing → HasRows self.new.propagation.trail (length self.new.propagation.trail) self.new.propagation.clauses }
         ensures complete { result ≡ Ok Nothing → T.is_complete self.new.theory }
-        ensures found { (k : ℕ) → result ≡ Ok (Clause k) → (k < length self.new.clauses) × AreFalse self.new.trail (clause self.new.clauses k) }
+        ensures found { (k : ℕ) → result ≡ Ok (Clause k) → (k < length self.new.propagation.clauses) × AreFalse self.new.propagation.trail (clause self.new.propagation.clauses k) }
         // The theory's block is right, and its hypotheses are true.
-        ensures block { (b : Block) → result ≡ Ok (Contradiction b) → IsContradictory store.now.signature b × (clause_ok store.now.signature b.deriv.hyps ≡ true) × AreFalse self.new.trail (map opposite b.deriv.hyps) }
+        ensures block { (b : Block) → result ≡ Ok (Contradiction b) → IsContradictory store.now.signature b × (clause_ok store.now.signature b.deriv.hyps ≡ true) × AreFalse self.new.propagation.trail (map opposite b.deriv.hyps) }
     {
         match self.settle_rows(lines)? {
             Settled::Falsified(k) => return Ok(Found::Clause(k)),
@@ -156,18 +142,18 @@ where
         lines: &mut Vec<ClauseLine>,
         falsified: usize,
     ) -> Result<bool, Fail>
-        requires within { falsified < length self.old.clauses }
-        requires falsified { AreFalse self.old.trail (clause self.old.clauses falsified) }
-        requires alive { IsAlive T.fits T.assumed T.fits_mark T.in_step store.now self.old.theory self.old.marks.items self.old.trail self.old.clauses self.old.handed self.old.expanded journal.old.lines }
-        ensures alive { OnOk result (IsAlive T.fits T.assumed T.fits_mark T.in_step store.now self.new.theory self.new.marks.items self.new.trail self.new.clauses self.new.handed self.new.expanded journal.new.lines) }
-        ensures stated { (p : Problem) (g : ℕ) → p.signature ≡ store.now.signature → IsStated p g lines.old.items self.old.clauses self.old.places →
-            OnOk result (IsStated p g lines.new.items self.new.clauses self.new.places) }
+        requires within { falsified < length self.old.propagation.clauses }
+        requires falsified { AreFalse self.old.propagation.trail (clause self.old.propagation.clauses falsified) }
+        requires alive { IsAlive T.fits T.assumed T.fits_mark T.in_step store.now self.old.theory self.old.marks.items self.old.propagation.trail self.old.propagation.clauses self.old.handed self.old.expanded journal.old.lines }
+        ensures alive { OnOk result (IsAlive T.fits T.assumed T.fits_mark T.in_step store.now self.new.theory self.new.marks.items self.new.propagation.trail self.new.propagation.clauses self.new.handed self.new.expanded journal.new.lines) }
+        ensures stated { (p : Problem) (g : ℕ) → p.signature ≡ store.now.signature → IsStated p g lines.old.items self.old.propagation.clauses self.old.places →
+            OnOk result (IsStated p g lines.new.items self.new.propagation.clauses self.new.places) }
         // The lines are allowed after a refusal, too.
-        ensures allowed { (p : Problem) (g : ℕ) → p.signature ≡ store.now.signature → IsStated p g lines.old.items self.old.clauses self.old.places → AreAllowed p g [] lines.new.items }
-        ensures legal { (setting : Setting) (bound : ℕ) → IsNamedBy setting store.now journal.old.lines → IsStated setting.problem setting.goal lines.old.items self.old.clauses self.old.places →
-            IsLawfulState setting self.old.trail self.old.clauses self.old.expanded lines.old.items journal.old.lines →
+        ensures allowed { (p : Problem) (g : ℕ) → p.signature ≡ store.now.signature → IsStated p g lines.old.items self.old.propagation.clauses self.old.places → AreAllowed p g [] lines.new.items }
+        ensures legal { (setting : Setting) (bound : ℕ) → IsNamedBy setting store.now journal.old.lines → IsStated setting.problem setting.goal lines.old.items self.old.propagation.clauses self.old.places →
+            IsLawfulState setting self.old.propagation.trail self.old.propagation.clauses self.old.expanded lines.old.items journal.old.lines →
             NotesLegally setting bound journal.old.lines journal.new.lines
-            × OnOk result (IsLawfulState setting self.new.trail self.new.clauses self.new.expanded lines.new.items journal.new.lines) }
+            × OnOk result (IsLawfulState setting self.new.propagation.trail self.new.propagation.clauses self.new.expanded lines.new.items journal.new.lines) }
         ensures steps { result ≡ Err OutOfSteps → counted_in journal.new.lines ≡ journal.new.limit }
         ensures journal { Keeps journal.old journal.new }
         ensures refuted { result ≡ Ok true → EndsEmpty lines.new.items }
@@ -175,8 +161,7 @@ where
     {
         let learnt = derive(
             self.alloc,
-            &self.trail,
-            self.clauses.as_slice(),
+            &self.propagation,
             self.places.as_slice(),
             lines,
             falsified,
@@ -194,17 +179,17 @@ where
     ) -> Result<bool, Fail>
         requires contradictory { IsContradictory store.now.signature block }
         requires sorted { clause_ok store.now.signature block.deriv.hyps ≡ true }
-        requires falsified { AreFalse self.old.trail (map opposite block.deriv.hyps) }
-        requires alive { IsAlive T.fits T.assumed T.fits_mark T.in_step store.now self.old.theory self.old.marks.items self.old.trail self.old.clauses self.old.handed self.old.expanded journal.old.lines }
-        ensures alive { OnOk result (IsAlive T.fits T.assumed T.fits_mark T.in_step store.now self.new.theory self.new.marks.items self.new.trail self.new.clauses self.new.handed self.new.expanded journal.new.lines) }
-        ensures stated { (p : Problem) (g : ℕ) → p.signature ≡ store.now.signature → IsStated p g lines.old.items self.old.clauses self.old.places →
-            OnOk result (IsStated p g lines.new.items self.new.clauses self.new.places) }
+        requires falsified { AreFalse self.old.propagation.trail (map opposite block.deriv.hyps) }
+        requires alive { IsAlive T.fits T.assumed T.fits_mark T.in_step store.now self.old.theory self.old.marks.items self.old.propagation.trail self.old.propagation.clauses self.old.handed self.old.expanded journal.old.lines }
+        ensures alive { OnOk result (IsAlive T.fits T.assumed T.fits_mark T.in_step store.now self.new.theory self.new.marks.items self.new.propagation.trail self.new.propagation.clauses self.new.handed self.new.expanded journal.new.lines) }
+        ensures stated { (p : Problem) (g : ℕ) → p.signature ≡ store.now.signature → IsStated p g lines.old.items self.old.propagation.clauses self.old.places →
+            OnOk result (IsStated p g lines.new.items self.new.propagation.clauses self.new.places) }
         // The lines are allowed after a refusal, too.
-        ensures allowed { (p : Problem) (g : ℕ) → p.signature ≡ store.now.signature → IsStated p g lines.old.items self.old.clauses self.old.places → AreAllowed p g [] lines.new.items }
-        ensures legal { (setting : Setting) (bound : ℕ) → IsNamedBy setting store.now journal.old.lines → IsStated setting.problem setting.goal lines.old.items self.old.clauses self.old.places →
-            IsLawfulState setting self.old.trail self.old.clauses self.old.expanded lines.old.items journal.old.lines →
+        ensures allowed { (p : Problem) (g : ℕ) → p.signature ≡ store.now.signature → IsStated p g lines.old.items self.old.propagation.clauses self.old.places → AreAllowed p g [] lines.new.items }
+        ensures legal { (setting : Setting) (bound : ℕ) → IsNamedBy setting store.now journal.old.lines → IsStated setting.problem setting.goal lines.old.items self.old.propagation.clauses self.old.places →
+            IsLawfulState setting self.old.propagation.trail self.old.propagation.clauses self.old.expanded lines.old.items journal.old.lines →
             NotesLegally setting bound journal.old.lines journal.new.lines
-            × OnOk result (IsLawfulState setting self.new.trail self.new.clauses self.new.expanded lines.new.items journal.new.lines) }
+            × OnOk result (IsLawfulState setting self.new.propagation.trail self.new.propagation.clauses self.new.expanded lines.new.items journal.new.lines) }
         ensures steps { result ≡ Err OutOfSteps → counted_in journal.new.lines ≡ journal.new.limit }
         ensures journal { Keeps journal.old journal.new }
         ensures refuted { result ≡ Ok true → EndsEmpty lines.new.items }
@@ -212,13 +197,12 @@ where
     {
         let clause = opposites(self.alloc, block.deriv.hyps.as_slice())?;
         let place = lines.len();
-        let number = self.clauses.len();
+        let number = self.propagation.count();
         push_line(lines, ClauseLine::Block(block))?;
         self.attach(clause, place)?;
         let derived = derive(
             self.alloc,
-            &self.trail,
-            self.clauses.as_slice(),
+            &self.propagation,
             self.places.as_slice(),
             lines,
             number,
@@ -236,18 +220,18 @@ where
         lines: &mut Vec<ClauseLine>,
         learnt: Learnt,
     ) -> Result<bool, Fail>
-        requires learnt { (top : ℕ) × IsLearnt self.old.trail learnt top }
+        requires learnt { (top : ℕ) × IsLearnt self.old.propagation.trail learnt top }
         requires line { (before : List ClauseLine) × (hints : List ℕ) × (lines.old.items ≡ before ++ Rup learnt.clause hints ∷ []) }
-        requires alive { IsAlive T.fits T.assumed T.fits_mark T.in_step store.now self.old.theory self.old.marks.items self.old.trail self.old.clauses self.old.handed self.old.expanded journal.old.lines }
-        ensures alive { OnOk result (IsAlive T.fits T.assumed T.fits_mark T.in_step store.now self.new.theory self.new.marks.items self.new.trail self.new.clauses self.new.handed self.new.expanded journal.new.lines) }
-        ensures stated { (p : Problem) (g : ℕ) → p.signature ≡ store.now.signature → IsStated p g lines.old.items self.old.clauses self.old.places →
-            OnOk result (IsStated p g lines.new.items self.new.clauses self.new.places) }
+        requires alive { IsAlive T.fits T.assumed T.fits_mark T.in_step store.now self.old.theory self.old.marks.items self.old.propagation.trail self.old.propagation.clauses self.old.handed self.old.expanded journal.old.lines }
+        ensures alive { OnOk result (IsAlive T.fits T.assumed T.fits_mark T.in_step store.now self.new.theory self.new.marks.items self.new.propagation.trail self.new.propagation.clauses self.new.handed self.new.expanded journal.new.lines) }
+        ensures stated { (p : Problem) (g : ℕ) → p.signature ≡ store.now.signature → IsStated p g lines.old.items self.old.propagation.clauses self.old.places →
+            OnOk result (IsStated p g lines.new.items self.new.propagation.clauses self.new.places) }
         // The lines are allowed after a refusal, too.
-        ensures allowed { (p : Problem) (g : ℕ) → p.signature ≡ store.now.signature → IsStated p g lines.old.items self.old.clauses self.old.places → AreAllowed p g [] lines.new.items }
-        ensures legal { (setting : Setting) (bound : ℕ) → IsNamedBy setting store.now journal.old.lines → IsStated setting.problem setting.goal lines.old.items self.old.clauses self.old.places →
-            IsLawfulState setting self.old.trail self.old.clauses self.old.expanded lines.old.items journal.old.lines →
+        ensures allowed { (p : Problem) (g : ℕ) → p.signature ≡ store.now.signature → IsStated p g lines.old.items self.old.propagation.clauses self.old.places → AreAllowed p g [] lines.new.items }
+        ensures legal { (setting : Setting) (bound : ℕ) → IsNamedBy setting store.now journal.old.lines → IsStated setting.problem setting.goal lines.old.items self.old.propagation.clauses self.old.places →
+            IsLawfulState setting self.old.propagation.trail self.old.propagation.clauses self.old.expanded lines.old.items journal.old.lines →
             NotesLegally setting bound journal.old.lines journal.new.lines
-            × OnOk result (IsLawfulState setting self.new.trail self.new.clauses self.new.expanded lines.new.items journal.new.lines) }
+            × OnOk result (IsLawfulState setting self.new.propagation.trail self.new.propagation.clauses self.new.expanded lines.new.items journal.new.lines) }
         ensures steps { result ≡ Err OutOfSteps → counted_in journal.new.lines ≡ journal.new.limit }
         ensures journal { Keeps journal.old journal.new }
         ensures refuted { result ≡ Ok true → EndsEmpty lines.new.items }
@@ -278,29 +262,29 @@ where
         lines: &mut Vec<ClauseLine>,
         number: usize,
     ) -> Result<(), Fail>
-        requires within { number < length self.old.clauses }
-        requires untrue { ¬ HasTrue self.old.trail (clause self.old.clauses number) }
-        requires quiet { IsQuiet self.old.trail self.old.clauses }
-        requires told { self.old.handed ≡ length self.old.trail }
-        requires expanded { self.old.expanded ≡ length self.old.trail }
-        requires alive { IsAlive T.fits T.assumed T.fits_mark T.in_step store.now self.old.theory self.old.marks.items self.old.trail self.old.clauses self.old.handed self.old.expanded journal.old.lines }
-        ensures alive { OnOk result (IsAlive T.fits T.assumed T.fits_mark T.in_step store.now self.new.theory self.new.marks.items self.new.trail self.new.clauses self.new.handed self.new.expanded journal.new.lines) }
-        ensures stated { (p : Problem) (g : ℕ) → p.signature ≡ store.now.signature → IsStated p g lines.old.items self.old.clauses self.old.places →
-            OnOk result (IsStated p g lines.new.items self.new.clauses self.new.places) }
+        requires within { number < length self.old.propagation.clauses }
+        requires untrue { ¬ HasTrue self.old.propagation.trail (clause self.old.propagation.clauses number) }
+        requires quiet { IsQuiet self.old.propagation.trail self.old.propagation.clauses }
+        requires told { self.old.handed ≡ length self.old.propagation.trail }
+        requires expanded { self.old.expanded ≡ length self.old.propagation.trail }
+        requires alive { IsAlive T.fits T.assumed T.fits_mark T.in_step store.now self.old.theory self.old.marks.items self.old.propagation.trail self.old.propagation.clauses self.old.handed self.old.expanded journal.old.lines }
+        ensures alive { OnOk result (IsAlive T.fits T.assumed T.fits_mark T.in_step store.now self.new.theory self.new.marks.items self.new.propagation.trail self.new.propagation.clauses self.new.handed self.new.expanded journal.new.lines) }
+        ensures stated { (p : Problem) (g : ℕ) → p.signature ≡ store.now.signature → IsStated p g lines.old.items self.old.propagation.clauses self.old.places →
+            OnOk result (IsStated p g lines.new.items self.new.propagation.clauses self.new.places) }
         // The lines are allowed after a refusal, too.
-        ensures allowed { (p : Problem) (g : ℕ) → p.signature ≡ store.now.signature → IsStated p g lines.old.items self.old.clauses self.old.places → AreAllowed p g [] lines.new.items }
-        ensures legal { (setting : Setting) (bound : ℕ) → IsNamedBy setting store.now journal.old.lines → IsStated setting.problem setting.goal lines.old.items self.old.clauses self.old.places →
-            IsLawfulState setting self.old.trail self.old.clauses self.old.expanded lines.old.items journal.old.lines →
+        ensures allowed { (p : Problem) (g : ℕ) → p.signature ≡ store.now.signature → IsStated p g lines.old.items self.old.propagation.clauses self.old.places → AreAllowed p g [] lines.new.items }
+        ensures legal { (setting : Setting) (bound : ℕ) → IsNamedBy setting store.now journal.old.lines → IsStated setting.problem setting.goal lines.old.items self.old.propagation.clauses self.old.places →
+            IsLawfulState setting self.old.propagation.trail self.old.propagation.clauses self.old.expanded lines.old.items journal.old.lines →
             NotesLegally setting bound journal.old.lines journal.new.lines
-            × OnOk result (IsLawfulState setting self.new.trail self.new.clauses self.new.expanded lines.new.items journal.new.lines) }
+            × OnOk result (IsLawfulState setting self.new.propagation.trail self.new.propagation.clauses self.new.expanded lines.new.items journal.new.lines) }
         ensures steps { result ≡ Err OutOfSteps → counted_in journal.new.lines ≡ journal.new.limit }
         ensures journal { Keeps journal.old journal.new }
         ensures decided { OnOk result (Progresses journal.old journal.new) }
     {
         let lit = choose(
             self.alloc,
-            &self.trail,
-            self.clauses.as_slice()[number].as_slice(),
+            self.propagation.trail(),
+            self.propagation.clause_at(number),
             pick,
             self.turn,
         )?;
@@ -309,7 +293,9 @@ where
         Ok(())
     }
 
-    /// Searches until the clauses are refuted, or each of them has a true literal.
+    /// Searches until the clauses are refuted, or each of them has a true literal. It ends for every choice that answers
+    /// below its argument. It doesn't go back by itself for a given clause that came in while decisions stand: that its
+    /// lines are legal is said where no given clause fires below the present level, as it is while no decision stands.
     pub fn run(
         &mut self,
         store: &Store,
@@ -317,22 +303,22 @@ where
         pick: &Pick,
         lines: &mut Vec<ClauseLine>,
     ) -> Result<SatEnd, Fail>
-        requires alive { IsAlive T.fits T.assumed T.fits_mark T.in_step store.now self.old.theory self.old.marks.items self.old.trail self.old.clauses self.old.handed self.old.expanded journal.old.lines }
-        ensures alive { OnOk result (IsAlive T.fits T.assumed T.fits_mark T.in_step store.now self.new.theory self.new.marks.items self.new.trail self.new.clauses self.new.handed self.new.expanded journal.new.lines) }
-        ensures stated { (p : Problem) (g : ℕ) → p.signature ≡ store.now.signature → IsStated p g lines.old.items self.old.clauses self.old.places →
-            OnOk result (IsStated p g lines.new.items self.new.clauses self.new.places) }
+        requires alive { IsAlive T.fits T.assumed T.fits_mark T.in_step store.now self.old.theory self.old.marks.items self.old.propagation.trail self.old.propagation.clauses self.old.handed self.old.expanded journal.old.lines }
+        ensures alive { OnOk result (IsAlive T.fits T.assumed T.fits_mark T.in_step store.now self.new.theory self.new.marks.items self.new.propagation.trail self.new.propagation.clauses self.new.handed self.new.expanded journal.new.lines) }
+        ensures stated { (p : Problem) (g : ℕ) → p.signature ≡ store.now.signature → IsStated p g lines.old.items self.old.propagation.clauses self.old.places →
+            OnOk result (IsStated p g lines.new.items self.new.propagation.clauses self.new.places) }
         // The lines are allowed after a refusal, too.
-        ensures allowed { (p : Problem) (g : ℕ) → p.signature ≡ store.now.signature → IsStated p g lines.old.items self.old.clauses self.old.places → AreAllowed p g [] lines.new.items }
-        ensures legal { (setting : Setting) (bound : ℕ) → IsNamedBy setting store.now journal.old.lines → IsStated setting.problem setting.goal lines.old.items self.old.clauses self.old.places →
-            IsLawfulState setting self.old.trail self.old.clauses self.old.expanded lines.old.items journal.old.lines →
+        ensures allowed { (p : Problem) (g : ℕ) → p.signature ≡ store.now.signature → IsStated p g lines.old.items self.old.propagation.clauses self.old.places → AreAllowed p g [] lines.new.items }
+        ensures legal { (setting : Setting) (bound : ℕ) → IsNamedBy setting store.now journal.old.lines → IsStated setting.problem setting.goal lines.old.items self.old.propagation.clauses self.old.places →
+            IsLawfulState setting self.old.propagation.trail self.old.propagation.clauses self.old.expanded lines.old.items journal.old.lines →
             NotesLegally setting bound journal.old.lines journal.new.lines
-            × OnOk result (IsLawfulState setting self.new.trail self.new.clauses self.new.expanded lines.new.items journal.new.lines) }
+            × OnOk result (IsLawfulState setting self.new.propagation.trail self.new.propagation.clauses self.new.expanded lines.new.items journal.new.lines) }
         ensures steps { result ≡ Err OutOfSteps → counted_in journal.new.lines ≡ journal.new.limit }
         ensures journal { Keeps journal.old journal.new }
         // The empty clause is the last of the lines.
         ensures refuted { result ≡ Ok Refuted → EndsEmpty lines.new.items }
         // Each clause, and each row that a true literal calls for, has a true literal.
-        ensures open_clauses { result ≡ Ok Open → IsOpen self.new.trail self.new.clauses }
+        ensures open_clauses { result ≡ Ok Open → IsOpen self.new.propagation.trail self.new.propagation.clauses }
         ensures complete { result ≡ Ok Open → T.is_complete self.new.theory }
     {
         loop {

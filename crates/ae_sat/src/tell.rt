@@ -40,21 +40,21 @@ where
 {
     /// Tells the theory the next literal, if it is an atom.
     pub(crate) fn tell_one(&mut self, store: &Store) -> Result<(), AllocError>
-        requires left { self.old.handed < length self.old.trail }
+        requires left { self.old.handed < length self.old.propagation.trail }
         requires fits { T.fits self.old.theory store.now }
-        requires named { AreNamed store.now (at self.old.trail self.old.handed).lit.formula }
-        ensures running { (standing : List Line) → IsRunning T.assumed T.fits_mark T.in_step self.old.theory self.old.marks.items self.old.trail self.old.clauses self.old.handed standing
-            → IsRunning T.assumed T.fits_mark T.in_step self.new.theory self.new.marks.items self.new.trail self.new.clauses self.new.handed standing }
+        requires named { AreNamed store.now (at self.old.propagation.trail self.old.handed).lit.formula }
+        ensures running { (standing : List Line) → IsRunning T.assumed T.fits_mark T.in_step self.old.theory self.old.marks.items self.old.propagation.trail self.old.propagation.clauses self.old.handed standing
+            → IsRunning T.assumed T.fits_mark T.in_step self.new.theory self.new.marks.items self.new.propagation.trail self.new.propagation.clauses self.new.handed standing }
         ensures told { OnOk result (self.new.handed ≡ self.old.handed + 1) }
         ensures fits { T.fits self.new.theory store.now }
-        ensures trail { self.new.trail ≡ self.old.trail }
-        ensures clauses { self.new.clauses ≡ self.old.clauses }
+        ensures trail { self.new.propagation.trail ≡ self.old.propagation.trail }
+        ensures clauses { self.new.propagation.clauses ≡ self.old.propagation.clauses }
         ensures places { self.new.places ≡ self.old.places }
         ensures expanded { self.new.expanded ≡ self.old.expanded }
     {
         let place = self.handed;
-        let _size = self.trail.len();
-        let lit = self.trail.lit_at(place);
+        let _size = self.propagation.len();
+        let lit = self.propagation.lit_at(place);
         if !is_an_atom(&lit.formula) {
             self.handed = place + 1;
             return Ok(());
@@ -66,16 +66,16 @@ where
 
     /// Tells the theory all literals that are atoms.
     pub(crate) fn tell_all(&mut self, store: &Store) -> Result<(), AllocError>
-        requires alive { (js : List Line) × IsAlive T.fits T.assumed T.fits_mark T.in_step store.now self.old.theory self.old.marks.items self.old.trail self.old.clauses self.old.handed self.old.expanded js }
-        ensures alive { (js : List Line) → IsAlive T.fits T.assumed T.fits_mark T.in_step store.now self.old.theory self.old.marks.items self.old.trail self.old.clauses self.old.handed self.old.expanded js →
-            OnOk result (IsAlive T.fits T.assumed T.fits_mark T.in_step store.now self.new.theory self.new.marks.items self.new.trail self.new.clauses self.new.handed self.new.expanded js) }
-        ensures told { OnOk result (self.new.handed ≡ length self.new.trail) }
-        ensures trail { self.new.trail ≡ self.old.trail }
-        ensures clauses { self.new.clauses ≡ self.old.clauses }
+        requires alive { (js : List Line) × IsAlive T.fits T.assumed T.fits_mark T.in_step store.now self.old.theory self.old.marks.items self.old.propagation.trail self.old.propagation.clauses self.old.handed self.old.expanded js }
+        ensures alive { (js : List Line) → IsAlive T.fits T.assumed T.fits_mark T.in_step store.now self.old.theory self.old.marks.items self.old.propagation.trail self.old.propagation.clauses self.old.handed self.old.expanded js →
+            OnOk result (IsAlive T.fits T.assumed T.fits_mark T.in_step store.now self.new.theory self.new.marks.items self.new.propagation.trail self.new.propagation.clauses self.new.handed self.new.expanded js) }
+        ensures told { OnOk result (self.new.handed ≡ length self.new.propagation.trail) }
+        ensures trail { self.new.propagation.trail ≡ self.old.propagation.trail }
+        ensures clauses { self.new.propagation.clauses ≡ self.old.propagation.clauses }
         ensures places { self.new.places ≡ self.old.places }
         ensures expanded { self.new.expanded ≡ self.old.expanded }
     {
-        while self.handed < self.trail.len() {
+        while self.handed < self.propagation.len() {
             self.tell_one(store)?;
         }
         Ok(())

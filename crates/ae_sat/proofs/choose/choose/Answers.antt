@@ -3,8 +3,8 @@ use Rattle.std.proofs.lemmas.Result.{IfOk-weaker}
 use Rattle.std.specs.List.{Contains}
 use Rattle.ae_core.specs.declared.formulas.Lit.{Lit}
 use Rattle.ae_explain.specs.Trail.{IsFalse, place_in}
-use Rattle.ae_sat.specs.Settled.{IsNotFalse}
-use Rattle.ae_sat.proofs.Settling.{is_open}
+use Rattle.ae_propagation.specs.Inner.Scan.{IsNotFalse}
+use Rattle.ae_propagation.proofs.Settling.{is_open}
 use Rattle.ae_sat.proofs.Choosing.{IsChosen, not_false_at, chosen_yes, chosen_no}
 use Rattle.ae_sat.proofs.choose.choose.Goals.{then-not-is_false+in_ok-push, else-not-is_false}
 use Rattle.ae_sat.proofs.choose.choose.Goals as goal

@@ -16,19 +16,19 @@ returns-in_ok-attach_row-clause-continues g c =
     let a = c.attach_row.new.self in
     let e = c.in_ok-attach_row.ensures in
     record {
-      alive = λ store js h. attach_alive g.T.Equalities.fits g.T.Theory.assumed g.T.Theory.fits_mark g.T.Theory.in_step store s.theory a.theory s.marks.items a.marks.items s.trail a.trail s.clauses a.clauses s.handed a.handed
+      alive = λ store js h. attach_alive g.T.Equalities.fits g.T.Theory.assumed g.T.Theory.fits_mark g.T.Theory.in_step store s.theory a.theory s.marks.items a.marks.items s.propagation.trail a.propagation.trail s.propagation.clauses a.propagation.clauses s.handed a.handed
           s.expanded a.expanded js c.in-Some.clause
           h (e.running (live js) h.running) (e.named store h.named) e.theory e.trail e.clauses e.handed e.expanded;
       stated = e.stated;
       state = e.state;
       formulas = λ fs h among.
           let r = c.requires.alive.2.running in
-          let q : row c.args.number (at s.trail c.args.place).lit.formula ≡ Some c.in-Some.clause = sym (ap (λ (l : Lit). row c.args.number l.formula) c.lit_at.ensures) ∙ (sym c.in_ok-found.ensures ∙ c.in-Some.is) in
-          subst (AllAmong fs) (sym e.clauses) (row_among s.trail s.clauses r.lawful r.stands c.args.place c.args.number c.in-Some.clause c.requires.within q fs h among);
+          let q : row c.args.number (at s.propagation.trail c.args.place).lit.formula ≡ Some c.in-Some.clause = sym (ap (λ (l : Lit). row c.args.number l.formula) c.lit_at.ensures) ∙ (sym c.in_ok-found.ensures ∙ c.in-Some.is) in
+          subst (AllAmong fs) (sym e.clauses) (row_among s.propagation.trail s.propagation.clauses r.lawful r.stands c.args.place c.args.number c.in-Some.clause c.requires.within q fs h among);
     }
 
 pub returns-in_ok-attach_row-clause-has : goal.returns-in_ok-attach_row-clause-has
 returns-in_ok-attach_row-clause-has g c d e =
     let s = c.args.self.now in
     let q : Some c.in-Some.clause ≡ Some d = sym c.in-Some.is ∙ (c.in_ok-found.ensures ∙ (ap (λ (l : Lit). row c.args.number l.formula) c.lit_at.ensures ∙ e)) in
-    subst (λ (w : _). IsOneOf w d) (sym c.in_ok-attach_row.ensures.clauses) (subst (λ (w : Clause). IsOneOf (s.clauses ++ c.in-Some.clause ∷ []) w) (let r : c.in-Some.clause ≡ d = cc in r) (new_one s.clauses c.in-Some.clause))
+    subst (λ (w : _). IsOneOf w d) (sym c.in_ok-attach_row.ensures.clauses) (subst (λ (w : Clause). IsOneOf (s.propagation.clauses ++ c.in-Some.clause ∷ []) w) (let r : c.in-Some.clause ≡ d = cc in r) (new_one s.propagation.clauses c.in-Some.clause))

@@ -13,7 +13,7 @@ pub loop-number-init : goal.loop-number-init
 loop-number-init g c =
     let s = c.args.self.now in
     record {
-      continues = continues_same g.T.Equalities.fits g.T.Theory.assumed g.T.Theory.fits_mark g.T.Theory.in_step s.theory s.marks.items s.trail s.clauses s.places s.handed s.expanded c.args.lines.now.items;
+      continues = continues_same g.T.Equalities.fits g.T.Theory.assumed g.T.Theory.fits_mark g.T.Theory.in_step s.theory s.marks.items s.propagation.trail s.propagation.clauses s.places s.handed s.expanded c.args.lines.now.items;
       trail = refl;
       expanded = refl;
       has = λ k r d l. absurd (omega (arith, l));
@@ -32,11 +32,11 @@ loop-number-preserved g c =
     let a = c.attach_number.new.self in
     let e = c.in_ok-attach_number.ensures in
     record {
-      continues = continues_more g.T.Equalities.fits g.T.Theory.assumed g.T.Theory.fits_mark g.T.Theory.in_step s.theory l.self.theory a.theory s.marks.items l.self.marks.items a.marks.items s.trail l.self.trail a.trail s.clauses
-          l.self.clauses a.clauses s.places l.self.places a.places s.handed l.self.handed a.handed s.expanded l.self.expanded a.expanded c.args.lines.now.items l.lines.items c.attach_number.new.lines.items l.invariant.continues e.continues;
+      continues = continues_more g.T.Equalities.fits g.T.Theory.assumed g.T.Theory.fits_mark g.T.Theory.in_step s.theory l.self.theory a.theory s.marks.items l.self.marks.items a.marks.items s.propagation.trail l.self.propagation.trail a.propagation.trail s.propagation.clauses
+          l.self.propagation.clauses a.propagation.clauses s.places l.self.places a.places s.handed l.self.handed a.handed s.expanded l.self.expanded a.expanded c.args.lines.now.items l.lines.items c.attach_number.new.lines.items l.invariant.continues e.continues;
       trail = e.trail ∙ l.invariant.trail;
       expanded = e.expanded ∙ l.invariant.expanded;
-      has = λ k r d. numbers_each (λ w. row w (at s.trail s.expanded).lit.formula ≡ Some d → IsOneOf a.clauses d) c.as_slice-number-items.result.now l.number-index c.loop-number-test.true
+      has = λ k r d. numbers_each (λ w. row w (at s.propagation.trail s.expanded).lit.formula ≡ Some d → IsOneOf a.propagation.clauses d) c.as_slice-number-items.result.now l.number-index c.loop-number-test.true
           (λ q. e.has d (ap (λ (t : List Assigned). row (get_or c.as_slice-number-items.result.now l.number-index 0) (at t s.expanded).lit.formula) l.invariant.trail ∙ q))
           (λ j w lt is q. e.still d (l.invariant.has j w d lt is q)) k r;
     }
@@ -46,11 +46,11 @@ returns-clause-continues g c =
     let s = c.args.self.now in
     let l = c.loop-number in
     let ns = c.as_slice-number-items.result.now in
-    let en : ns ≡ called_rows (at s.trail s.expanded).lit.positive (at s.trail s.expanded).lit.formula = c.as_slice-number-items.ensures ∙ (c.in_ok-numbers.ensures ∙ ap (λ (x : Lit). called_rows x.positive x.formula) c.lit_at.ensures) in
-    let own : HasRowsOf s.trail s.expanded l.self.clauses = λ r d h q.
+    let en : ns ≡ called_rows (at s.propagation.trail s.expanded).lit.positive (at s.propagation.trail s.expanded).lit.formula = c.as_slice-number-items.ensures ∙ (c.in_ok-numbers.ensures ∙ ap (λ (x : Lit). called_rows x.positive x.formula) c.lit_at.ensures) in
+    let own : HasRowsOf s.propagation.trail s.expanded l.self.propagation.clauses = λ r d h q.
     let k = subst (λ (w : List ℕ). Contains w r) (sym en) h in
     l.invariant.has k.0 r d (omega (arith, k.1, c.loop-number-test.false)) k.2 q in
-    next_continues g.T.Equalities.fits g.T.Theory.assumed g.T.Theory.fits_mark g.T.Theory.in_step s.theory l.self.theory s.marks.items l.self.marks.items s.trail l.self.trail s.clauses l.self.clauses s.places l.self.places
+    next_continues g.T.Equalities.fits g.T.Theory.assumed g.T.Theory.fits_mark g.T.Theory.in_step s.theory l.self.theory s.marks.items l.self.marks.items s.propagation.trail l.self.propagation.trail s.propagation.clauses l.self.propagation.clauses s.places l.self.places
     s.handed l.self.handed s.expanded l.self.expanded c.args.lines.now.items l.lines.items l.invariant.continues l.invariant.trail l.invariant.expanded c.requires.left own
 
 pub returns-clause-next : goal.returns-clause-next

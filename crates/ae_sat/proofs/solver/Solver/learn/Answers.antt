@@ -10,7 +10,7 @@ use Rattle.ae_sat.proofs.solver.Solver.learn.Goals as goal
 pub take_in-requires-clause-learnt : goal.take_in-requires-clause-learnt
 take_in-requires-clause-learnt g c =
     let e = c.in_ok-learnt.ensures in
-    (greatest_of c.args.self.now.trail (clause c.as_slice.result.now c.args.falsified), record { false_ones = e.false_ones; empty = e.empty; one = e.one; highest = e.highest; level = e.level })
+    (greatest_of c.args.self.now.propagation.trail (clause c.args.self.now.propagation.clauses c.args.falsified), record { false_ones = e.false_ones; empty = e.empty; one = e.one; highest = e.highest; level = e.level })
 
 pub take_in-requires-clause-line : goal.take_in-requires-clause-line
 take_in-requires-clause-line g c = (c.args.lines.now.items, c.in_ok-learnt.ensures.line.0, c.in_ok-learnt.ensures.line.1)
@@ -18,43 +18,39 @@ take_in-requires-clause-line g c = (c.args.lines.now.items, c.in_ok-learnt.ensur
 pub returns-clause-stated : goal.returns-clause-stated
 returns-clause-stated g c p n sig old =
     let s = c.args.self.now in
-    let u = s.clauses in
+    let u = s.propagation.clauses in
     let ks = c.args.lines.now.items in
     let new = c.derive.new.lines.items in
     let stated : IsStated p n new u s.places =
-    subst (λ (v : List Clause). IsStated p n new v s.places) c.as_slice.ensures (subst (λ (v : List ℕ). IsStated p n new c.as_slice.result.now v) c.as_slice-2.ensures
-    (c.in_ok-learnt.ensures.stated p n (subst (λ (v : List Clause). IsStated p n ks v c.as_slice-2.result.now) (sym c.as_slice.ensures) (subst (λ (v : List ℕ). IsStated p n ks u v) (sym c.as_slice-2.ensures) old)))) in
+    subst (λ (v : List ℕ). IsStated p n new u v) c.as_slice.ensures (c.in_ok-learnt.ensures.stated p n (subst (λ (v : List ℕ). IsStated p n ks u v) (sym c.as_slice.ensures) old)) in
     c.take_in.ensures.stated p n sig stated
 
 pub returns-clause-legal : goal.returns-clause-legal
 returns-clause-legal g c setting bound sig old state =
     let s = c.args.self.now in
-    let u = s.clauses in
+    let u = s.propagation.clauses in
     let ks = c.args.lines.now.items in
     let new = c.derive.new.lines.items in
     let stated : IsStated setting.problem setting.goal new u s.places =
-    subst (λ (v : List Clause). IsStated setting.problem setting.goal new v s.places) c.as_slice.ensures (subst (λ (v : List ℕ). IsStated setting.problem setting.goal new c.as_slice.result.now v) c.as_slice-2.ensures
-    (c.in_ok-learnt.ensures.stated setting.problem setting.goal (subst (λ (v : List Clause). IsStated setting.problem setting.goal ks v c.as_slice-2.result.now) (sym c.as_slice.ensures)
-    (subst (λ (v : List ℕ). IsStated setting.problem setting.goal ks u v) (sym c.as_slice-2.ensures) old)))) in
-    c.take_in.ensures.legal setting bound sig stated (line_state setting s.trail u s.expanded ks new c.args.journal.now.lines (Rup c.in_ok-learnt.learnt.clause c.in_ok-learnt.ensures.line.0) c.in_ok-learnt.ensures.line.1 tt state)
+    subst (λ (v : List ℕ). IsStated setting.problem setting.goal new u v) c.as_slice.ensures
+    (c.in_ok-learnt.ensures.stated setting.problem setting.goal (subst (λ (v : List ℕ). IsStated setting.problem setting.goal ks u v) (sym c.as_slice.ensures) old)) in
+    c.take_in.ensures.legal setting bound sig stated (line_state setting s.propagation.trail u s.expanded ks new c.args.journal.now.lines (Rup c.in_ok-learnt.learnt.clause c.in_ok-learnt.ensures.line.0) c.in_ok-learnt.ensures.line.1 tt state)
 
 pub returns-in_err-learnt-clause-allowed : goal.returns-in_err-learnt-clause-allowed
 returns-in_err-learnt-clause-allowed g c p n sig old =
     let s = c.args.self.now in
-    let u = s.clauses in
+    let u = s.propagation.clauses in
     let ks = c.args.lines.now.items in
-    let before : IsStated p n ks c.as_slice.result.now c.as_slice-2.result.now =
-    subst (λ (v : List Clause). IsStated p n ks v c.as_slice-2.result.now) (sym c.as_slice.ensures) (subst (λ (v : List ℕ). IsStated p n ks u v) (sym c.as_slice-2.ensures) old) in
+    let before : IsStated p n ks u c.as_slice.result.now = subst (λ (v : List ℕ). IsStated p n ks u v) (sym c.as_slice.ensures) old in
     (c.in_err-learnt.ensures.stated p n before).allowed
 
 pub returns-clause-allowed : goal.returns-clause-allowed
 returns-clause-allowed g c p n sig old =
     let s = c.args.self.now in
-    let u = s.clauses in
+    let u = s.propagation.clauses in
     let ks = c.args.lines.now.items in
-    let before : IsStated p n ks c.as_slice.result.now c.as_slice-2.result.now =
-    subst (λ (v : List Clause). IsStated p n ks v c.as_slice-2.result.now) (sym c.as_slice.ensures) (subst (λ (v : List ℕ). IsStated p n ks u v) (sym c.as_slice-2.ensures) old) in
+    let before : IsStated p n ks u c.as_slice.result.now = subst (λ (v : List ℕ). IsStated p n ks u v) (sym c.as_slice.ensures) old in
     let new = c.derive.new.lines.items in
     let stated : IsStated p n new u s.places =
-    subst (λ (v : List Clause). IsStated p n new v s.places) c.as_slice.ensures (subst (λ (v : List ℕ). IsStated p n new c.as_slice.result.now v) c.as_slice-2.ensures (c.in_ok-learnt.ensures.stated p n before)) in
+    subst (λ (v : List ℕ). IsStated p n new u v) c.as_slice.ensures (c.in_ok-learnt.ensures.stated p n before) in
     c.take_in.ensures.allowed p n sig stated

@@ -16,26 +16,26 @@ use Rattle.ae_sat.proofs.solver.Solver.learn_block.Goals as goal
 pub derive-derived-requires-clause-lawful : goal.derive-derived-requires-clause-lawful
 derive-derived-requires-clause-lawful g c =
     let s = c.args.self.now in
-    let eu : c.as_slice-2.result.now ≡ s.clauses ++ c.in_ok-clause.clause ∷ [] = c.as_slice-2.ensures ∙ c.in_ok-attach.ensures.clauses in
-    subst (λ (w : List Assigned). IsLawful w c.as_slice-2.result.now) (sym c.in_ok-attach.ensures.trail)
-    (subst (λ (w : List Clause). IsLawful s.trail w) (sym eu) (lawful_clause s.trail s.clauses c.in_ok-clause.clause c.requires.alive.running.lawful))
+    let eu : c.attach.new.self.propagation.clauses ≡ s.propagation.clauses ++ c.in_ok-clause.clause ∷ [] = c.in_ok-attach.ensures.clauses in
+    subst (λ (w : List Assigned). IsLawful w c.attach.new.self.propagation.clauses) (sym c.in_ok-attach.ensures.trail)
+    (subst (λ (w : List Clause). IsLawful s.propagation.trail w) (sym eu) (lawful_clause s.propagation.trail s.propagation.clauses c.in_ok-clause.clause c.requires.alive.running.lawful))
 
 pub derive-derived-requires-clause-falsified : goal.derive-derived-requires-clause-falsified
 derive-derived-requires-clause-falsified g c =
     let s = c.args.self.now in
     let cl = c.in_ok-clause.clause in
-    let eu : c.as_slice-2.result.now ≡ s.clauses ++ cl ∷ [] = c.as_slice-2.ensures ∙ c.in_ok-attach.ensures.clauses in
+    let eu : c.attach.new.self.propagation.clauses ≡ s.propagation.clauses ++ cl ∷ [] = c.in_ok-attach.ensures.clauses in
     let ec : cl ≡ map opposite c.args.block.deriv.hyps = c.in_ok-clause.ensures ∙ ap (map opposite) c.as_slice.ensures in
-    let at_end : clause c.as_slice-2.result.now c.len-number.result ≡ map opposite c.args.block.deriv.hyps =
-    ap (λ (w : List Clause). clause w c.len-number.result) eu ∙ (ap (clause (s.clauses ++ cl ∷ [])) c.len-number.ensures ∙ (get_or-append_seam s.clauses cl [] [] ∙ ec)) in
-    subst (λ (w : List Assigned). AreFalse w (clause c.as_slice-2.result.now c.len-number.result)) (sym c.in_ok-attach.ensures.trail) (subst (AreFalse s.trail) (sym at_end) c.requires.falsified)
+    let at_end : clause c.attach.new.self.propagation.clauses c.count-number.result ≡ map opposite c.args.block.deriv.hyps =
+    ap (λ (w : List Clause). clause w c.count-number.result) eu ∙ (ap (clause (s.propagation.clauses ++ cl ∷ [])) c.count-number.ensures ∙ (get_or-append_seam s.propagation.clauses cl [] [] ∙ ec)) in
+    subst (λ (w : List Assigned). AreFalse w (clause c.attach.new.self.propagation.clauses c.count-number.result)) (sym c.in_ok-attach.ensures.trail) (subst (AreFalse s.propagation.trail) (sym at_end) c.requires.falsified)
 
 pub take_in-requires-clause-learnt : goal.take_in-requires-clause-learnt
 take_in-requires-clause-learnt g c =
     let e = c.in_ok-learnt.ensures in
     let r = c.in_ok-learnt.learnt in
-    let top = greatest_of c.attach.new.self.trail (clause c.as_slice-2.result.now c.len-number.result) in
-    let is : IsLearnt c.attach.new.self.trail r top = record { false_ones = e.false_ones; empty = e.empty; one = e.one; highest = e.highest; level = e.level } in
+    let top = greatest_of c.attach.new.self.propagation.trail (clause c.attach.new.self.propagation.clauses c.count-number.result) in
+    let is : IsLearnt c.attach.new.self.propagation.trail r top = record { false_ones = e.false_ones; empty = e.empty; one = e.one; highest = e.highest; level = e.level } in
     (top, subst (λ (w : List Assigned). IsLearnt w r top) (sym c.detach.ensures.trail) is)
 
 pub returns-clause-stated : goal.returns-clause-stated
@@ -49,19 +49,19 @@ returns-clause-stated g c p n sig old =
     let new = c.derive-derived.new.lines.items in
     let ec : c.in_ok-clause.clause ≡ cl = c.in_ok-clause.ensures ∙ ap (map opposite) c.as_slice.ensures in
     let ek : mid ≡ ks ++ Block b ∷ [] = c.in_ok-push_line.ensures.ok in
-    let eu : c.as_slice-2.result.now ≡ s.clauses ++ cl ∷ [] = c.as_slice-2.ensures ∙ (c.in_ok-attach.ensures.clauses ∙ ap (λ (w : Clause). s.clauses ++ w ∷ []) ec) in
-    let ep : c.as_slice-3.result.now ≡ s.places ++ length ks ∷ [] = c.as_slice-3.ensures ∙ (c.in_ok-attach.ensures.places ∙ ap (λ (k : ℕ). s.places ++ k ∷ []) (c.len-place.ensures ∙ c.args.lines.now.ok.0)) in
-    let first : IsStated p n (ks ++ Block b ∷ []) (s.clauses ++ cl ∷ []) (s.places ++ length ks ∷ []) =
-    block_stated p n ks s.clauses s.places b old (subst (λ (w : _). IsContradictory w b) (sym sig) c.requires.contradictory) (subst (λ (w : _). clause_ok w b.deriv.hyps ≡ true) (sym sig) c.requires.sorted) in
-    let there : IsStated p n mid c.as_slice-2.result.now c.as_slice-3.result.now =
-    subst (λ (w : List ClauseLine). IsStated p n w c.as_slice-2.result.now c.as_slice-3.result.now) (sym ek)
-    (subst (λ (w : List Clause). IsStated p n (ks ++ Block b ∷ []) w c.as_slice-3.result.now) (sym eu) (subst (λ (w : List ℕ). IsStated p n (ks ++ Block b ∷ []) (s.clauses ++ cl ∷ []) w) (sym ep) first)) in
-    let then : IsStated p n new (s.clauses ++ cl ∷ []) (s.places ++ length ks ∷ []) =
-    subst (λ (w : List Clause). IsStated p n new w (s.places ++ length ks ∷ [])) eu (subst (λ (w : List ℕ). IsStated p n new c.as_slice-2.result.now w) ep (c.in_ok-learnt.ensures.stated p n there)) in
-    let du : d.clauses ≡ s.clauses = c.detach.ensures.clauses s.clauses c.in_ok-clause.clause c.in_ok-attach.ensures.clauses in
+    let eu : c.attach.new.self.propagation.clauses ≡ s.propagation.clauses ++ cl ∷ [] = (c.in_ok-attach.ensures.clauses ∙ ap (λ (w : Clause). s.propagation.clauses ++ w ∷ []) ec) in
+    let ep : c.as_slice-2.result.now ≡ s.places ++ length ks ∷ [] = c.as_slice-2.ensures ∙ (c.in_ok-attach.ensures.places ∙ ap (λ (k : ℕ). s.places ++ k ∷ []) (c.len-place.ensures ∙ c.args.lines.now.ok.0)) in
+    let first : IsStated p n (ks ++ Block b ∷ []) (s.propagation.clauses ++ cl ∷ []) (s.places ++ length ks ∷ []) =
+    block_stated p n ks s.propagation.clauses s.places b old (subst (λ (w : _). IsContradictory w b) (sym sig) c.requires.contradictory) (subst (λ (w : _). clause_ok w b.deriv.hyps ≡ true) (sym sig) c.requires.sorted) in
+    let there : IsStated p n mid c.attach.new.self.propagation.clauses c.as_slice-2.result.now =
+    subst (λ (w : List ClauseLine). IsStated p n w c.attach.new.self.propagation.clauses c.as_slice-2.result.now) (sym ek)
+    (subst (λ (w : List Clause). IsStated p n (ks ++ Block b ∷ []) w c.as_slice-2.result.now) (sym eu) (subst (λ (w : List ℕ). IsStated p n (ks ++ Block b ∷ []) (s.propagation.clauses ++ cl ∷ []) w) (sym ep) first)) in
+    let then : IsStated p n new (s.propagation.clauses ++ cl ∷ []) (s.places ++ length ks ∷ []) =
+    subst (λ (w : List Clause). IsStated p n new w (s.places ++ length ks ∷ [])) eu (subst (λ (w : List ℕ). IsStated p n new c.attach.new.self.propagation.clauses w) ep (c.in_ok-learnt.ensures.stated p n there)) in
+    let du : d.propagation.clauses ≡ s.propagation.clauses = c.detach.ensures.clauses s.propagation.clauses c.in_ok-clause.clause c.in_ok-attach.ensures.clauses in
     let dp : d.places ≡ s.places = c.detach.ensures.places s.places c.len-place.result c.in_ok-attach.ensures.places in
-    let last : IsStated p n new d.clauses d.places =
-    subst (λ (w : List Clause). IsStated p n new w d.places) (sym du) (subst (λ (w : List ℕ). IsStated p n new s.clauses w) (sym dp) (first_stated p n new s.clauses s.places cl (length ks) then)) in
+    let last : IsStated p n new d.propagation.clauses d.places =
+    subst (λ (w : List Clause). IsStated p n new w d.places) (sym du) (subst (λ (w : List ℕ). IsStated p n new s.propagation.clauses w) (sym dp) (first_stated p n new s.propagation.clauses s.places cl (length ks) then)) in
     c.take_in.ensures.stated p n sig last
 
 pub returns-clause-legal : goal.returns-clause-legal
@@ -76,30 +76,30 @@ returns-clause-legal g c setting bound sig old state =
     let new = c.derive-derived.new.lines.items in
     let ec : c.in_ok-clause.clause ≡ cl = c.in_ok-clause.ensures ∙ ap (map opposite) c.as_slice.ensures in
     let ek : mid ≡ ks ++ Block b ∷ [] = c.in_ok-push_line.ensures.ok in
-    let eu : c.as_slice-2.result.now ≡ s.clauses ++ cl ∷ [] = c.as_slice-2.ensures ∙ (c.in_ok-attach.ensures.clauses ∙ ap (λ (w : Clause). s.clauses ++ w ∷ []) ec) in
-    let ep : c.as_slice-3.result.now ≡ s.places ++ length ks ∷ [] = c.as_slice-3.ensures ∙ (c.in_ok-attach.ensures.places ∙ ap (λ (k : ℕ). s.places ++ k ∷ []) (c.len-place.ensures ∙ c.args.lines.now.ok.0)) in
-    let first : IsStated setting.problem setting.goal (ks ++ Block b ∷ []) (s.clauses ++ cl ∷ []) (s.places ++ length ks ∷ []) =
-    block_stated setting.problem setting.goal ks s.clauses s.places b old (subst (λ (w : _). IsContradictory w b) (sym sig.signature) c.requires.contradictory)
+    let eu : c.attach.new.self.propagation.clauses ≡ s.propagation.clauses ++ cl ∷ [] = (c.in_ok-attach.ensures.clauses ∙ ap (λ (w : Clause). s.propagation.clauses ++ w ∷ []) ec) in
+    let ep : c.as_slice-2.result.now ≡ s.places ++ length ks ∷ [] = c.as_slice-2.ensures ∙ (c.in_ok-attach.ensures.places ∙ ap (λ (k : ℕ). s.places ++ k ∷ []) (c.len-place.ensures ∙ c.args.lines.now.ok.0)) in
+    let first : IsStated setting.problem setting.goal (ks ++ Block b ∷ []) (s.propagation.clauses ++ cl ∷ []) (s.places ++ length ks ∷ []) =
+    block_stated setting.problem setting.goal ks s.propagation.clauses s.places b old (subst (λ (w : _). IsContradictory w b) (sym sig.signature) c.requires.contradictory)
     (subst (λ (w : _). clause_ok w b.deriv.hyps ≡ true) (sym sig.signature) c.requires.sorted) in
-    let there : IsStated setting.problem setting.goal mid c.as_slice-2.result.now c.as_slice-3.result.now =
-    subst (λ (w : List ClauseLine). IsStated setting.problem setting.goal w c.as_slice-2.result.now c.as_slice-3.result.now) (sym ek)
-    (subst (λ (w : List Clause). IsStated setting.problem setting.goal (ks ++ Block b ∷ []) w c.as_slice-3.result.now) (sym eu)
-    (subst (λ (w : List ℕ). IsStated setting.problem setting.goal (ks ++ Block b ∷ []) (s.clauses ++ cl ∷ []) w) (sym ep) first)) in
-    let then : IsStated setting.problem setting.goal new (s.clauses ++ cl ∷ []) (s.places ++ length ks ∷ []) =
+    let there : IsStated setting.problem setting.goal mid c.attach.new.self.propagation.clauses c.as_slice-2.result.now =
+    subst (λ (w : List ClauseLine). IsStated setting.problem setting.goal w c.attach.new.self.propagation.clauses c.as_slice-2.result.now) (sym ek)
+    (subst (λ (w : List Clause). IsStated setting.problem setting.goal (ks ++ Block b ∷ []) w c.as_slice-2.result.now) (sym eu)
+    (subst (λ (w : List ℕ). IsStated setting.problem setting.goal (ks ++ Block b ∷ []) (s.propagation.clauses ++ cl ∷ []) w) (sym ep) first)) in
+    let then : IsStated setting.problem setting.goal new (s.propagation.clauses ++ cl ∷ []) (s.places ++ length ks ∷ []) =
     subst (λ (w : List Clause). IsStated setting.problem setting.goal new w (s.places ++ length ks ∷ [])) eu
-    (subst (λ (w : List ℕ). IsStated setting.problem setting.goal new c.as_slice-2.result.now w) ep (c.in_ok-learnt.ensures.stated setting.problem setting.goal there)) in
-    let du : d.clauses ≡ s.clauses = c.detach.ensures.clauses s.clauses c.in_ok-clause.clause c.in_ok-attach.ensures.clauses in
+    (subst (λ (w : List ℕ). IsStated setting.problem setting.goal new c.attach.new.self.propagation.clauses w) ep (c.in_ok-learnt.ensures.stated setting.problem setting.goal there)) in
+    let du : d.propagation.clauses ≡ s.propagation.clauses = c.detach.ensures.clauses s.propagation.clauses c.in_ok-clause.clause c.in_ok-attach.ensures.clauses in
     let dp : d.places ≡ s.places = c.detach.ensures.places s.places c.len-place.result c.in_ok-attach.ensures.places in
-    let last : IsStated setting.problem setting.goal new d.clauses d.places =
+    let last : IsStated setting.problem setting.goal new d.propagation.clauses d.places =
     subst (λ (w : List Clause). IsStated setting.problem setting.goal new w d.places) (sym du)
-    (subst (λ (w : List ℕ). IsStated setting.problem setting.goal new s.clauses w) (sym dp) (first_stated setting.problem setting.goal new s.clauses s.places cl (length ks) then)) in
-    let dt : d.trail ≡ s.trail = c.detach.ensures.trail ∙ c.in_ok-attach.ensures.trail in
+    (subst (λ (w : List ℕ). IsStated setting.problem setting.goal new s.propagation.clauses w) (sym dp) (first_stated setting.problem setting.goal new s.propagation.clauses s.places cl (length ks) then)) in
+    let dt : d.propagation.trail ≡ s.propagation.trail = c.detach.ensures.trail ∙ c.in_ok-attach.ensures.trail in
     let de : d.expanded ≡ s.expanded = c.detach.ensures.expanded ∙ c.in_ok-attach.ensures.expanded in
     let r = c.in_ok-learnt.learnt in
     let hints = c.in_ok-learnt.ensures.line.0 in
-    let one : IsLawfulState setting s.trail s.clauses s.expanded mid js = line_state setting s.trail s.clauses s.expanded ks mid js (Block b) ek tt state in
-    let two : IsLawfulState setting s.trail s.clauses s.expanded new js = line_state setting s.trail s.clauses s.expanded mid new js (Rup r.clause hints) c.in_ok-learnt.ensures.line.1 tt one in
-    c.take_in.ensures.legal setting bound sig last (state_same setting s.trail d.trail s.clauses d.clauses s.expanded d.expanded new js dt du de two)
+    let one : IsLawfulState setting s.propagation.trail s.propagation.clauses s.expanded mid js = line_state setting s.propagation.trail s.propagation.clauses s.expanded ks mid js (Block b) ek tt state in
+    let two : IsLawfulState setting s.propagation.trail s.propagation.clauses s.expanded new js = line_state setting s.propagation.trail s.propagation.clauses s.expanded mid new js (Rup r.clause hints) c.in_ok-learnt.ensures.line.1 tt one in
+    c.take_in.ensures.legal setting bound sig last (state_same setting s.propagation.trail d.propagation.trail s.propagation.clauses d.propagation.clauses s.expanded d.expanded new js dt du de two)
 
 pub returns-in_err-attach-clause-allowed : goal.returns-in_err-attach-clause-allowed
 returns-in_err-attach-clause-allowed g c p n sig old =
@@ -108,8 +108,8 @@ returns-in_err-attach-clause-allowed g c p n sig old =
     let ks = c.args.lines.now.items in
     let mid = c.push_line.new.lines.items in
     let ek : mid ≡ ks ++ Block b ∷ [] = c.in_ok-push_line.ensures.ok in
-    let first : IsStated p n (ks ++ Block b ∷ []) (s.clauses ++ map opposite b.deriv.hyps ∷ []) (s.places ++ length ks ∷ []) =
-    block_stated p n ks s.clauses s.places b old (subst (λ (w : _). IsContradictory w b) (sym sig) c.requires.contradictory) (subst (λ (w : _). clause_ok w b.deriv.hyps ≡ true) (sym sig) c.requires.sorted) in
+    let first : IsStated p n (ks ++ Block b ∷ []) (s.propagation.clauses ++ map opposite b.deriv.hyps ∷ []) (s.places ++ length ks ∷ []) =
+    block_stated p n ks s.propagation.clauses s.places b old (subst (λ (w : _). IsContradictory w b) (sym sig) c.requires.contradictory) (subst (λ (w : _). clause_ok w b.deriv.hyps ≡ true) (sym sig) c.requires.sorted) in
     subst (AreAllowed p n []) (sym ek) first.allowed
 
 pub returns-in_err-learnt-clause-allowed : goal.returns-in_err-learnt-clause-allowed
@@ -123,13 +123,13 @@ returns-in_err-learnt-clause-allowed g c p n sig old =
     let new = c.derive-derived.new.lines.items in
     let ec : c.in_ok-clause.clause ≡ cl = c.in_ok-clause.ensures ∙ ap (map opposite) c.as_slice.ensures in
     let ek : mid ≡ ks ++ Block b ∷ [] = c.in_ok-push_line.ensures.ok in
-    let eu : c.as_slice-2.result.now ≡ s.clauses ++ cl ∷ [] = c.as_slice-2.ensures ∙ (c.in_ok-attach.ensures.clauses ∙ ap (λ (w : Clause). s.clauses ++ w ∷ []) ec) in
-    let ep : c.as_slice-3.result.now ≡ s.places ++ length ks ∷ [] = c.as_slice-3.ensures ∙ (c.in_ok-attach.ensures.places ∙ ap (λ (k : ℕ). s.places ++ k ∷ []) (c.len-place.ensures ∙ c.args.lines.now.ok.0)) in
-    let first : IsStated p n (ks ++ Block b ∷ []) (s.clauses ++ cl ∷ []) (s.places ++ length ks ∷ []) =
-    block_stated p n ks s.clauses s.places b old (subst (λ (w : _). IsContradictory w b) (sym sig) c.requires.contradictory) (subst (λ (w : _). clause_ok w b.deriv.hyps ≡ true) (sym sig) c.requires.sorted) in
-    let there : IsStated p n mid c.as_slice-2.result.now c.as_slice-3.result.now =
-    subst (λ (w : List ClauseLine). IsStated p n w c.as_slice-2.result.now c.as_slice-3.result.now) (sym ek)
-    (subst (λ (w : List Clause). IsStated p n (ks ++ Block b ∷ []) w c.as_slice-3.result.now) (sym eu) (subst (λ (w : List ℕ). IsStated p n (ks ++ Block b ∷ []) (s.clauses ++ cl ∷ []) w) (sym ep) first)) in
+    let eu : c.attach.new.self.propagation.clauses ≡ s.propagation.clauses ++ cl ∷ [] = (c.in_ok-attach.ensures.clauses ∙ ap (λ (w : Clause). s.propagation.clauses ++ w ∷ []) ec) in
+    let ep : c.as_slice-2.result.now ≡ s.places ++ length ks ∷ [] = c.as_slice-2.ensures ∙ (c.in_ok-attach.ensures.places ∙ ap (λ (k : ℕ). s.places ++ k ∷ []) (c.len-place.ensures ∙ c.args.lines.now.ok.0)) in
+    let first : IsStated p n (ks ++ Block b ∷ []) (s.propagation.clauses ++ cl ∷ []) (s.places ++ length ks ∷ []) =
+    block_stated p n ks s.propagation.clauses s.places b old (subst (λ (w : _). IsContradictory w b) (sym sig) c.requires.contradictory) (subst (λ (w : _). clause_ok w b.deriv.hyps ≡ true) (sym sig) c.requires.sorted) in
+    let there : IsStated p n mid c.attach.new.self.propagation.clauses c.as_slice-2.result.now =
+    subst (λ (w : List ClauseLine). IsStated p n w c.attach.new.self.propagation.clauses c.as_slice-2.result.now) (sym ek)
+    (subst (λ (w : List Clause). IsStated p n (ks ++ Block b ∷ []) w c.as_slice-2.result.now) (sym eu) (subst (λ (w : List ℕ). IsStated p n (ks ++ Block b ∷ []) (s.propagation.clauses ++ cl ∷ []) w) (sym ep) first)) in
     (c.in_err-learnt.ensures.stated p n there).allowed
 
 pub returns-clause-allowed : goal.returns-clause-allowed
@@ -143,17 +143,17 @@ returns-clause-allowed g c p n sig old =
     let new = c.derive-derived.new.lines.items in
     let ec : c.in_ok-clause.clause ≡ cl = c.in_ok-clause.ensures ∙ ap (map opposite) c.as_slice.ensures in
     let ek : mid ≡ ks ++ Block b ∷ [] = c.in_ok-push_line.ensures.ok in
-    let eu : c.as_slice-2.result.now ≡ s.clauses ++ cl ∷ [] = c.as_slice-2.ensures ∙ (c.in_ok-attach.ensures.clauses ∙ ap (λ (w : Clause). s.clauses ++ w ∷ []) ec) in
-    let ep : c.as_slice-3.result.now ≡ s.places ++ length ks ∷ [] = c.as_slice-3.ensures ∙ (c.in_ok-attach.ensures.places ∙ ap (λ (k : ℕ). s.places ++ k ∷ []) (c.len-place.ensures ∙ c.args.lines.now.ok.0)) in
-    let first : IsStated p n (ks ++ Block b ∷ []) (s.clauses ++ cl ∷ []) (s.places ++ length ks ∷ []) =
-    block_stated p n ks s.clauses s.places b old (subst (λ (w : _). IsContradictory w b) (sym sig) c.requires.contradictory) (subst (λ (w : _). clause_ok w b.deriv.hyps ≡ true) (sym sig) c.requires.sorted) in
-    let there : IsStated p n mid c.as_slice-2.result.now c.as_slice-3.result.now =
-    subst (λ (w : List ClauseLine). IsStated p n w c.as_slice-2.result.now c.as_slice-3.result.now) (sym ek)
-    (subst (λ (w : List Clause). IsStated p n (ks ++ Block b ∷ []) w c.as_slice-3.result.now) (sym eu) (subst (λ (w : List ℕ). IsStated p n (ks ++ Block b ∷ []) (s.clauses ++ cl ∷ []) w) (sym ep) first)) in
-    let then : IsStated p n new (s.clauses ++ cl ∷ []) (s.places ++ length ks ∷ []) =
-    subst (λ (w : List Clause). IsStated p n new w (s.places ++ length ks ∷ [])) eu (subst (λ (w : List ℕ). IsStated p n new c.as_slice-2.result.now w) ep (c.in_ok-learnt.ensures.stated p n there)) in
-    let du : d.clauses ≡ s.clauses = c.detach.ensures.clauses s.clauses c.in_ok-clause.clause c.in_ok-attach.ensures.clauses in
+    let eu : c.attach.new.self.propagation.clauses ≡ s.propagation.clauses ++ cl ∷ [] = (c.in_ok-attach.ensures.clauses ∙ ap (λ (w : Clause). s.propagation.clauses ++ w ∷ []) ec) in
+    let ep : c.as_slice-2.result.now ≡ s.places ++ length ks ∷ [] = c.as_slice-2.ensures ∙ (c.in_ok-attach.ensures.places ∙ ap (λ (k : ℕ). s.places ++ k ∷ []) (c.len-place.ensures ∙ c.args.lines.now.ok.0)) in
+    let first : IsStated p n (ks ++ Block b ∷ []) (s.propagation.clauses ++ cl ∷ []) (s.places ++ length ks ∷ []) =
+    block_stated p n ks s.propagation.clauses s.places b old (subst (λ (w : _). IsContradictory w b) (sym sig) c.requires.contradictory) (subst (λ (w : _). clause_ok w b.deriv.hyps ≡ true) (sym sig) c.requires.sorted) in
+    let there : IsStated p n mid c.attach.new.self.propagation.clauses c.as_slice-2.result.now =
+    subst (λ (w : List ClauseLine). IsStated p n w c.attach.new.self.propagation.clauses c.as_slice-2.result.now) (sym ek)
+    (subst (λ (w : List Clause). IsStated p n (ks ++ Block b ∷ []) w c.as_slice-2.result.now) (sym eu) (subst (λ (w : List ℕ). IsStated p n (ks ++ Block b ∷ []) (s.propagation.clauses ++ cl ∷ []) w) (sym ep) first)) in
+    let then : IsStated p n new (s.propagation.clauses ++ cl ∷ []) (s.places ++ length ks ∷ []) =
+    subst (λ (w : List Clause). IsStated p n new w (s.places ++ length ks ∷ [])) eu (subst (λ (w : List ℕ). IsStated p n new c.attach.new.self.propagation.clauses w) ep (c.in_ok-learnt.ensures.stated p n there)) in
+    let du : d.propagation.clauses ≡ s.propagation.clauses = c.detach.ensures.clauses s.propagation.clauses c.in_ok-clause.clause c.in_ok-attach.ensures.clauses in
     let dp : d.places ≡ s.places = c.detach.ensures.places s.places c.len-place.result c.in_ok-attach.ensures.places in
-    let last : IsStated p n new d.clauses d.places =
-    subst (λ (w : List Clause). IsStated p n new w d.places) (sym du) (subst (λ (w : List ℕ). IsStated p n new s.clauses w) (sym dp) (first_stated p n new s.clauses s.places cl (length ks) then)) in
+    let last : IsStated p n new d.propagation.clauses d.places =
+    subst (λ (w : List Clause). IsStated p n new w d.places) (sym du) (subst (λ (w : List ℕ). IsStated p n new s.propagation.clauses w) (sym dp) (first_stated p n new s.propagation.clauses s.places cl (length ks) then)) in
     c.take_in.ensures.allowed p n sig last

@@ -31,7 +31,7 @@ returns-in_err-saturate-clause-legal g c setting bound sig st state =
     let one = c.in_ok-k.ensures.continues.state setting js st state in
     let t = c.tell_all.new.self in
     let e = c.in_ok-tell_all.ensures in
-    let two = state_same setting b.trail t.trail b.clauses t.clauses b.expanded t.expanded c.settle_rows.new.lines.items js e.trail e.clauses e.expanded one in
+    let two = state_same setting b.propagation.trail t.propagation.trail b.propagation.clauses t.propagation.clauses b.expanded t.expanded c.settle_rows.new.lines.items js e.trail e.clauses e.expanded one in
     let pr = c.saturate.ensures.legal setting bound c.settle_rows.new.lines.items sig two in
     (pr.0, search rules)
 
@@ -43,7 +43,7 @@ returns-in_err-block-in-Conflict-clause-legal g c setting bound sig st state =
     let one = c.in_ok-k.ensures.continues.state setting js st state in
     let t = c.tell_all.new.self in
     let e = c.in_ok-tell_all.ensures in
-    let two = state_same setting b.trail t.trail b.clauses t.clauses b.expanded t.expanded c.settle_rows.new.lines.items js e.trail e.clauses e.expanded one in
+    let two = state_same setting b.propagation.trail t.propagation.trail b.propagation.clauses t.propagation.clauses b.expanded t.expanded c.settle_rows.new.lines.items js e.trail e.clauses e.expanded one in
     let pr = c.saturate.ensures.legal setting bound c.settle_rows.new.lines.items sig two in
     (pr.0, search rules)
 
@@ -55,7 +55,7 @@ returns-in-Complete-clause-legal g c setting bound sig st state =
     let one = c.in_ok-k.ensures.continues.state setting js st state in
     let t = c.tell_all.new.self in
     let e = c.in_ok-tell_all.ensures in
-    let two = state_same setting b.trail t.trail b.clauses t.clauses b.expanded t.expanded c.settle_rows.new.lines.items js e.trail e.clauses e.expanded one in
+    let two = state_same setting b.propagation.trail t.propagation.trail b.propagation.clauses t.propagation.clauses b.expanded t.expanded c.settle_rows.new.lines.items js e.trail e.clauses e.expanded one in
     let pr = c.saturate.ensures.legal setting bound c.settle_rows.new.lines.items sig two in
     (pr.0, pr.1)
 
@@ -67,7 +67,7 @@ returns-in_ok-block-in-Conflict-clause-legal g c setting bound sig st state =
     let one = c.in_ok-k.ensures.continues.state setting js st state in
     let t = c.tell_all.new.self in
     let e = c.in_ok-tell_all.ensures in
-    let two = state_same setting b.trail t.trail b.clauses t.clauses b.expanded t.expanded c.settle_rows.new.lines.items js e.trail e.clauses e.expanded one in
+    let two = state_same setting b.propagation.trail t.propagation.trail b.propagation.clauses t.propagation.clauses b.expanded t.expanded c.settle_rows.new.lines.items js e.trail e.clauses e.expanded one in
     let pr = c.saturate.ensures.legal setting bound c.settle_rows.new.lines.items sig two in
     (pr.0, pr.1)
 
@@ -88,11 +88,11 @@ returns-in_ok-block-in-Conflict-clause-block g c b e =
     let a = c.saturate.new.self in
     let x = c.in_ok-block-in-Conflict.field-0 in
     let n = c.in_ok-saturate.ensures in
-    let told : a.handed ≡ length a.trail = n.handed ∙ (c.in_ok-tell_all.ensures.told ∙ ap length (sym n.trail)) in
-    let all : g.T.Theory.assumed a.theory ≡ atoms a.trail = n.alive.running.told_all ∙ ap atoms (ap (λ (k : ℕ). take k a.trail) told ∙ take-length a.trail) in
+    let told : a.handed ≡ length a.propagation.trail = n.handed ∙ (c.in_ok-tell_all.ensures.told ∙ ap length (sym n.trail)) in
+    let all : g.T.Theory.assumed a.theory ≡ atoms a.propagation.trail = n.alive.running.told_all ∙ ap atoms (ap (λ (k : ℕ). take k a.propagation.trail) told ∙ take-length a.propagation.trail) in
     let q : x.block ≡ b = cc in
-    subst (λ (w : Block). IsContradictory c.args.store.now.signature w × (clause_ok c.args.store.now.signature w.deriv.hyps ≡ true) × AreFalse a.trail (map opposite w.deriv.hyps)) q
-    (c.in_ok-block-in-Conflict.ensures.contradictory, c.in_ok-block-in-Conflict.ensures.sorted, block_false a.trail (g.T.Theory.assumed a.theory) all x.block.deriv.hyps x.tags c.in_ok-block-in-Conflict.ensures.tags)
+    subst (λ (w : Block). IsContradictory c.args.store.now.signature w × (clause_ok c.args.store.now.signature w.deriv.hyps ≡ true) × AreFalse a.propagation.trail (map opposite w.deriv.hyps)) q
+    (c.in_ok-block-in-Conflict.ensures.contradictory, c.in_ok-block-in-Conflict.ensures.sorted, block_false a.propagation.trail (g.T.Theory.assumed a.theory) all x.block.deriv.hyps x.tags c.in_ok-block-in-Conflict.ensures.tags)
 
 pub returns-in_err-k-clause-allowed : goal.returns-in_err-k-clause-allowed
 returns-in_err-k-clause-allowed g c p n sig st = c.in_err-k.ensures.allowed p n st

@@ -8,11 +8,11 @@ use Rattle.ae_theory.specs.Names.{IsNamedBy}
 
 abbrev pub invariant-loop-k : goal.invariant-loop-k
 invariant-loop-k g l = record {
-  alive : IsAlive g.T.Equalities.fits g.T.Theory.assumed g.T.Theory.fits_mark g.T.Theory.in_step l.store l.self.theory l.self.marks.items l.self.trail l.self.clauses l.self.handed l.self.expanded l.journal.lines;
-  stated : (p : Problem) (n : ℕ) → p.signature ≡ l.store.signature → IsStated p n l.fn.lines.items l.fn.self.clauses l.fn.self.places → IsStated p n l.lines.items l.self.clauses l.self.places;
-  legal : (setting : Setting) (bound : ℕ) → IsNamedBy setting l.store l.fn.journal.lines → IsStated setting.problem setting.goal l.fn.lines.items l.fn.self.clauses l.fn.self.places
-      → IsLawfulState setting l.fn.self.trail l.fn.self.clauses l.fn.self.expanded l.fn.lines.items l.fn.journal.lines
-      → NotesLegally setting bound l.fn.journal.lines l.journal.lines × IsLawfulState setting l.self.trail l.self.clauses l.self.expanded l.lines.items l.journal.lines;
+  alive : IsAlive g.T.Equalities.fits g.T.Theory.assumed g.T.Theory.fits_mark g.T.Theory.in_step l.store l.self.theory l.self.marks.items l.self.propagation.trail l.self.propagation.clauses l.self.handed l.self.expanded l.journal.lines;
+  stated : (p : Problem) (n : ℕ) → p.signature ≡ l.store.signature → IsStated p n l.fn.lines.items l.fn.self.propagation.clauses l.fn.self.places → IsStated p n l.lines.items l.self.propagation.clauses l.self.places;
+  legal : (setting : Setting) (bound : ℕ) → IsNamedBy setting l.store l.fn.journal.lines → IsStated setting.problem setting.goal l.fn.lines.items l.fn.self.propagation.clauses l.fn.self.places
+      → IsLawfulState setting l.fn.self.propagation.trail l.fn.self.propagation.clauses l.fn.self.expanded l.fn.lines.items l.fn.journal.lines
+      → NotesLegally setting bound l.fn.journal.lines l.journal.lines × IsLawfulState setting l.self.propagation.trail l.self.propagation.clauses l.self.expanded l.lines.items l.journal.lines;
   journal : Keeps l.fn.journal l.journal;
 }
 

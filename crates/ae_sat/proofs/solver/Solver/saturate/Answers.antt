@@ -16,19 +16,19 @@ pub returns-clause-legal : goal.returns-clause-legal
 returns-clause-legal g c setting bound lines named state =
     let s = c.args.self.now in
     let j = c.args.journal.now in
-    let all : g.T.Theory.assumed s.theory ≡ atoms s.trail = c.requires.alive.running.told_all ∙ ap atoms (ap (λ (k : ℕ). take k s.trail) c.requires.told ∙ take-length s.trail) in
+    let all : g.T.Theory.assumed s.theory ≡ atoms s.propagation.trail = c.requires.alive.running.told_all ∙ ap atoms (ap (λ (k : ℕ). take k s.propagation.trail) c.requires.told ∙ take-length s.propagation.trail) in
     let may : MayAll setting (literals (g.T.Theory.assumed s.theory)) j.lines = λ l h.
-    atoms_stand (MayStand setting j.lines) 0 s.trail (trail_may_stand setting s.trail s.clauses j.lines c.requires.alive.running.lawful c.requires.alive.running.decided state.possible) l
+    atoms_stand (MayStand setting j.lines) 0 s.propagation.trail (trail_may_stand setting s.propagation.trail s.propagation.clauses j.lines c.requires.alive.running.lawful c.requires.alive.running.decided state.possible) l
     (subst (λ (w : List Tagged). Contains (literals w) l) all h) in (
       theory_notes setting bound j c.saturate.new.journal c.saturate.ensures.noted (c.saturate.ensures.legal setting bound named may),
-      theory_leaves setting s.trail s.clauses s.expanded lines j c.saturate.new.journal c.saturate.ensures.noted state,
+      theory_leaves setting s.propagation.trail s.propagation.clauses s.expanded lines j c.saturate.new.journal c.saturate.ensures.noted state,
     )
 
 pub returns-clause-alive : goal.returns-clause-alive
 returns-clause-alive g c =
     let s = c.args.self.now in
     on_ok_more _ _ c.saturate.result c.saturate.ensures.step (λ st. record {
-      running = theory_runs g.T.Theory.assumed g.T.Theory.fits_mark g.T.Theory.in_step s.theory c.saturate.new.self s.marks.items s.trail s.clauses s.handed c.args.journal.now c.saturate.new.journal
+      running = theory_runs g.T.Theory.assumed g.T.Theory.fits_mark g.T.Theory.in_step s.theory c.saturate.new.self s.marks.items s.propagation.trail s.propagation.clauses s.handed c.args.journal.now c.saturate.new.journal
           c.requires.alive.running c.saturate.ensures.assumed c.saturate.ensures.marks c.saturate.ensures.noted st;
       fits_store = c.saturate.ensures.fits;
       named = c.requires.alive.named;

@@ -6,7 +6,7 @@ use Rattle.ae_sat.specs.Search.{IsStated}
 use Rattle.ae_sat.proofs.solver.Solver.settle_rows.Goals as goal
 
 pub loop-k-init : goal.loop-k-init
-loop-k-init g c = let s = c.args.self.now in continues_same g.T.Equalities.fits g.T.Theory.assumed g.T.Theory.fits_mark g.T.Theory.in_step s.theory s.marks.items s.trail s.clauses s.places s.handed s.expanded c.args.lines.now.items
+loop-k-init g c = let s = c.args.self.now in continues_same g.T.Equalities.fits g.T.Theory.assumed g.T.Theory.fits_mark g.T.Theory.in_step s.theory s.marks.items s.propagation.trail s.propagation.clauses s.places s.handed s.expanded c.args.lines.now.items
 
 pub settle_trail-requires-clause-lawful : goal.settle_trail-requires-clause-lawful
 settle_trail-requires-clause-lawful g c = (c.loop-k.invariant.alive c.requires.alive.0 c.requires.alive.1 c.requires.alive.2).running.lawful
@@ -22,9 +22,9 @@ returns-in-Falsified-clause-continues g c =
     let s = c.args.self.now in
     let l = c.loop-k in
     let a = c.settle_trail.new.self in
-    continues_more g.T.Equalities.fits g.T.Theory.assumed g.T.Theory.fits_mark g.T.Theory.in_step s.theory l.self.theory a.theory s.marks.items l.self.marks.items a.marks.items s.trail l.self.trail a.trail s.clauses l.self.clauses
-    a.clauses s.places l.self.places a.places s.handed l.self.handed a.handed s.expanded l.self.expanded a.expanded c.args.lines.now.items l.lines.items l.lines.items l.invariant
-    (grown_continues g.T.Equalities.fits g.T.Theory.assumed g.T.Theory.fits_mark g.T.Theory.in_step l.self.theory a.theory l.self.marks.items a.marks.items l.self.trail a.trail l.self.clauses a.clauses l.self.places a.places
+    continues_more g.T.Equalities.fits g.T.Theory.assumed g.T.Theory.fits_mark g.T.Theory.in_step s.theory l.self.theory a.theory s.marks.items l.self.marks.items a.marks.items s.propagation.trail l.self.propagation.trail a.propagation.trail s.propagation.clauses l.self.propagation.clauses
+    a.propagation.clauses s.places l.self.places a.places s.handed l.self.handed a.handed s.expanded l.self.expanded a.expanded c.args.lines.now.items l.lines.items l.lines.items l.invariant
+    (grown_continues g.T.Equalities.fits g.T.Theory.assumed g.T.Theory.fits_mark g.T.Theory.in_step l.self.theory a.theory l.self.marks.items a.marks.items l.self.propagation.trail a.propagation.trail l.self.propagation.clauses a.propagation.clauses l.self.places a.places
     l.self.handed a.handed l.self.expanded a.expanded l.lines.items
     c.settle_trail.ensures.running c.settle_trail.ensures.state c.settle_trail.ensures.grown c.settle_trail.ensures.theory c.settle_trail.ensures.clauses c.settle_trail.ensures.places c.settle_trail.ensures.handed
     c.settle_trail.ensures.expanded)
@@ -34,9 +34,9 @@ returns-then-len-self-clause-continues g c =
     let s = c.args.self.now in
     let l = c.loop-k in
     let a = c.settle_trail.new.self in
-    continues_more g.T.Equalities.fits g.T.Theory.assumed g.T.Theory.fits_mark g.T.Theory.in_step s.theory l.self.theory a.theory s.marks.items l.self.marks.items a.marks.items s.trail l.self.trail a.trail s.clauses l.self.clauses
-    a.clauses s.places l.self.places a.places s.handed l.self.handed a.handed s.expanded l.self.expanded a.expanded c.args.lines.now.items l.lines.items l.lines.items l.invariant
-    (grown_continues g.T.Equalities.fits g.T.Theory.assumed g.T.Theory.fits_mark g.T.Theory.in_step l.self.theory a.theory l.self.marks.items a.marks.items l.self.trail a.trail l.self.clauses a.clauses l.self.places a.places
+    continues_more g.T.Equalities.fits g.T.Theory.assumed g.T.Theory.fits_mark g.T.Theory.in_step s.theory l.self.theory a.theory s.marks.items l.self.marks.items a.marks.items s.propagation.trail l.self.propagation.trail a.propagation.trail s.propagation.clauses l.self.propagation.clauses
+    a.propagation.clauses s.places l.self.places a.places s.handed l.self.handed a.handed s.expanded l.self.expanded a.expanded c.args.lines.now.items l.lines.items l.lines.items l.invariant
+    (grown_continues g.T.Equalities.fits g.T.Theory.assumed g.T.Theory.fits_mark g.T.Theory.in_step l.self.theory a.theory l.self.marks.items a.marks.items l.self.propagation.trail a.propagation.trail l.self.propagation.clauses a.propagation.clauses l.self.places a.places
     l.self.handed a.handed l.self.expanded a.expanded l.lines.items
     c.settle_trail.ensures.running c.settle_trail.ensures.state c.settle_trail.ensures.grown c.settle_trail.ensures.theory c.settle_trail.ensures.clauses c.settle_trail.ensures.places c.settle_trail.ensures.handed
     c.settle_trail.ensures.expanded)
@@ -46,9 +46,9 @@ expand_one-requires-clause-alive g c =
     let s = c.args.self.now in
     let l = c.loop-k in
     let a = c.settle_trail.new.self in
-    let r = continues_more g.T.Equalities.fits g.T.Theory.assumed g.T.Theory.fits_mark g.T.Theory.in_step s.theory l.self.theory a.theory s.marks.items l.self.marks.items a.marks.items s.trail l.self.trail a.trail s.clauses
-    l.self.clauses a.clauses s.places l.self.places a.places s.handed l.self.handed a.handed s.expanded l.self.expanded a.expanded c.args.lines.now.items l.lines.items l.lines.items l.invariant
-    (grown_continues g.T.Equalities.fits g.T.Theory.assumed g.T.Theory.fits_mark g.T.Theory.in_step l.self.theory a.theory l.self.marks.items a.marks.items l.self.trail a.trail l.self.clauses a.clauses l.self.places a.places
+    let r = continues_more g.T.Equalities.fits g.T.Theory.assumed g.T.Theory.fits_mark g.T.Theory.in_step s.theory l.self.theory a.theory s.marks.items l.self.marks.items a.marks.items s.propagation.trail l.self.propagation.trail a.propagation.trail s.propagation.clauses
+    l.self.propagation.clauses a.propagation.clauses s.places l.self.places a.places s.handed l.self.handed a.handed s.expanded l.self.expanded a.expanded c.args.lines.now.items l.lines.items l.lines.items l.invariant
+    (grown_continues g.T.Equalities.fits g.T.Theory.assumed g.T.Theory.fits_mark g.T.Theory.in_step l.self.theory a.theory l.self.marks.items a.marks.items l.self.propagation.trail a.propagation.trail l.self.propagation.clauses a.propagation.clauses l.self.places a.places
     l.self.handed a.handed l.self.expanded a.expanded l.lines.items
     c.settle_trail.ensures.running c.settle_trail.ensures.state c.settle_trail.ensures.grown c.settle_trail.ensures.theory c.settle_trail.ensures.clauses c.settle_trail.ensures.places c.settle_trail.ensures.handed
     c.settle_trail.ensures.expanded) in
@@ -59,16 +59,16 @@ loop-k-smaller g c =
     let s = c.args.self.now in
     let l = c.loop-k in
     let a = c.settle_trail.new.self in
-    let r = continues_more g.T.Equalities.fits g.T.Theory.assumed g.T.Theory.fits_mark g.T.Theory.in_step s.theory l.self.theory a.theory s.marks.items l.self.marks.items a.marks.items s.trail l.self.trail a.trail s.clauses
-    l.self.clauses a.clauses s.places l.self.places a.places s.handed l.self.handed a.handed s.expanded l.self.expanded a.expanded c.args.lines.now.items l.lines.items l.lines.items l.invariant
-    (grown_continues g.T.Equalities.fits g.T.Theory.assumed g.T.Theory.fits_mark g.T.Theory.in_step l.self.theory a.theory l.self.marks.items a.marks.items l.self.trail a.trail l.self.clauses a.clauses l.self.places a.places
+    let r = continues_more g.T.Equalities.fits g.T.Theory.assumed g.T.Theory.fits_mark g.T.Theory.in_step s.theory l.self.theory a.theory s.marks.items l.self.marks.items a.marks.items s.propagation.trail l.self.propagation.trail a.propagation.trail s.propagation.clauses
+    l.self.propagation.clauses a.propagation.clauses s.places l.self.places a.places s.handed l.self.handed a.handed s.expanded l.self.expanded a.expanded c.args.lines.now.items l.lines.items l.lines.items l.invariant
+    (grown_continues g.T.Equalities.fits g.T.Theory.assumed g.T.Theory.fits_mark g.T.Theory.in_step l.self.theory a.theory l.self.marks.items a.marks.items l.self.propagation.trail a.propagation.trail l.self.propagation.clauses a.propagation.clauses l.self.places a.places
     l.self.handed a.handed l.self.expanded a.expanded l.lines.items
     c.settle_trail.ensures.running c.settle_trail.ensures.state c.settle_trail.ensures.grown c.settle_trail.ensures.theory c.settle_trail.ensures.clauses c.settle_trail.ensures.places c.settle_trail.ensures.handed
     c.settle_trail.ensures.expanded) in
     let w = (r.alive c.requires.alive.0 c.requires.alive.1 c.requires.alive.2).running in
-    let short : length a.trail ≤ length (all_formulas s.clauses) =
-    trail_within a.trail a.clauses w.lawful w.stands (all_formulas s.clauses) (r.formulas (all_formulas s.clauses) (all_parts s.clauses) (all_among s.clauses)) in
-    let left : a.expanded < length a.trail = search rules in
+    let short : length a.propagation.trail ≤ length (all_formulas s.propagation.clauses) =
+    trail_within a.propagation.trail a.propagation.clauses w.lawful w.stands (all_formulas s.propagation.clauses) (r.formulas (all_formulas s.propagation.clauses) (all_parts s.propagation.clauses) (all_among s.propagation.clauses)) in
+    let left : a.expanded < length a.propagation.trail = search rules in
     omega (arith, short, left, c.in_ok-expand_one.ensures.next, c.settle_trail.ensures.expanded)
 
 pub loop-k-preserved : goal.loop-k-preserved
@@ -77,11 +77,11 @@ loop-k-preserved g c =
     let l = c.loop-k in
     let a = c.settle_trail.new.self in
     let b = c.expand_one.new.self in
-    continues_more g.T.Equalities.fits g.T.Theory.assumed g.T.Theory.fits_mark g.T.Theory.in_step s.theory a.theory b.theory s.marks.items a.marks.items b.marks.items s.trail a.trail b.trail s.clauses a.clauses b.clauses s.places
+    continues_more g.T.Equalities.fits g.T.Theory.assumed g.T.Theory.fits_mark g.T.Theory.in_step s.theory a.theory b.theory s.marks.items a.marks.items b.marks.items s.propagation.trail a.propagation.trail b.propagation.trail s.propagation.clauses a.propagation.clauses b.propagation.clauses s.places
     a.places b.places s.handed a.handed b.handed s.expanded a.expanded b.expanded c.args.lines.now.items l.lines.items c.expand_one.new.lines.items
-    (continues_more g.T.Equalities.fits g.T.Theory.assumed g.T.Theory.fits_mark g.T.Theory.in_step s.theory l.self.theory a.theory s.marks.items l.self.marks.items a.marks.items s.trail l.self.trail a.trail s.clauses
-    l.self.clauses a.clauses s.places l.self.places a.places s.handed l.self.handed a.handed s.expanded l.self.expanded a.expanded c.args.lines.now.items l.lines.items l.lines.items l.invariant
-    (grown_continues g.T.Equalities.fits g.T.Theory.assumed g.T.Theory.fits_mark g.T.Theory.in_step l.self.theory a.theory l.self.marks.items a.marks.items l.self.trail a.trail l.self.clauses a.clauses l.self.places a.places
+    (continues_more g.T.Equalities.fits g.T.Theory.assumed g.T.Theory.fits_mark g.T.Theory.in_step s.theory l.self.theory a.theory s.marks.items l.self.marks.items a.marks.items s.propagation.trail l.self.propagation.trail a.propagation.trail s.propagation.clauses
+    l.self.propagation.clauses a.propagation.clauses s.places l.self.places a.places s.handed l.self.handed a.handed s.expanded l.self.expanded a.expanded c.args.lines.now.items l.lines.items l.lines.items l.invariant
+    (grown_continues g.T.Equalities.fits g.T.Theory.assumed g.T.Theory.fits_mark g.T.Theory.in_step l.self.theory a.theory l.self.marks.items a.marks.items l.self.propagation.trail a.propagation.trail l.self.propagation.clauses a.propagation.clauses l.self.places a.places
     l.self.handed a.handed l.self.expanded a.expanded l.lines.items
     c.settle_trail.ensures.running c.settle_trail.ensures.state c.settle_trail.ensures.grown c.settle_trail.ensures.theory c.settle_trail.ensures.clauses c.settle_trail.ensures.places c.settle_trail.ensures.handed
     c.settle_trail.ensures.expanded))
@@ -101,4 +101,4 @@ returns-in_err-expand_one-clause-allowed g c p n st =
     let l = c.loop-k in
     let a = c.settle_trail.new.self in
     c.in_err-expand_one.ensures.allowed p n (subst (λ (w : List Clause). IsStated p n l.lines.items w a.places) (sym c.settle_trail.ensures.clauses)
-    (subst (λ (w : List ℕ). IsStated p n l.lines.items l.self.clauses w) (sym c.settle_trail.ensures.places) (l.invariant.stated p n st)))
+    (subst (λ (w : List ℕ). IsStated p n l.lines.items l.self.propagation.clauses w) (sym c.settle_trail.ensures.places) (l.invariant.stated p n st)))

@@ -14,14 +14,14 @@ use Rattle.ae_sat.proofs.solver.Solver.take_in.Goals as goal
 pub go_back-requires-clause-running : goal.go_back-requires-clause-running
 go_back-requires-clause-running g c =
     let s = c.args.self.now in
-    learn_runs g.T.Theory.assumed g.T.Theory.fits_mark g.T.Theory.in_step s.theory s.marks.items s.trail s.clauses s.handed c.args.journal.now.lines c.note.new.journal.lines c.in_ok-noted.noted
+    learn_runs g.T.Theory.assumed g.T.Theory.fits_mark g.T.Theory.in_step s.theory s.marks.items s.propagation.trail s.propagation.clauses s.handed c.args.journal.now.lines c.note.new.journal.lines c.in_ok-noted.noted
     c.requires.alive.running (λ js h. g.met.T.Theory.silent s.theory js (line.Learn c.in_ok-noted.noted) refl h) (ap (λ (n : Noted). n.lines) c.in_ok-note.ensures.ok)
 
 pub go_back-requires-clause-within : goal.go_back-requires-clause-within
 go_back-requires-clause-within g c =
     let s = c.args.self.now in
-    let t = s.trail in
-    let u = s.clauses in
+    let t = s.propagation.trail in
+    let u = s.propagation.clauses in
     let r = c.args.learnt in
     let top = c.requires.learnt.0 in
     let some : r.clause ≢ [] = λ e. true≢false (sym (c.if-is_empty.ensures.1 e)) in
@@ -64,8 +64,8 @@ returns-clause-learnt g c e =
 pub returns-in_err-go_back-clause-legal : goal.returns-in_err-go_back-clause-legal
 returns-in_err-go_back-clause-legal g c setting bound sig old state2 =
     let s = c.args.self.now in
-    let t = s.trail in
-    let u = s.clauses in
+    let t = s.propagation.trail in
+    let u = s.propagation.clauses in
     let r = c.args.learnt in
     let top = c.requires.learnt.0 in
     let some : r.clause ≢ [] = λ e. true≢false (sym (c.if-is_empty.ensures.1 e)) in
@@ -86,8 +86,8 @@ returns-in_err-go_back-clause-legal g c setting bound sig old state2 =
 pub returns-in_err-attach-clause-legal : goal.returns-in_err-attach-clause-legal
 returns-in_err-attach-clause-legal g c setting bound sig old state2 =
     let s = c.args.self.now in
-    let t = s.trail in
-    let u = s.clauses in
+    let t = s.propagation.trail in
+    let u = s.propagation.clauses in
     let r = c.args.learnt in
     let top = c.requires.learnt.0 in
     let some : r.clause ≢ [] = λ e. true≢false (sym (c.if-is_empty.ensures.1 e)) in
@@ -108,13 +108,13 @@ returns-in_err-attach-clause-legal g c setting bound sig old state2 =
 pub returns-clause-stated : goal.returns-clause-stated
 returns-clause-stated g c p n sig old =
     let s = c.args.self.now in
-    let u = s.clauses in
+    let u = s.propagation.clauses in
     let r = c.args.learnt in
     let ks = c.requires.line.0 in
     let new = c.args.lines.now.items in
     let stated : IsStated p n new u s.places = old in
     let ek = c.requires.line.2 in
-    stated_more p n ks new u c.attach.new.self.clauses s.places c.attach.new.self.places r.clause c.requires.line.1 (c.len-place.result - 1) stated ek
+    stated_more p n ks new u c.attach.new.self.propagation.clauses s.places c.attach.new.self.places r.clause c.requires.line.1 (c.len-place.result - 1) stated ek
     (omega (arith, c.len-place.ensures, c.args.lines.now.ok.0, ap length ek, length-append ks (Rup r.clause c.requires.line.1 ∷ [])))
     (c.in_ok-attach.ensures.clauses ∙ ap (λ (v : List Clause). v ++ r.clause ∷ []) c.in_ok-go_back.ensures.clauses)
     (c.in_ok-attach.ensures.places ∙ ap (λ (v : List ℕ). v ++ (c.len-place.result - 1) ∷ []) c.in_ok-go_back.ensures.places)
@@ -125,26 +125,26 @@ returns-clause-alive g c =
     let r = c.args.learnt in
     let b = c.go_back.new.self in
     let a = c.attach.new.self in
-    let eu : a.clauses ≡ s.clauses ++ r.clause ∷ [] = c.in_ok-attach.ensures.clauses ∙ ap (λ (v : List Clause). v ++ r.clause ∷ []) c.in_ok-go_back.ensures.clauses in
+    let eu : a.propagation.clauses ≡ s.propagation.clauses ++ r.clause ∷ [] = c.in_ok-attach.ensures.clauses ∙ ap (λ (v : List Clause). v ++ r.clause ∷ []) c.in_ok-go_back.ensures.clauses in
     record {
-      running = attach_runs g.T.Theory.assumed g.T.Theory.fits_mark g.T.Theory.in_step b.theory a.theory b.marks.items a.marks.items b.trail a.trail b.clauses a.clauses b.handed a.handed _ r.clause
+      running = attach_runs g.T.Theory.assumed g.T.Theory.fits_mark g.T.Theory.in_step b.theory a.theory b.marks.items a.marks.items b.propagation.trail a.propagation.trail b.propagation.clauses a.propagation.clauses b.handed a.handed _ r.clause
           c.in_ok-go_back.ensures.running c.in_ok-attach.ensures.theory c.in_ok-attach.ensures.marks c.in_ok-attach.ensures.trail c.in_ok-attach.ensures.clauses c.in_ok-attach.ensures.handed;
       fits_store = subst (λ (x : _). g.T.Equalities.fits x c.args.store.now) (sym c.in_ok-attach.ensures.theory) (c.in_ok-go_back.ensures.fits c.args.store.now c.requires.alive.fits_store);
       named = subst (AllNamed c.args.store.now) (sym eu)
-          (named_more c.args.store.now s.trail s.clauses r.clause c.requires.alive.running.lawful c.requires.alive.running.stands c.requires.learnt.1.false_ones c.requires.alive.named);
+          (named_more c.args.store.now s.propagation.trail s.propagation.clauses r.clause c.requires.alive.running.lawful c.requires.alive.running.stands c.requires.learnt.1.false_ones c.requires.alive.named);
       told_within = omega (arith, c.in_ok-attach.ensures.handed, ap length c.in_ok-attach.ensures.trail, c.in_ok-go_back.ensures.told_within);
       expanded_within = omega (arith, c.in_ok-attach.ensures.expanded, ap length c.in_ok-attach.ensures.trail, c.in_ok-go_back.ensures.expanded_within);
-      has_rows = subst (λ (w : List Clause). HasRows a.trail a.expanded w) (sym eu)
-          (rows_clause a.trail a.expanded s.clauses r.clause
-          (rows_front s.trail s.clauses r.level a.trail s.expanded a.expanded c.requires.alive.running.lawful (subst (IsFront s.trail r.level) (sym c.in_ok-attach.ensures.trail) c.in_ok-go_back.ensures.trail)
+      has_rows = subst (λ (w : List Clause). HasRows a.propagation.trail a.expanded w) (sym eu)
+          (rows_clause a.propagation.trail a.expanded s.propagation.clauses r.clause
+          (rows_front s.propagation.trail s.propagation.clauses r.level a.propagation.trail s.expanded a.expanded c.requires.alive.running.lawful (subst (IsFront s.propagation.trail r.level) (sym c.in_ok-attach.ensures.trail) c.in_ok-go_back.ensures.trail)
           (omega (arith, c.in_ok-attach.ensures.expanded, c.in_ok-go_back.ensures.expanded)) c.requires.alive.has_rows));
     }
 
 pub returns-clause-legal : goal.returns-clause-legal
 returns-clause-legal g c setting bound sig old state2 =
     let s = c.args.self.now in
-    let t = s.trail in
-    let u = s.clauses in
+    let t = s.propagation.trail in
+    let u = s.propagation.clauses in
     let r = c.args.learnt in
     let top = c.requires.learnt.0 in
     let some : r.clause ≢ [] = λ e. true≢false (sym (c.if-is_empty.ensures.1 e)) in
@@ -161,11 +161,11 @@ returns-clause-legal g c setting bound sig old state2 =
     c.requires.learnt.1.false_ones c.requires.learnt.1.empty c.requires.learnt.1.one c.requires.learnt.1.highest h c.requires.line.2 stated.allowed
     c.note.new.journal.lines c.go_back.new.journal.lines (ap (λ (x : Noted). x.lines) mid) (inr (ap (λ (x : Noted). x.lines) c.in_ok-go_back.ensures.noted)) in
     let a = c.attach.new.self in
-    let eu : a.clauses ≡ u ++ r.clause ∷ [] = c.in_ok-attach.ensures.clauses ∙ ap (λ (v : List Clause). v ++ r.clause ∷ []) c.in_ok-go_back.ensures.clauses in
-    let front : IsFront t r.level a.trail = subst (IsFront t r.level) (sym c.in_ok-attach.ensures.trail) c.in_ok-go_back.ensures.trail in
+    let eu : a.propagation.clauses ≡ u ++ r.clause ∷ [] = c.in_ok-attach.ensures.clauses ∙ ap (λ (v : List Clause). v ++ r.clause ∷ []) c.in_ok-go_back.ensures.clauses in
+    let front : IsFront t r.level a.propagation.trail = subst (IsFront t r.level) (sym c.in_ok-attach.ensures.trail) c.in_ok-go_back.ensures.trail in
     let small : a.expanded ≤ s.expanded = omega (arith, c.in_ok-attach.ensures.expanded, c.in_ok-go_back.ensures.expanded) in (
       notes,
       learn_leaves setting bound t u s.expanded ks new js w c.requires.alive.running.decided state r.clause c.requires.line.1 top r.level some
           c.requires.learnt.1.false_ones c.requires.learnt.1.empty c.requires.learnt.1.one c.requires.learnt.1.highest h c.requires.line.2 stated.allowed
-          c.requires.alive.running.stands a.trail a.clauses a.expanded c.note.new.journal.lines c.go_back.new.journal.lines front small eu (ap (λ (x : Noted). x.lines) mid) (ap (λ (x : Noted). x.lines) c.in_ok-go_back.ensures.noted),
+          c.requires.alive.running.stands a.propagation.trail a.propagation.clauses a.expanded c.note.new.journal.lines c.go_back.new.journal.lines front small eu (ap (λ (x : Noted). x.lines) mid) (ap (λ (x : Noted). x.lines) c.in_ok-go_back.ensures.noted),
     )

@@ -12,8 +12,8 @@ tell_one-requires-clause-fits g c = (c.loop-self.invariant.alive c.requires.aliv
 pub tell_one-requires-clause-named : goal.tell_one-requires-clause-named
 tell_one-requires-clause-named g c =
     let l = c.loop-self.self in
-    let left : l.handed < length l.trail = omega (arith, c.loop-self-test.true, c.len.ensures) in
-    alive_named g.T.Equalities.fits g.T.Theory.assumed g.T.Theory.fits_mark g.T.Theory.in_step c.args.store.now l.theory l.marks.items l.trail l.clauses l.handed l.expanded c.requires.alive.0
+    let left : l.handed < length l.propagation.trail = omega (arith, c.loop-self-test.true, c.len.ensures) in
+    alive_named g.T.Equalities.fits g.T.Theory.assumed g.T.Theory.fits_mark g.T.Theory.in_step c.args.store.now l.theory l.marks.items l.propagation.trail l.propagation.clauses l.handed l.expanded c.requires.alive.0
     (c.loop-self.invariant.alive c.requires.alive.0 c.requires.alive.1) l.handed left
 
 pub loop-self-smaller : goal.loop-self-smaller
@@ -28,7 +28,7 @@ loop-self-preserved g c =
     record {
       alive = λ js h.
           let b = i.alive js h in
-          told_alive g.T.Equalities.fits g.T.Theory.assumed g.T.Theory.fits_mark g.T.Theory.in_step c.args.store.now l.theory a.theory l.marks.items a.marks.items l.trail a.trail l.clauses a.clauses l.handed a.handed l.expanded
+          told_alive g.T.Equalities.fits g.T.Theory.assumed g.T.Theory.fits_mark g.T.Theory.in_step c.args.store.now l.theory a.theory l.marks.items a.marks.items l.propagation.trail a.propagation.trail l.propagation.clauses a.propagation.clauses l.handed a.handed l.expanded
           a.expanded js b (e.running (live js) b.running) e.fits e.trail e.clauses (omega (arith, c.loop-self-test.true, c.len.ensures, e.told)) e.expanded;
       trail = e.trail ∙ i.trail;
       clauses = e.clauses ∙ i.clauses;

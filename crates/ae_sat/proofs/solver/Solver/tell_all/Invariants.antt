@@ -5,13 +5,13 @@ use Rattle.ae_sat.proofs.solver.Solver.tell_all.Given as goal
 
 abbrev pub invariant-loop-self : goal.invariant-loop-self
 invariant-loop-self g l = record {
-  alive : (js : List Line) → IsAlive g.T.Equalities.fits g.T.Theory.assumed g.T.Theory.fits_mark g.T.Theory.in_step l.store l.fn.self.theory l.fn.self.marks.items l.fn.self.trail l.fn.self.clauses l.fn.self.handed
-      l.fn.self.expanded js → IsAlive g.T.Equalities.fits g.T.Theory.assumed g.T.Theory.fits_mark g.T.Theory.in_step l.store l.self.theory l.self.marks.items l.self.trail l.self.clauses l.self.handed l.self.expanded js;
-  trail : l.self.trail ≡ l.fn.self.trail;
-  clauses : l.self.clauses ≡ l.fn.self.clauses;
+  alive : (js : List Line) → IsAlive g.T.Equalities.fits g.T.Theory.assumed g.T.Theory.fits_mark g.T.Theory.in_step l.store l.fn.self.theory l.fn.self.marks.items l.fn.self.propagation.trail l.fn.self.propagation.clauses l.fn.self.handed
+      l.fn.self.expanded js → IsAlive g.T.Equalities.fits g.T.Theory.assumed g.T.Theory.fits_mark g.T.Theory.in_step l.store l.self.theory l.self.marks.items l.self.propagation.trail l.self.propagation.clauses l.self.handed l.self.expanded js;
+  trail : l.self.propagation.trail ≡ l.fn.self.propagation.trail;
+  clauses : l.self.propagation.clauses ≡ l.fn.self.propagation.clauses;
   places : l.self.places ≡ l.fn.self.places;
   expanded : l.self.expanded ≡ l.fn.self.expanded;
 }
 
 abbrev pub decreases-loop-self : goal.decreases-loop-self
-decreases-loop-self g l = length l.self.trail - l.self.handed
+decreases-loop-self g l = length l.self.propagation.trail - l.self.handed

@@ -12,24 +12,24 @@ assume-requires-clause-named g c = subst (λ (l : Lit). AreNamed c.args.store.no
 pub returns-clause-running : goal.returns-clause-running
 returns-clause-running g c standing r =
     let s = c.args.self.now in
-    let t = s.trail in
+    let t = s.propagation.trail in
     let n = s.handed in
     let e : is_atom (at t n).lit.formula ≡ true = ap (λ (l : Lit). is_atom l.formula) (sym c.lit_at-lit.ensures) ∙ (sym c.is_an_atom.ensures ∙ c.if-not-is_an_atom.false) in
     let all : g.T.Theory.assumed c.assume.new.self ≡ atoms (take (n + 1) t) =
     c.in_ok-assume.ensures.ok ∙ ((λ i. r.told_all i ++ record { lit = c.lit_at-lit.ensures i; tag = n } ∷ []) ∙ sym (atoms_more t n true c.requires.left e)) in
-    told_runs g.T.Theory.assumed g.T.Theory.fits_mark g.T.Theory.in_step s.theory c.assume.new.self s.marks.items t s.clauses n (n + 1) standing r all c.in_ok-assume.ensures.marks c.in_ok-assume.ensures.step
+    told_runs g.T.Theory.assumed g.T.Theory.fits_mark g.T.Theory.in_step s.theory c.assume.new.self s.marks.items t s.propagation.clauses n (n + 1) standing r all c.in_ok-assume.ensures.marks c.in_ok-assume.ensures.step
 
 pub returns-then-not-is_an_atom-clause-running : goal.returns-then-not-is_an_atom-clause-running
 returns-then-not-is_an_atom-clause-running g c standing r =
     let s = c.args.self.now in
-    let t = s.trail in
+    let t = s.propagation.trail in
     let n = s.handed in
     let e : is_atom (at t n).lit.formula ≡ false = ap (λ (l : Lit). is_atom l.formula) (sym c.lit_at-lit.ensures) ∙ (sym c.is_an_atom.ensures ∙ c.if-not-is_an_atom.true) in
-    told_runs g.T.Theory.assumed g.T.Theory.fits_mark g.T.Theory.in_step s.theory s.theory s.marks.items t s.clauses n (n + 1) standing r
+    told_runs g.T.Theory.assumed g.T.Theory.fits_mark g.T.Theory.in_step s.theory s.theory s.marks.items t s.propagation.clauses n (n + 1) standing r
     (r.told_all ∙ sym (atoms_more t n false c.requires.left e ∙ append-nil (atoms (take n t)))) (λ m then f. f) (λ js h. h)
 
 pub returns-in_err-assume-clause-running : goal.returns-in_err-assume-clause-running
 returns-in_err-assume-clause-running g c standing r =
     let s = c.args.self.now in
-    told_runs g.T.Theory.assumed g.T.Theory.fits_mark g.T.Theory.in_step s.theory c.assume.new.self s.marks.items s.trail s.clauses s.handed s.handed standing r
+    told_runs g.T.Theory.assumed g.T.Theory.fits_mark g.T.Theory.in_step s.theory c.assume.new.self s.marks.items s.propagation.trail s.propagation.clauses s.handed s.handed standing r
     (c.in_err-assume.ensures.err ∙ r.told_all) c.in_err-assume.ensures.marks c.in_err-assume.ensures.step

@@ -1,7 +1,0 @@
-use Rattle.std.proofs.Common.{◌∙◌, sym, refl}
-use Rattle.ae_sat.proofs.Settling.{is_turned}
-use Rattle.ae_sat.proofs.settle.is_false.Goals as goal
-
-pub returns-in-Some : goal.returns-in-Some
-returns-in-Some c =
-    is_turned c.args.trail.now c.args.lit.now c.lit_at.result.now c.in-Some.place _ (sym c.in-Some.is ∙ c.place_of.ensures.place) (λ q l h. sym c.in-Some.is ∙ c.place_of.ensures.only q l h) c.lit_at.ensures refl
