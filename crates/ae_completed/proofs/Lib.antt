@@ -1,0 +1,2 @@
+pub mod JoinTests
+pub mod Together
