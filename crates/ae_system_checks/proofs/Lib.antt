@@ -10,9 +10,9 @@ mod Equated
 mod Decide
 mod Tests
 mod Overlaps
-mod WholeValues
+pub mod WholeValues
 mod TwoEquations
-mod SaturatedTests
+pub mod SaturatedTests
 mod Numbered
 mod States
 mod OneEquation

@@ -180,7 +180,7 @@ step r c n d later h next e = by_test (nat_eq r n) refl e
     by_test true q e = subst (λ m. m < 17) (sym (eqb-true r n q)) h
     by_test false q e = next e
 
-row_bound : (r : ℕ) (f : Formula) (c : Clause) → row r f ≡ Some c → r < 17
+pub row_bound : (r : ℕ) (f : Formula) (c : Clause) → row r f ≡ Some c → r < 17
 unfolding row row_of
 row_bound r f c e = go (out-Formula f) e
   where

@@ -1,0 +1,7 @@
+use Rattle.std.proofs.Common.{◌≡◌, true, false, take, drop, map}
+use Rattle.std.specs.List.{list_all, list_any}
+use Rattle.ae_saturated.specs.Literals.{rows_stand}
+use Rattle.ae_saturated.proofs.literals.rows_stand.Given as goal
+
+abbrev pub invariant-loop-number : goal.invariant-loop-number
+invariant-loop-number l = rows_stand l.literals l.formula l.number ≡ true

@@ -1,0 +1,7 @@
+use Rattle.std.proofs.Common.{◌≡◌, true, false, take, drop, map}
+use Rattle.std.specs.List.{list_all, list_any}
+use Rattle.ae_saturated.specs.Names.{are_apart}
+use Rattle.ae_saturated.proofs.names.is_apart.Given as goal
+
+abbrev pub invariant-loop-other : goal.invariant-loop-other
+invariant-loop-other l = list_all (are_apart l.signature l.system l.name) (take l.other-index l.names) ≡ true
