@@ -1,0 +1,5 @@
+pub mod FormulaReading
+pub mod ListForms
+pub mod LiteralReading
+pub mod RowSteps
+pub mod WordForms

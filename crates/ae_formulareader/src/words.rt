@@ -1,0 +1,206 @@
+//! The words of formulas.
+ghost use Rattle.std.specs.Prelude.{◌≡◌, [], drop, get_or, map};
+ghost use Rattle.std.specs.Str.{bytes_eq};
+ghost use Rattle.ae_prooftext.specs.FormulaTexts.{word_fine, leaf_fine, kind_of, same};
+ghost use Rattle.ae_prooftext.specs.Words.{symbol_name, symbol_of, symbols};
+ghost use Rattle.ae_formulareader.specs.Formulas.{kind_is, leaf_at, words_at};
+ghost use Rattle.ae_readers.specs.declared.closing.Closing.TheVariants as closing;
+ghost use Rattle.ae_readers.specs.Readers.{Reads, Ahead, closes, named_read, place_of};
+
+use ae_base::lists::List;
+use ae_core::formulas::Formula;
+use ae_readers::{Closing, Fault, Form, read_name};
+use ae_termreader::{Names, Tables};
+use std::alloc::Global;
+
+/// What a word behind a formula's bracket says of what follows.
+#[derive(Clone, Copy, PartialEq, Eq)]
+pub enum Opening {
+    Eq,
+    Lt,
+    Le,
+    Not,
+    And,
+    Or,
+    Xor,
+    Iff,
+    All,
+    Ex,
+    /// A symbol's name.
+    Symbol,
+}
+
+fn same(left: &[u8], right: &[u8]) -> bool
+    ensures { result ≡ bytes_eq left.now right.now }
+{
+    left == right
+}
+
+#[tactic(auto, using(crate::proofs::WordForms::same_straight))]
+fn is_word(left: &[u8], right: &[u8]) -> bool
+    ensures { result ≡ same left.now right.now }
+{
+    same(left, right)
+}
+
+/// What a word says.
+pub fn opening_of(word: &[u8]) -> Opening
+    ensures { kind_is result ≡ kind_of word.now }
+{
+    if is_word(word, b"=") {
+        return Opening::Eq;
+    }
+    if is_word(word, b"<") {
+        return Opening::Lt;
+    }
+    if is_word(word, b"<=") {
+        return Opening::Le;
+    }
+    if is_word(word, b"@and") {
+        return Opening::And;
+    }
+    if is_word(word, b"@or") {
+        return Opening::Or;
+    }
+    if is_word(word, b"@xor") {
+        return Opening::Xor;
+    }
+    if is_word(word, b"@iff") {
+        return Opening::Iff;
+    }
+    if is_word(word, b"@all") {
+        return Opening::All;
+    }
+    if is_word(word, b"@ex") {
+        return Opening::Ex;
+    }
+    if is_word(word, b"@not") {
+        return Opening::Not;
+    }
+    Opening::Symbol
+}
+
+/// The word at a place of a table; an empty one where it has none.
+pub fn word_among(words: &[List<u8>], place: usize) -> &[u8]
+    ensures { result.now ≡ get_or words.now place [] }
+{
+    if place < words.len() {
+        words[place].as_slice()
+    } else {
+        b""
+    }
+}
+
+// The first place of a word in a table; the number of its words where it isn't one of them.
+fn place_among(words: &[List<u8>], word: &[u8]) -> usize
+    ensures { result ≡ place_of words.now word.now }
+{
+    let mut place = 0;
+    for entry in words {
+        if same(entry.as_slice(), word) {
+            return place;
+        }
+        place += 1;
+    }
+    place
+}
+
+// The names of symbols, which stand behind the ten words of formulas.
+fn symbol_words<'a>(tables: &'a Tables<'_>) -> &'a [List<u8>]
+    ensures { result.now ≡ map (symbol_name tables.now.signature.now) (symbols tables.now.signature.now) }
+{
+    let words = tables.formula_words.words.as_slice();
+    if words.len() < 10 {
+        return &[];
+    }
+    &words[10..]
+}
+
+/// The number of the first symbol of this name; 0 where there is none.
+#[tactic(auto, using(crate::proofs::WordForms::symbol_below, crate::proofs::WordForms::symbol_above))]
+pub fn symbol_named(tables: &Tables<'_>, word: &[u8]) -> usize
+    ensures { result ≡ symbol_of tables.now.signature.now word.now }
+{
+    let place = place_among(symbol_words(tables), word);
+    if place < tables.signature.symbols.len() {
+        place
+    } else {
+        0
+    }
+}
+
+/// The words that may stand first in a formula's brackets; `negations` says whether `@not` is one of them.
+pub fn opening_words<'a>(tables: &'a Tables<'_>, negations: bool) -> &'a Names
+    ensures { result.now.words ≡ words_at tables.now.signature.now negations }
+{
+    if negations {
+        &tables.formula_words
+    } else {
+        &tables.positive_words
+    }
+}
+
+fn opening_among(text: &[u8], at: usize, words: &[List<u8>]) -> Result<((usize, u8), usize), Fault>
+    ensures read { Reads text.now result (named_read word_fine (closes closing.Blank) words.now (drop at text.now)) }
+    ensures ahead { Ahead text.now at result }
+{
+    read_name(text, at, words, Form::Word, Closing::Blank)
+}
+
+fn leaf_among(
+    text: &[u8],
+    at: usize,
+    words: &[List<u8>],
+    closing: Closing,
+) -> Result<((usize, u8), usize), Fault>
+    ensures read { Reads text.now result (named_read leaf_fine (closes closing) words.now (drop at text.now)) }
+    ensures ahead { Ahead text.now at result }
+{
+    read_name(text, at, words, Form::Leaf, closing)
+}
+
+/// The word that begins at a place and stands first in a formula's brackets, by its first place in the table, and the blank behind it.
+pub fn read_opening(text: &[u8], at: usize, names: &Names) -> Result<((usize, u8), usize), Fault>
+    ensures read { Reads text.now result (named_read word_fine (closes closing.Blank) names.now.words (drop at text.now)) }
+    ensures ahead { Ahead text.now at result }
+{
+    opening_among(text, at, names.words.as_slice())
+}
+
+/// The word that begins at a place and stands alone as a formula, and the byte that closes it.
+pub fn read_leaf_word(
+    text: &[u8],
+    at: usize,
+    names: &Names,
+    closing: Closing,
+) -> Result<((usize, u8), usize), Fault>
+    ensures read { Reads text.now result (named_read leaf_fine (closes closing) names.now.words (drop at text.now)) }
+    ensures ahead { Ahead text.now at result }
+{
+    leaf_among(text, at, names.words.as_slice(), closing)
+}
+
+fn proposition(numbers: &[usize], place: usize) -> usize
+    ensures { result ≡ get_or numbers.now place 0 }
+{
+    if place < numbers.len() {
+        numbers[place]
+    } else {
+        0
+    }
+}
+
+/// The formula of a word that stands alone, by its place.
+pub fn leaf_at(alloc: Global, tables: &Tables<'_>, place: usize) -> Formula
+    ensures { result ≡ leaf_at tables.now.signature.now place }
+{
+    match place {
+        0 => Formula::True,
+        1 => Formula::False,
+        _ => Formula::Pred {
+            symbol: proposition(tables.propositions.as_slice(), place - 2),
+            sorts: List::new(alloc),
+            args: List::new(alloc),
+        },
+    }
+}

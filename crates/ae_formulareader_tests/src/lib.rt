@@ -1,0 +1,5 @@
+//! Tests of what reads formulas.
+#![tactic(auto)]
+
+#[cfg(test)]
+mod tests;
