@@ -1,0 +1,5 @@
+//! Tests of what reads values.
+#![tactic(auto)]
+
+#[cfg(test)]
+mod tests;
