@@ -1,0 +1,3 @@
+mod PatternLaws
+mod RecordLaws
+mod TestLaws
