@@ -2,6 +2,8 @@
 use Rattle.std.specs.Prelude.{ℕ, suc, ◌+◌, List, [], ◌∷◌, ◌++◌, ◌≡◌, length, take, codes, decimal, nat_eq, cond, Option, Some, None}
 use Rattle.ae_lex.specs.declared.kinds.LexFault.{LexFault}
 use Rattle.ae_lex.specs.declared.kinds.LexFault.TheVariants as lex
+use Rattle.ae_readers.specs.declared.fault.Fault.{Fault}
+use Rattle.ae_readers.specs.declared.fault.Fault.TheVariants as proof
 use Rattle.ae_syntax.specs.declared.faults.SyntaxFault.{SyntaxFault}
 use Rattle.ae_syntax.specs.declared.faults.SyntaxFault.TheVariants as syntax
 use Rattle.ae_lex.specs.Lexis as lexis
@@ -34,10 +36,18 @@ pub record Precede (bytes : List ℕ) (line column : ℕ) : Type 0 where
 abbrev pub IsPlace : List ℕ → ℕ → ℕ → ℕ → Type 0
 IsPlace text at line column = Precede (take at text) line column
 
--- the byte at which a text is refused; a text that is too long or not of the form is refused as a whole
+-- the byte at which the text of an answer is refused
+abbrev pub proof_place : Fault → Option ℕ
+proof_place (proof.At at) = Some at
+proof_place (proof.WideNumber at) = Some at
+proof_place proof.Memory = None
+
+-- the byte at which a text is refused; a text without the line that parts problem and answers, too long or not of the form is refused as a whole
 abbrev pub refused_at : Refusal → Option ℕ
 refused_at (refusal.Lex f) = lexis.fault_place f
 refused_at (refusal.Syntax f) = files.fault_place f
+refused_at (refusal.Proof f) = proof_place f
+refused_at refusal.NoSeparator = None
 refused_at refusal.TooLong = None
 refused_at refusal.NoForm = None
 
@@ -55,9 +65,16 @@ syntax_words (syntax.TooDeep at) = codes "too deep"
 syntax_words (syntax.OutsideProfile at) = codes "outside profile"
 syntax_words syntax.Memory = codes "out of memory"
 
+abbrev pub proof_words : Fault → List ℕ
+proof_words (proof.At at) = codes "proof text"
+proof_words (proof.WideNumber at) = codes "wide number"
+proof_words proof.Memory = codes "out of memory"
+
 abbrev pub words : Refusal → List ℕ
 words (refusal.Lex f) = lex_words f
 words (refusal.Syntax f) = syntax_words f
+words (refusal.Proof f) = proof_words f
+words refusal.NoSeparator = codes "no separator"
 words refusal.TooLong = codes "input too long"
 words refusal.NoForm = codes "form"
 

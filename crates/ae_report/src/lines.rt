@@ -3,10 +3,11 @@
 ghost use Rattle.std.specs.Prelude.{◌≡◌, ◌++◌, ◌≤◌, length, codes, decimal, nat_eq, take, IfOk, IfSome, OnOk};
 ghost use Rattle.ae_lex.specs.Lexis as lexis;
 ghost use Rattle.ae_syntax.specs.Files as files;
-ghost use Rattle.ae_report.specs.Lines.{IsPlace, IsLineAt, IsRefusalLine, refused_at, lex_words, syntax_words, words};
+ghost use Rattle.ae_report.specs.Lines.{IsPlace, IsLineAt, IsRefusalLine, refused_at, lex_words, syntax_words, proof_place, proof_words, words};
 
 use crate::refusal::Refusal;
 use ae_lex::LexFault;
+use ae_readers::Fault;
 use ae_syntax::SyntaxFault;
 use itoa::Buffer;
 use std::alloc::{AllocError, Global};
@@ -69,6 +70,16 @@ fn syntax_refused_at(fault: SyntaxFault) -> Option<usize>
     }
 }
 
+// The byte at which the text of an answer is refused, where there is one.
+fn proof_refused_at(fault: Fault) -> Option<usize>
+    ensures { result ≡ proof_place fault }
+{
+    match fault {
+        Fault::At(at) | Fault::WideNumber(at) => Some(at),
+        Fault::Memory => None,
+    }
+}
+
 // The byte at which a text is refused, where there is one.
 fn refused_at(refusal: &Refusal) -> Option<usize>
     ensures { result ≡ refused_at refusal.now }
@@ -76,7 +87,8 @@ fn refused_at(refusal: &Refusal) -> Option<usize>
     match refusal {
         Refusal::Lex(fault) => lex_refused_at(*fault),
         Refusal::Syntax(fault) => syntax_refused_at(*fault),
-        Refusal::TooLong | Refusal::NoForm => None,
+        Refusal::Proof(fault) => proof_refused_at(*fault),
+        Refusal::NoSeparator | Refusal::TooLong | Refusal::NoForm => None,
     }
 }
 
@@ -105,6 +117,17 @@ fn syntax_words(fault: SyntaxFault) -> &'static str
     }
 }
 
+// Why the text of an answer is refused.
+fn proof_words(fault: Fault) -> &'static str
+    ensures { result.now ≡ proof_words fault }
+{
+    match fault {
+        Fault::At(_) => "proof text",
+        Fault::WideNumber(_) => "wide number",
+        Fault::Memory => "out of memory",
+    }
+}
+
 // Why a text is refused.
 fn words(refusal: &Refusal) -> &'static str
     ensures { result.now ≡ words refusal.now }
@@ -112,6 +135,8 @@ fn words(refusal: &Refusal) -> &'static str
     match refusal {
         Refusal::Lex(fault) => lex_words(*fault),
         Refusal::Syntax(fault) => syntax_words(*fault),
+        Refusal::Proof(fault) => proof_words(*fault),
+        Refusal::NoSeparator => "no separator",
         Refusal::TooLong => "input too long",
         Refusal::NoForm => "form",
     }

@@ -7,6 +7,7 @@ ghost use Rattle.ae_report.specs.Lines.{refused_at};
 use crate::lines::refusal_text;
 use crate::refusal::Refusal;
 use ae_lex::LexFault;
+use ae_readers::Fault;
 use ae_syntax::SyntaxFault;
 use std::alloc::{AllocError, Global};
 
@@ -28,7 +29,11 @@ fn place(refusal: Refusal) -> usize
             | SyntaxFault::OutsideProfile { at } => at,
             SyntaxFault::Memory => 0,
         },
-        Refusal::TooLong | Refusal::NoForm => 0,
+        Refusal::Proof(fault) => match fault {
+            Fault::At(at) | Fault::WideNumber(at) => at,
+            Fault::Memory => 0,
+        },
+        Refusal::NoSeparator | Refusal::TooLong | Refusal::NoForm => 0,
     }
 }
 
@@ -76,9 +81,35 @@ fn syntax(rt: HostRuntime) -> Result<(), AllocError> {
 }
 
 #[test]
+fn answers(rt: HostRuntime) -> Result<(), AllocError> {
+    let alloc = rt.alloc();
+    let text = "goal g : a = a\n%%\ngoal g Valid\nprof 1\n";
+    let wrong = Refusal::Proof(Fault::At(34));
+    assert!(rt; says(alloc, text, wrong, "refused 4:4 proof text\n")?);
+    let wide = Refusal::Proof(Fault::WideNumber(0));
+    assert!(rt;
+        says(
+            alloc,
+            "340282366920938463463374607431768211456",
+            wide,
+            "refused 1:1 wide number\n"
+        )?
+    );
+    Ok(())
+}
+
+#[test]
 fn whole(rt: HostRuntime) -> Result<(), AllocError> {
     let alloc = rt.alloc();
     assert!(rt; says(alloc, "", Refusal::TooLong, "refused input too long\n")?);
+    assert!(rt;
+        says(
+            alloc,
+            "goal g : a = a",
+            Refusal::NoSeparator,
+            "refused no separator\n"
+        )?
+    );
     assert!(rt; says(alloc, "goal g : a = a", Refusal::NoForm, "refused form\n")?);
     Ok(())
 }
