@@ -13,21 +13,21 @@ use Rattle.ae_driver.specs.declared.first_text.FirstText.{FirstText}
 use Rattle.ae_driver.specs.declared.search.Named.{Named}
 use Rattle.ae_driver.specs.declared.search.Refutation.{Refutation}
 use Rattle.ae_driver.specs.Inner.Places.{IsWellPlaced, IsGoalOver}
-use Rattle.ae_driver.specs.Problems.{chain, symbol_entry, goal_item, signature, problem, the_type}
+use Rattle.ae_driver.specs.Problems.{chain, goal_item, signature, problem, the_type}
 use Rattle.ae_driver.specs.Inner.ChainProofs.{chain_proof}
 use Rattle.ae_driver.specs.Inner.Search.{Refutes, IsOpen, block_of}
-use Rattle.ae_driver.specs.Texts.{proof_text}
-use Rattle.ae_driver.specs.Inner.Bytes.{proof_bytes, valid_bytes}
 use Rattle.ae_driver.specs.Inner.Merging.{numbers_of}
-use Rattle.ae_driver.specs.StateTexts.{state_text}
 use Rattle.ae_driver.specs.Inner.StateChains.{constant_system, state_literals, state_of}
 use Rattle.ae_journal.specs.States.{IsSaturated}
 use Rattle.ae_journal.specs.Evaluate.{is_true_at, unassigned}
-use Rattle.ae_driver.specs.Inner.StateBytes.{state_bytes, unknown_bytes}
+use Rattle.ae_journal.specs.declared.answers.Answer.{Answer}
+use Rattle.ae_journal.specs.declared.answers.Answer.TheVariants.{Valid, Unknown}
+use Rattle.ae_statetext.specs.AnswerTexts.{answer_text}
 use Rattle.ae_driver.specs.Output.{goal_name, IsValidPart, IsUnknownPart, IsPart, AreParts, IsDone, IsFileOf, Reads, IsRefused, by_lexis}
 use Rattle.ae_driver.specs.Output.{by_syntax, by_form, IsRefusedText, IsOutOfMemory, IsCutOff, IsOffered, IsRead, IsTooLong}
 use Rattle.ae_driver.specs.Output.{writes_parts, writes_refusal}
-use Rattle.ae_driver.specs.Inner.Endings.{IsPartOf, by_refutation, by_values, PartEnds, HasParts, GoalsEnd, RefusalEnds, TextEnds}
+use Rattle.ae_driver.specs.Inner.Answers.{IsAnswerTo, IsPartOf, by_refutation, by_values}
+use Rattle.ae_driver.specs.Inner.Endings.{PartEnds, HasParts, GoalsEnd, RefusalEnds, TextEnds}
 use Rattle.ae_report.specs.declared.refusal.Refusal.{Refusal}
 use Rattle.ae_lex.proofs.Unique.{one_list, never_both as never_both_in_lexis}
 use Rattle.ae_syntax.proofs.FileLaws.{one_tree, never_both}
@@ -41,8 +41,7 @@ use Rattle.ae_io.specs.Moves.{Written, Lost, Untold, Told, Gets, GetsPrefix, Ros
 use Rattle.ae_io.proofs.Moves.{gets_then}
 use Rattle.ae_driver.proofs.ChainProof.{derives}
 use Rattle.ae_driver.proofs.FromModels.{body_is, sound}
-use Rattle.ae_driver.proofs.TextProof.{text_proof}
-use Rattle.ae_driver.proofs.StateTextProof.{text_state}
+use Rattle.ae_driver.proofs.ChainValues.{proof_signed, state_signed}
 use Rattle.ae_driver.proofs.MergedValues.{IsValues, Same, values_are, hypotheses_same}
 use Rattle.ae_driver.proofs.ConstantSystems.{constants_fit}
 use Rattle.ae_driver.proofs.Saturated.{saturated}
@@ -50,10 +49,6 @@ use Rattle.ae_driver.proofs.ConstantTruth.{goal_is_false}
 use Rattle.ae_base.proofs.AllOf.{all_at}
 use Rattle.ae_base.proofs.ListFacts.{get_map}
 use Rattle.ae_base.proofs.Options.{never_some}
-
-names_are : (cs : List (List ℕ)) → map (λ e. e.name) (map symbol_entry cs) ≡ cs
-names_are [] = refl
-names_are (c ∷ cs) = ap (λ z. c ∷ z) (names_are cs)
 
 module _ (f : FirstText) where
   name_is : (k : ℕ) (g : Chain) → slice_get f.goals k ≡ Some g → goal_name (problem f) k ≡ Some g.name
@@ -63,18 +58,17 @@ module _ (f : FirstText) where
   body_of k g b e h = ap (λ o. or_else o (chain g.hyps g.last)) (sym (body_is f k g e) ∙ h)
 
   -- the part of a goal that is refuted
-  valid_part : (k : ℕ) (g : Chain) (r : Refutation) → IsWellPlaced f → slice_get f.goals k ≡ Some g → Refutes (length f.constants) g.hyps g.last r
-      → IsValidPart (problem f) k (valid_bytes f.constants g r)
-  valid_part k g r is e h =
+  valid_part : (k : ℕ) (g : Chain) (r : Refutation) (part : List ℕ) → IsWellPlaced f → slice_get f.goals k ≡ Some g → Refutes (length f.constants) g.hyps g.last r
+      → part ≡ answer_text (signature f) g.name (Valid (chain_proof g.hyps g.last (block_of g.hyps r))) → IsValidPart (problem f) k part
+  valid_part k g r part is e h w =
       let ok : IsGoalOver (length f.constants) g = all_at (IsGoalOver (length f.constants)) f.goals k g is.goals e in
       record {
         name = g.name;
         is_name = name_is k g e;
         proof = chain_proof g.hyps g.last (block_of g.hyps r);
         derives = derives (problem f) k (length f.constants) the_type g.hyps g.last (constants_fit f) (body_is f k g e) r ok.hyps ok.last h;
-        text = proof_bytes f.constants g.hyps g.last r;
-        is_text = ap (λ n. proof_text n (chain_proof g.hyps g.last (block_of g.hyps r))) (names_are f.constants) ∙ text_proof f.constants g.hyps g.last r ok.hyps ok.last h;
-        written = refl;
+        signed = proof_signed (length f.constants) g.hyps g.last r h;
+        written = w;
       }
 
   -- the state of a goal whose sides have different values
@@ -101,23 +95,25 @@ module _ (f : FirstText) where
     none_derive : (proof : Proof) → Derives (problem f) k proof → ⊥
     none_derive proof derives = open_values.apart (sound f k g proof (λ c. get_or (numbers_of vs) c 0) derives e same)
 
-    unknown_part : IsUnknownPart (problem f) k (unknown_bytes f.constants g vs)
-    unknown_part = record {
+    unknown_part : (part : List ℕ) → part ≡ answer_text (signature f) g.name (Unknown (state_of (length f.constants) g.hyps g.last (numbers_of vs))) → IsUnknownPart (problem f) k part
+    unknown_part part w = record {
       name = g.name;
       is_name = name_is k g e;
       state = state_of (length f.constants) g.hyps g.last (numbers_of vs);
       saturated = saturated_here;
       goal_false = false_here;
       none_derives = none_derive;
-      text = state_bytes f.constants g.hyps g.last vs;
-      is_text = ap (λ m. state_text m (state_of (length f.constants) g.hyps g.last (numbers_of vs))) (names_are f.constants) ∙ text_state f.constants g.hyps g.last vs ok.hyps ok.last;
-      written = refl;
+      signed = state_signed g.hyps g.last;
+      written = w;
     }
 
+  part_by : (k : ℕ) (g : Chain) (part : List ℕ) (a : Answer) → IsWellPlaced f → slice_get f.goals k ≡ Some g → IsAnswerTo (length f.constants) g a → part ≡ answer_text (signature f) g.name a → IsPart (problem f) k part
+  part_by k g part a is e (by_refutation r h are) w = inl (valid_part k g r part is e h (w ∙ ap (answer_text (signature f) g.name) are))
+  part_by k g part a is e (by_values vs h are) w = inr (unknown_part k g vs is e h part (w ∙ ap (answer_text (signature f) g.name) are))
+
   -- the part of a goal
-  pub goal_is_part : (k : ℕ) (g : Chain) (part : List ℕ) → IsWellPlaced f → slice_get f.goals k ≡ Some g → IsPartOf f.constants g part → IsPart (problem f) k part
-  goal_is_part k g part is e (by_refutation r h are) = inl (subst (IsValidPart (problem f) k) (sym are) (valid_part k g r is e h))
-  goal_is_part k g part is e (by_values vs h are) = inr (subst (IsUnknownPart (problem f) k) (sym are) (unknown_part k g vs is e h))
+  pub goal_is_part : (k : ℕ) (g : Chain) (part : List ℕ) → IsWellPlaced f → slice_get f.goals k ≡ Some g → IsPartOf f g part → IsPart (problem f) k part
+  goal_is_part k g part is e p = part_by k g part p.found is e p.answers p.written
 
 -- ---- parts in order
 -- one part more
@@ -145,21 +141,21 @@ module _ (f : FirstText) (is : IsWellPlaced f) where
   pub nothing_yet : (a : Written) → HasParts f 0 a a
   nothing_yet a = record { bytes = []; parts = refl; written = gets_nothing a }
 
-  with_part : (i : ℕ) (g : Chain) (bytes part : List ℕ) → slice_get f.goals i ≡ Some g → AreParts (problem f) 0 i bytes → IsPartOf f.constants g part → AreParts (problem f) 0 (i + 1) (bytes ++ part)
+  with_part : (i : ℕ) (g : Chain) (bytes part : List ℕ) → slice_get f.goals i ≡ Some g → AreParts (problem f) 0 i bytes → IsPartOf f g part → AreParts (problem f) 0 (i + 1) (bytes ++ part)
   with_part i g bytes part e a h =
       subst (λ m. AreParts (problem f) 0 m (bytes ++ part)) (let n : suc i ≡ i + 1 = omega arith in n)
       (parts_more (problem f) 0 i bytes part a (subst (λ m. IsPart (problem f) m part) (let z : i ≡ 0 + i = omega arith in z) (goal_is_part f i g part is e h)))
 
-  pub part_done : (i : ℕ) (g : Chain) (a b c : Written) → slice_get f.goals i ≡ Some g → HasParts f i a b → PartEnds f.constants g b c status.Done → HasParts f (i + 1) a c
+  pub part_done : (i : ℕ) (g : Chain) (a b c : Written) → slice_get f.goals i ≡ Some g → HasParts f i a b → PartEnds f g b c status.Done → HasParts f (i + 1) a c
   part_done i g a b c e h (part, is_part, got) =
       record { bytes = h.bytes ++ part; parts = with_part i g h.bytes part e h.parts is_part; written = gets_then a b c h.bytes part h.written got }
 
-  pub part_cut : (i : ℕ) (g : Chain) (a b c : Written) → slice_get f.goals i ≡ Some g → i < length f.goals → HasParts f i a b → PartEnds f.constants g b c status.WriteFault → GoalsEnd f a c status.WriteFault
+  pub part_cut : (i : ℕ) (g : Chain) (a b c : Written) → slice_get f.goals i ≡ Some g → i < length f.goals → HasParts f i a b → PartEnds f g b c status.WriteFault → GoalsEnd f a c status.WriteFault
   part_cut i g a b c e lt h (part, is_part, got) =
       (i + 1, omega (arith, lt), record { bytes = h.bytes ++ part; parts = with_part i g h.bytes part e h.parts is_part; written = prefix_then a b c h.bytes part h.written got })
 
   -- a goal that isn't done ends the answers
-  pub part_ends : (i : ℕ) (g : Chain) (a b c : Written) (s : Status) → slice_get f.goals i ≡ Some g → i < length f.goals → HasParts f i a b → PartEnds f.constants g b c s → (s ≡ status.Memory → c ≡ b) → s ≢ status.Done → GoalsEnd f a c s
+  pub part_ends : (i : ℕ) (g : Chain) (a b c : Written) (s : Status) → slice_get f.goals i ≡ Some g → i < length f.goals → HasParts f i a b → PartEnds f g b c s → (s ≡ status.Memory → c ≡ b) → s ≢ status.Done → GoalsEnd f a c s
   part_ends i g a b c status.Done e lt h p m n = absurd (n refl)
   part_ends i g a b c status.WriteFault e lt h p m n = part_cut i g a b c e lt h p
   part_ends i g a b c status.Memory e lt h p m n = (i, omega (arith, lt), subst (λ w. HasParts f i a w) (sym (m refl)) h)

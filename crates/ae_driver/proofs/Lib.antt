@@ -3,14 +3,12 @@ pub mod OneFirstText
 pub mod Growing
 pub mod Propagates
 pub mod ChainProof
-pub mod TextLaws
-pub mod TextProof
+pub mod ChainValues
 pub mod MergingInOrder
 pub mod MergedValues
 pub mod FromModels
 pub mod ConstantSystems
 pub mod Saturated
 pub mod ConstantTruth
-pub mod StateTextProof
 pub mod Answered
 pub mod Existence

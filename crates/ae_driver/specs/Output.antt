@@ -1,10 +1,10 @@
 -- The answer to a text: what is written, and why it is right.
-use Rattle.std.specs.Prelude.{◌≡◌, ◌⊎◌, ℕ, zero, suc, Bool, false, ◌<◌, ◌≤◌, List, [], ◌++◌, map, length, Option, Some, None, slice_get, codes}
+use Rattle.std.specs.Prelude.{◌≡◌, ◌⊎◌, ℕ, zero, suc, Bool, true, false, ◌<◌, ◌≤◌, List, [], ◌++◌, length, Option, Some, None, slice_get, codes}
+use Rattle.std.specs.List.{list_all}
 use Rattle.ae_base.specs.Options.{◌>>=◌}
 use Rattle.ae_rules.specs.Derivations.{Derives, goal_body}
 use Rattle.ae_core.specs.declared.formulas.Formula.{Formula}
 use Rattle.ae_core.specs.declared.problems.Item.TheVariants.{Axiom, Goal}
-use Rattle.ae_core.specs.declared.problems.Signature.{Signature}
 use Rattle.ae_core.specs.declared.problems.Problem.{Problem}
 use Rattle.ae_core.specs.declared.proofs.Proof.{Proof}
 use Rattle.ae_io.specs.Moves.{Written, Gets, GetsPrefix}
@@ -21,15 +21,12 @@ use Rattle.ae_driver.specs.declared.first_text.FirstText.{FirstText}
 use Rattle.ae_driver.specs.declared.program.TheConstants.{INPUT_LIMIT}
 use Rattle.ae_driver.specs.FirstTexts.{IsFirstTextOf}
 use Rattle.ae_driver.specs.Problems.{problem}
-use Rattle.ae_driver.specs.Texts.{Names, proof_text}
+use Rattle.ae_driver.specs.Signs.{is_signed, line_signed}
 use Rattle.ae_journal.specs.States.{IsSaturated}
 use Rattle.ae_journal.specs.Evaluate.{is_true_at, unassigned}
 use Rattle.ae_journal.specs.declared.systems.Saturated.{Saturated}
-use Rattle.ae_driver.specs.StateTexts.{state_text}
-
--- the symbols' names, by their numbers
-abbrev pub symbol_names : Signature → Names
-symbol_names sig = map (λ e. e.name) sig.symbols
+use Rattle.ae_journal.specs.declared.answers.Answer.TheVariants as answer
+use Rattle.ae_statetext.specs.AnswerTexts.{answer_text}
 
 -- the name of the goal at this place among the items
 abbrev pub goal_name : Problem → ℕ → Option (List ℕ)
@@ -41,9 +38,8 @@ pub record IsValidPart (p : Problem) (k : ℕ) (part : List ℕ) : Type 0 where
   pub is_name : goal_name p k ≡ Some name
   pub proof : Proof
   pub derives : Derives p k proof
-  pub text : List ℕ
-  pub is_text : proof_text (symbol_names p.signature) proof ≡ Some text
-  pub written : part ≡ codes "goal " ++ name ++ codes " Valid\n" ++ text
+  pub signed : list_all line_signed proof.lines ≡ true
+  pub written : part ≡ answer_text p.signature name (answer.Valid proof)
 
 -- the part of the goal at place k: the line `goal NAME I don't know`, and the text of a state that is saturated whatever the bound on generations is, and in
 -- which the goal is false, evaluated plainly and with constructors; no proof derives the goal
@@ -54,9 +50,8 @@ pub record IsUnknownPart (p : Problem) (k : ℕ) (part : List ℕ) : Type 0 wher
   pub saturated : (bound : ℕ) → IsSaturated p k state bound
   pub goal_false : (way : Bool) (f : Formula) → goal_body p k ≡ Some f → is_true_at p.signature state.system way unassigned state.literals f ≡ false
   pub none_derives : (proof : Proof) → Derives p k proof → ⊥
-  pub text : List ℕ
-  pub is_text : state_text (symbol_names p.signature) state ≡ Some text
-  pub written : part ≡ codes "goal " ++ name ++ codes " I don't know\n" ++ text
+  pub signed : list_all is_signed state.literals ≡ true
+  pub written : part ≡ answer_text p.signature name (answer.Unknown state)
 
 abbrev pub IsPart : Problem → ℕ → List ℕ → Type 0
 IsPart p k part = IsValidPart p k part ⊎ IsUnknownPart p k part

@@ -4,13 +4,12 @@
 mod derivation;
 pub mod first_text;
 pub mod laws;
+mod parts;
 mod program;
+mod proofs;
 mod reader;
 mod search;
-mod state_text;
-mod text;
+mod signatures;
+mod states;
 
 pub use program::{INPUT_LIMIT, Status, run};
-
-#[cfg(test)]
-mod tests;

@@ -1,6 +1,6 @@
 //! The top call.
 
-ghost use Rattle.std.specs.Prelude.{◌≡◌, ◌≢◌, ◌⊎◌, ◌≤◌, [], length, IfOk, IfSome};
+ghost use Rattle.std.specs.Prelude.{◌≡◌, ◌≢◌, ◌⊎◌, ◌≤◌, [], length, IfSome};
 ghost use Rattle.std.specs.Io.KnownBytes.{IsAtEnd};
 ghost use Rattle.ae_io.specs.Moves.{Rose, Gets, GetsPrefix};
 ghost use Rattle.ae_lex.specs.Lexis.{IsTokenized, IsFault};
@@ -10,23 +10,21 @@ ghost use Rattle.ae_syntax.specs.declared.faults.SyntaxFault.TheVariants.{Memory
 ghost use Rattle.ae_report.specs.Lines.{refused_at};
 ghost use Rattle.ae_driver.specs.Inner.Places.{IsWellPlaced, IsGoalOver};
 ghost use Rattle.ae_driver.specs.Output.{IsFileOf, IsDone, IsOffered, IsRefusedText, IsRefusedByLength, IsOutOfMemory, IsCutOff, usage_line};
-ghost use Rattle.ae_driver.specs.Inner.Endings.{IsPartOf, PartEnds, GoalsEnd, RefusalEnds, TextEnds};
-ghost use Rattle.ae_driver.specs.Inner.Bytes.{valid_bytes};
-ghost use Rattle.ae_driver.specs.Inner.StateBytes.{unknown_bytes};
+ghost use Rattle.ae_driver.specs.Problems as problems;
+ghost use Rattle.ae_driver.specs.Inner.Endings.{PartEnds, GoalsEnd, RefusalEnds, TextEnds};
 ghost use Rattle.ae_driver.specs.declared.program.Status.TheVariants.{Done, Refused, ReadFault, WriteFault, Memory, Usage};
 
 use crate::first_text::{Chain, FirstText};
+use crate::parts::goal_part;
 use crate::reader::first_text_of;
-use crate::search::{Named, Outcome, Refutation, settle};
-use crate::state_text::put_unknown;
-use crate::text::put_valid;
-use ae_base::words::Word;
+use crate::signatures::signature_of;
+use ae_core::problems::Signature;
 use ae_io::{ReadEnd, Sink, Source, read_all, write_all};
 use ae_lex::{LexFault, Token, TokenList, tokens};
 use ae_report::{Refusal, refusal_text};
 use ae_syntax::decls::File;
 use ae_syntax::{SyntaxFault, parse};
-use std::alloc::{AllocError, Global};
+use std::alloc::Global;
 
 /// The most bytes that one text may have: 16 MiB.
 pub const INPUT_LIMIT: usize = 16777216;
@@ -185,14 +183,32 @@ fn answer_file<K: Sink>(alloc: Global, text: &[u8], file: &File, sink: &mut K) -
     }
 }
 
-// Answers the goals of a first text in order.
+// Answers the goals of a first text.
 fn answer_goals<K: Sink>(alloc: Global, first: &FirstText, sink: &mut K) -> Status
     requires { IsWellPlaced first.now }
     ensures ends { GoalsEnd first.now (K.written sink.old) (K.written sink.new) result }
     ensures write_fault { result ≡ WriteFault → Rose (K.faults sink.old) (K.faults sink.new) }
 {
+    match signature_of(alloc, first) {
+        Ok(signature) => answer_in_order(alloc, first, &signature, sink),
+        Err(_) => Status::Memory,
+    }
+}
+
+// Answers the goals of a first text in order.
+fn answer_in_order<K: Sink>(
+    alloc: Global,
+    first: &FirstText,
+    signature: &Signature,
+    sink: &mut K,
+) -> Status
+    requires placed { IsWellPlaced first.now }
+    requires signature { signature.now ≡ problems.signature first.now }
+    ensures ends { GoalsEnd first.now (K.written sink.old) (K.written sink.new) result }
+    ensures write_fault { result ≡ WriteFault → Rose (K.faults sink.old) (K.faults sink.new) }
+{
     for goal in first.goals.as_slice() {
-        match answer_goal(alloc, first.constants.as_slice(), goal, sink) {
+        match answer_goal(alloc, first, signature, goal, sink) {
             Status::Done => {}
             stopped => return stopped,
         }
@@ -201,58 +217,25 @@ fn answer_goals<K: Sink>(alloc: Global, first: &FirstText, sink: &mut K) -> Stat
 }
 
 // Answers one goal.
-fn answer_goal<K: Sink>(alloc: Global, constants: &[Word], goal: &Chain, sink: &mut K) -> Status
-    requires { IsGoalOver (length constants.now) goal.now }
-    ensures ends { PartEnds constants.now goal.now (K.written sink.old) (K.written sink.new) result }
+fn answer_goal<K: Sink>(
+    alloc: Global,
+    first: &FirstText,
+    signature: &Signature,
+    goal: &Chain,
+    sink: &mut K,
+) -> Status
+    requires over { IsGoalOver (length first.now.constants) goal.now }
+    requires signature { signature.now ≡ problems.signature first.now }
+    ensures ends { PartEnds first.now goal.now (K.written sink.old) (K.written sink.new) result }
     ensures memory { result ≡ Memory → sink.new ≡ sink.old }
     ensures write_fault { result ≡ WriteFault → Rose (K.faults sink.old) (K.faults sink.new) }
     ensures later { K.faults sink.old ≤ K.faults sink.new }
 {
-    match goal_part(alloc, constants, goal) {
+    match goal_part(alloc, first, signature, goal) {
         Ok(part) => match write_all(sink, part.as_slice()) {
             Ok(()) => Status::Done,
             Err(_) => Status::WriteFault,
         },
         Err(_) => Status::Memory,
     }
-}
-
-// The part of a goal.
-fn goal_part(alloc: Global, constants: &[Word], goal: &Chain) -> Result<Vec<u8>, AllocError>
-    requires { IsGoalOver (length constants.now) goal.now }
-    ensures { IfOk result (λ part. IsPartOf constants.now goal.now part.items) }
-{
-    match settle(alloc, constants.len(), goal.hyps.as_slice(), goal.last)? {
-        Outcome::Refuted(refutation) => valid_part(alloc, constants, goal, &refutation),
-        Outcome::Open(values) => unknown_part(alloc, constants, goal, values.as_slice()),
-    }
-}
-
-// The part of a goal that is refuted.
-fn valid_part(
-    alloc: Global,
-    constants: &[Word],
-    goal: &Chain,
-    refutation: &Refutation,
-) -> Result<Vec<u8>, AllocError>
-    requires { IsGoalOver (length constants.now) goal.now }
-    ensures { IfOk result (λ part. part.items ≡ valid_bytes constants.now goal.now refutation.now) }
-{
-    let mut part = Vec::new(alloc);
-    put_valid(&mut part, constants, goal, refutation)?;
-    Ok(part)
-}
-
-// The part of a goal whose sides have different values.
-fn unknown_part(
-    alloc: Global,
-    constants: &[Word],
-    goal: &Chain,
-    values: &[Named],
-) -> Result<Vec<u8>, AllocError>
-    ensures { IfOk result (λ part. part.items ≡ unknown_bytes constants.now goal.now values.now) }
-{
-    let mut part = Vec::new(alloc);
-    put_unknown(&mut part, constants, goal, values)?;
-    Ok(part)
 }

@@ -5,28 +5,18 @@ use Rattle.ae_report.specs.Lines.{IsRefusalLine}
 use Rattle.ae_report.specs.declared.refusal.Refusal.{Refusal}
 use Rattle.ae_driver.specs.declared.first_text.Chain.{Chain}
 use Rattle.ae_driver.specs.declared.first_text.FirstText.{FirstText}
-use Rattle.ae_driver.specs.declared.search.Named.{Named}
-use Rattle.ae_driver.specs.declared.search.Refutation.{Refutation}
 use Rattle.ae_driver.specs.declared.program.Status.{Status}
 use Rattle.ae_driver.specs.declared.program.Status.TheVariants as status
 use Rattle.ae_driver.specs.Problems.{problem}
-use Rattle.ae_driver.specs.Texts.{Names}
+use Rattle.ae_driver.specs.Inner.Answers.{IsPartOf}
 use Rattle.ae_driver.specs.Output.{AreParts, IsRefused, IsLegalOutput, IsBegun}
-use Rattle.ae_driver.specs.Inner.Search.{Refutes, IsOpen}
-use Rattle.ae_driver.specs.Inner.Bytes.{valid_bytes}
-use Rattle.ae_driver.specs.Inner.StateBytes.{unknown_bytes}
-
--- the bytes of a part, by a refutation of the goal or by values that tell its sides apart
-pub data IsPartOf (names : Names) (g : Chain) (part : List ℕ) : Type 0 where
-  by_refutation : (r : Refutation) → Refutes (length names) g.hyps g.last r → part ≡ valid_bytes names g r → IsPartOf names g part
-  by_values : (vs : List Named) → IsOpen (length names) g.hyps g.last vs → part ≡ unknown_bytes names g vs → IsPartOf names g part
 
 -- how one goal is answered
-abbrev pub PartEnds : Names → Chain → Written → Written → Status → Type 0
-PartEnds names g old new status.Done = (part : List ℕ) × IsPartOf names g part × Gets old new part
-PartEnds names g old new status.WriteFault = (part : List ℕ) × IsPartOf names g part × GetsPrefix old new part
-PartEnds names g old new status.Memory = Unit {0}
-PartEnds names g old new _ = ⊥
+abbrev pub PartEnds : FirstText → Chain → Written → Written → Status → Type 0
+PartEnds f g old new status.Done = (part : List ℕ) × IsPartOf f g part × Gets old new part
+PartEnds f g old new status.WriteFault = (part : List ℕ) × IsPartOf f g part × GetsPrefix old new part
+PartEnds f g old new status.Memory = Unit {0}
+PartEnds f g old new _ = ⊥
 
 -- the sink got the parts of so many goals
 pub record HasParts (f : FirstText) (count : ℕ) (old new : Written) : Type 0 where

@@ -1,0 +1,93 @@
+-- The values that are built for a chain, piece by piece, and that the signs of their literals are as they have to be.
+use Rattle.std.specs.Prelude.{ℕ, zero, suc, ◌+◌, ◌-◌, ◌<◌, Bool, true, false, not, List, [], ◌∷◌, ◌++◌, ◌≡◌, length, get_or, take, drop}
+use Rattle.std.specs.List.{list_all}
+use Rattle.std.proofs.Common.{refl, sym, ap, ◌∙◌, arith}
+use Rattle.std.proofs.lemmas.Bool.{and_from}
+use Rattle.ae_rules.specs.Clauses.{is_true, is_false}
+use Rattle.ae_core.specs.declared.formulas.Formula.{Or, Not}
+use Rattle.ae_core.specs.declared.formulas.Formula.TheVariants.{outs-Eq, outs-Or}
+use Rattle.ae_core.specs.declared.proofs.ClauseLine.{ClauseLine}
+use Rattle.ae_core.specs.declared.proofs.ClauseLine.TheVariants.{Def, Block as BlockLine, Rup}
+use Rattle.ae_rules.specs.declared.rows.TheConstants.{OR_FROM_LEFT, OR_FROM_RIGHT}
+use Rattle.ae_driver.specs.declared.first_text.Equation.{Equation}
+use Rattle.ae_driver.specs.declared.search.Refutation.{Refutation}
+use Rattle.ae_driver.specs.Problems.{constant, equation, chain}
+use Rattle.ae_driver.specs.Signs.{denies, is_signed, line_signed}
+use Rattle.ae_driver.specs.Inner.ChainProofs.{assumed, defs, hints, chain_proof}
+use Rattle.ae_driver.specs.Inner.Search.{Refutes, block_of}
+use Rattle.ae_driver.specs.Inner.StateChains.{state_literals, constants_from}
+
+-- ---- from one hypothesis to the next
+pub none_left : {A : Type 0} (xs : List A) → drop (length xs) xs ≡ []
+none_left [] = refl
+none_left (x ∷ xs) = none_left xs
+
+pub two_more : {A : Type 0} (xs ys : List A) (x y : A) → ((xs ++ x ∷ []) ++ y ∷ []) ++ ys ≡ xs ++ (x ∷ y ∷ ys)
+two_more [] ys x y = refl
+two_more (z ∷ xs) ys x y = ap (λ w. z ∷ w) (two_more xs ys x y)
+
+pub chain_step : (es : List Equation) (g d : Equation) (i : ℕ) → i < length es → chain (drop i es) g ≡ Or (Not (equation (get_or es i d))) (chain (drop (i + 1) es) g)
+chain_step [] g d i lt = absurd (omega (arith, lt))
+chain_step (e ∷ es) g d zero lt = refl
+chain_step (e ∷ es) g d (suc i) lt =
+    let same : suc (i + 1) ≡ suc i + 1 = omega arith in
+    chain_step es g d i (omega (arith, lt)) ∙ ap (λ k. Or (Not (equation (get_or es i d))) (chain (drop k (e ∷ es)) g)) same
+
+pub defs_step : (es : List Equation) (g : Equation) (i : ℕ) → i < length es
+    → defs (drop i es) g ≡ Def OR_FROM_LEFT (chain (drop i es) g) ∷ Def OR_FROM_RIGHT (chain (drop i es) g) ∷ defs (drop (i + 1) es) g
+defs_step [] g i lt = absurd (omega (arith, lt))
+defs_step (e ∷ es) g zero lt = refl
+defs_step (e ∷ es) g (suc i) lt =
+    let same : suc (i + 1) ≡ suc i + 1 = omega arith in
+    defs_step es g i (omega (arith, lt))
+    ∙ ap (λ k. Def OR_FROM_LEFT (chain (drop i es) g) ∷ Def OR_FROM_RIGHT (chain (drop i es) g) ∷ defs (drop k (e ∷ es)) g) same
+
+hints_go : (es : List Equation) (i q b : ℕ) → i < length es → hints (drop i es) q (q + 1) b ≡ q ∷ (q + 1) ∷ hints (drop (i + 1) es) (q + 1 + 1) (q + 1 + 2) b
+hints_go [] i q b lt = absurd (omega (arith, lt))
+hints_go (e ∷ es) zero q b lt = refl
+hints_go (e ∷ es) (suc i) q b lt =
+    let same : suc (i + 1) ≡ suc i + 1 = omega arith in
+    hints_go es i q b (omega (arith, lt)) ∙ ap (λ k. q ∷ (q + 1) ∷ hints (drop k (e ∷ es)) (q + 1 + 1) (q + 1 + 2) b) same
+
+pub hints_step : (es : List Equation) (i b : ℕ) → i < length es
+    → hints (drop i es) (i + i) (i + i + 1) b ≡ (i + i) ∷ (i + i + 1) ∷ hints (drop (i + 1) es) ((i + 1) + (i + 1)) ((i + 1) + (i + 1) + 1) b
+hints_step es i b lt =
+    let next : i + i + 1 + 1 ≡ (i + 1) + (i + 1) = omega arith in
+    let after : i + i + 1 + 2 ≡ (i + 1) + (i + 1) + 1 = omega arith in
+    hints_go es i (i + i) b lt ∙ (λ j. (i + i) ∷ (i + i + 1) ∷ hints (drop (i + 1) es) (next j) (after j) b)
+
+constants_push : (k n : ℕ) → constants_from k n ++ constant (k + n) ∷ [] ≡ constants_from k (suc n)
+constants_push k zero = ap (λ z. constant z ∷ []) (let e : k + 0 ≡ k = omega arith in e)
+constants_push k (suc n) =
+    ap (λ z. constant k ∷ z) (ap (λ m. constants_from (k + 1) n ++ constant m ∷ []) (let e : k + suc n ≡ k + 1 + n = omega arith in e) ∙ constants_push (k + 1) n)
+
+pub constants_more : (n : ℕ) → constants_from 0 n ++ constant n ∷ [] ≡ constants_from 0 (n + 1)
+constants_more n =
+    ap (λ m. constants_from 0 n ++ constant m ∷ []) (let e : n ≡ 0 + n = omega arith in e)
+    ∙ constants_push 0 n
+    ∙ ap (constants_from 0) (let e : suc n ≡ n + 1 = omega arith in e)
+
+-- ---- no literal is of a negation
+equation_signed : (b : Bool) (e : Equation) → is_signed (record { positive = b; formula = equation e }) ≡ true
+equation_signed b e = (λ i. not (denies (outs-Eq (constant e.left) (constant e.right) i)))
+
+chain_signed : (es : List Equation) (g : Equation) → is_signed (is_false (chain es g)) ≡ true
+chain_signed [] g = equation_signed false g
+chain_signed (e ∷ es) g = (λ i. not (denies (outs-Or (Not (equation e)) (chain es g) i)))
+
+pub state_signed : (es : List Equation) (g : Equation) → list_all is_signed (state_literals es g) ≡ true
+state_signed [] g = and_from _ _ (equation_signed false g) refl
+state_signed (e ∷ es) g = and_from _ _ (chain_signed (e ∷ es) g) (and_from _ _ (equation_signed true e) (state_signed es g))
+
+assumed_signed : (es : List Equation) (g : Equation) → list_all is_signed (assumed es g) ≡ true
+assumed_signed [] g = and_from _ _ (equation_signed false g) refl
+assumed_signed (e ∷ es) g = and_from _ _ (equation_signed true e) (assumed_signed es g)
+
+defs_signed : (es : List Equation) (g : Equation) (rest : List ClauseLine) → list_all line_signed rest ≡ true → list_all line_signed (defs es g ++ rest) ≡ true
+defs_signed [] g rest r = r
+defs_signed (e ∷ es) g rest r = defs_signed es g rest r
+
+pub proof_signed : (n : ℕ) (es : List Equation) (g : Equation) (r : Refutation) → Refutes n es g r → list_all line_signed (chain_proof es g (block_of es r)).lines ≡ true
+proof_signed n es g r h =
+    defs_signed es g (BlockLine (block_of es r) ∷ Rup [] (hints es 0 1 (length es + length es + 1)) ∷ [])
+    (and_from _ _ (ap (list_all is_signed) h.hyps ∙ assumed_signed es g) refl)
