@@ -19,4 +19,4 @@ pub use integers::{read_integer, read_long, signed};
 pub use laws::{name_texts, number_texts};
 pub use names::{Form, may_stand, read_name};
 pub use numbers::{is_wide, read_size};
-pub use words::read_fixed;
+pub use words::{farther, place, read_fixed};
