@@ -1,35 +1,17 @@
--- The index of a trail that grows.
+-- Where formulas stand in a trail that grows or gets shorter.
 use Rattle.std.proofs.Common.{◌≡◌, ◌+◌, ◌<◌, ℕ, suc, Bool, true, false, cond, List, [], ◌∷◌, ◌++◌, length, length-append, refl, sym, ap, ◌∙◌, true≢false, Option, Some, None, arith, inl, inr}
 use Rattle.std.proofs.Math.ListN.{get_or-append}
 use Rattle.std.proofs.Math.Seq.{get_or-append_seam}
 use Rattle.std.proofs.lemmas.Bool.{cases_lt}
 use Rattle.std.specs.Option.{option_map, IfSome}
-use Rattle.std.specs.declared.cmp.Ordering.{Ordering}
-use Rattle.std.specs.declared.cmp.Ordering.TheVariants.{Less, Equal, Greater}
-use Rattle.std.specs.Ordering.{is_eq}
 use Rattle.ae_base.specs.Decided.{decided}
 use Rattle.ae_core.specs.Decided.{Formula_discrete}
-use Rattle.ae_core.specs.Orders.{formula_order}
-use Rattle.ae_core.proofs.OrderLaws.{formula_exact}
 use Rattle.ae_core.specs.declared.formulas.Formula.{Formula}
 use Rattle.ae_explain.specs.declared.trail.Assigned.{Assigned}
 use Rattle.ae_explain.specs.Trail.{Apart, at, nothing, place_in}
-use Rattle.ae_explain.specs.Inner.Index.{IsIndex}
 use Rattle.ae_explain.proofs.Places.{found, there}
 use Rattle.std.proofs.lemmas.Option.{none-some}
 use Rattle.ae_base.proofs.Decided.{decided_not}
-
-not_equal : (o : Ordering) → (o ≡ Equal → ⊥) → is_eq o ≡ false
-not_equal Less n = refl
-not_equal Equal n = absurd (n refl)
-not_equal Greater n = refl
-
--- the order's test of a key is equality
-same_test : (k f : Formula) → is_eq (formula_order k f) ≡ decided (Formula_discrete k f)
-same_test k f = elim (Formula_discrete k f) as (λ d. is_eq (formula_order k f) ≡ decided d) [
-  | yes e ↦ ap is_eq ((formula_exact k f).1 e)
-  | no n ↦ not_equal (formula_order k f) (λ e. n ((formula_exact k f).0 e))
-]
 
 no_first : (b : Bool) (o : Option ℕ) → cond b (Some 0) (option_map suc o) ≡ None → (b ≡ false) × (o ≡ None)
 no_first true o e = absurd (none-some 0 (sym e))
@@ -59,7 +41,7 @@ at_end (b ∷ t) a f h =
     apart_if (no m) e q = m q
 
 -- a formula that stood nowhere stands apart from the others
-still_apart : (t : List Assigned) (a : Assigned) → Apart t → place_in t a.lit.formula ≡ None → Apart (t ++ a ∷ [])
+pub still_apart : (t : List Assigned) (a : Assigned) → Apart t → place_in t a.lit.formula ≡ None → Apart (t ++ a ∷ [])
 still_apart t a apart h i j l m e =
     let long : length (t ++ a ∷ []) ≡ length t + 1 = length-append t (a ∷ []) in
     let early : i < length t = omega (arith, l, m, long) in
@@ -74,20 +56,12 @@ still_apart t a apart h i j l m e =
           none-some i (sym h ∙ there t i a.lit.formula apart early (ap (λ (x : Assigned). x.lit.formula) (sym first) ∙ (e ∙ ap (λ (x : Assigned). x.lit.formula) second)))
     ]
 
--- the index with one more key
-pub grown : (t : List Assigned) (a : Assigned) (old new : Formula → Option ℕ) → IsIndex t old → place_in t a.lit.formula ≡ None
-    → ((f : Formula) → new f ≡ cond (is_eq (formula_order a.lit.formula f)) (Some (length t)) (old f)) → IsIndex (t ++ a ∷ []) new
-grown t a old new i h u = record {
-  each = λ f. u f ∙ (λ j. cond (same_test a.lit.formula f j) (Some (length t)) (i.each f j)) ∙ sym (at_end t a f h);
-  apart = still_apart t a i.apart h;
-}
-
 pub within_of : (t : List Assigned) (f : Formula) (o : Option ℕ) → o ≡ place_in t f → IfSome o (λ p. p < length t)
 within_of t f (Some p) e = (found t f p (sym e)).0
 within_of t f None e = tt
 
--- ---- the index with the last key less
-apart_front : (t : List Assigned) (a : Assigned) → Apart (t ++ a ∷ []) → Apart t
+-- ---- a trail with the last literal less
+pub apart_front : (t : List Assigned) (a : Assigned) → Apart (t ++ a ∷ []) → Apart t
 apart_front t a h i j l m e =
     let long : length (t ++ a ∷ []) ≡ length t + 1 = length-append t (a ∷ []) in
     let first : at (t ++ a ∷ []) i ≡ at t i = get_or-append t (a ∷ []) nothing i (omega (arith, l, m)) in
@@ -95,7 +69,7 @@ apart_front t a h i j l m e =
     h i j l (omega (arith, m, long)) (ap (λ (x : Assigned). x.lit.formula) first ∙ (e ∙ ap (λ (x : Assigned). x.lit.formula) (sym second)))
 
 -- the last formula stands nowhere else
-last_nowhere : (t : List Assigned) (a : Assigned) → Apart (t ++ a ∷ []) → place_in t a.lit.formula ≡ None
+pub last_nowhere : (t : List Assigned) (a : Assigned) → Apart (t ++ a ∷ []) → place_in t a.lit.formula ≡ None
 last_nowhere t a h = by_place (place_in t a.lit.formula) refl
   where
     by_place : (o : Option ℕ) → place_in t a.lit.formula ≡ o → place_in t a.lit.formula ≡ None
@@ -106,18 +80,3 @@ last_nowhere t a h = by_place (place_in t a.lit.formula) refl
         absurd (h p (length t) r.0 (omega (arith, long)) (
         ap (λ (x : Assigned). x.lit.formula) (get_or-append t (a ∷ []) nothing p r.0) ∙ (r.1 ∙ ap (λ (x : Assigned). x.lit.formula) (sym (get_or-append_seam t a [] nothing)))
         ))
-
-less_each : (t : List Assigned) (a : Assigned) (f : Formula) (d : Dec (a.lit.formula ≡ f)) → place_in t a.lit.formula ≡ None → cond (decided d) None (cond (decided d) (Some (length t)) (place_in t f)) ≡ place_in t f
-less_each t a f (yes e) n = sym n ∙ ap (place_in t) e
-less_each t a f (no d) n = refl
-
-pub less : (t : List Assigned) (a : Assigned) (old new : Formula → Option ℕ) → IsIndex (t ++ a ∷ []) old
-    → ((f : Formula) → new f ≡ cond (is_eq (formula_order a.lit.formula f)) None (old f)) → IsIndex t new
-less t a old new i u =
-    let n : place_in t a.lit.formula ≡ None = last_nowhere t a i.apart in
-    record {
-      each = λ f.
-          let e : old f ≡ cond (decided (Formula_discrete a.lit.formula f)) (Some (length t)) (place_in t f) = i.each f ∙ at_end t a f n in
-          u f ∙ ((λ j. cond (same_test a.lit.formula f j) None (e j)) ∙ less_each t a f (Formula_discrete a.lit.formula f) n);
-      apart = apart_front t a i.apart;
-    }

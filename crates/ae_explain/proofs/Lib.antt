@@ -1,7 +1,9 @@
+pub mod Results
 pub mod Counts
 pub mod Places
 pub mod Marking
 pub mod Hinting
 pub mod Reading
 pub mod Indexing
+pub mod Valuing
 pub mod Testing

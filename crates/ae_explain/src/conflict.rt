@@ -28,7 +28,7 @@ pub struct Learnt {
 
 /// The greatest level of the literals of a clause.
 fn greatest_level(trail: &Trail, clause: &[Lit]) -> usize
-    ensures { result ≡ greatest_of trail.now clause.now }
+    ensures { result ≡ greatest_of trail.now.assigned clause.now }
 {
     let mut greatest = 0;
     for lit in clause {
@@ -39,7 +39,7 @@ fn greatest_level(trail: &Trail, clause: &[Lit]) -> usize
 
 /// The greatest level of the literals of a clause that are below a level.
 fn level_under(trail: &Trail, clause: &[Lit], level: usize) -> usize
-    ensures { result ≡ greatest_of trail.now (literals_under trail.now level clause.now) }
+    ensures { result ≡ greatest_of trail.now.assigned (literals_under trail.now.assigned level clause.now) }
 {
     let mut greatest = 0;
     for lit in clause {
@@ -53,8 +53,8 @@ fn level_under(trail: &Trail, clause: &[Lit], level: usize) -> usize
 
 /// The opposites of the literals at kept places, the last one first.
 fn kept_clause(alloc: Global, trail: &Trail, marks: &[Mark]) -> Result<Clause, AllocError>
-    requires len { length marks.now ≡ length trail.now }
-    ensures { IfOk result (λ c. c ≡ map opposite (lits_below trail.now marks.now (length trail.now))) }
+    requires len { length marks.now ≡ length trail.now.assigned }
+    ensures { IfOk result (λ c. c ≡ map opposite (lits_below trail.now.assigned marks.now (length trail.now.assigned))) }
 {
     let mut clause = List::new(alloc);
     let mut place = trail.len();
@@ -90,8 +90,8 @@ fn hints_of(
     marks: &[Mark],
     last: usize,
 ) -> Result<List<usize>, AllocError>
-    requires len { length marks.now ≡ length trail.now }
-    ensures { IfOk result (λ hints. hints ≡ hints_from trail.now marks.now last 0 (length trail.now)) }
+    requires len { length marks.now ≡ length trail.now.assigned }
+    ensures { IfOk result (λ hints. hints ≡ hints_from trail.now.assigned marks.now last 0 (length trail.now.assigned)) }
 {
     let mut hints = List::new(alloc);
     for place in 0..trail.len() {
@@ -114,20 +114,20 @@ fn learnt_from(
     given: &[Lit],
     marks: &mut [Mark],
 ) -> Result<Learnt, AllocError>
-    requires lawful { IsLawful trail.now clauses.now }
+    requires lawful { IsLawful trail.now.assigned clauses.now }
     requires within { falsified < length clauses.now }
     requires given { given.now ≡ clause clauses.now falsified }
-    requires len { length marks.old ≡ length trail.now }
+    requires len { length marks.old ≡ length trail.now.assigned }
     requires blank { (p : ℕ) → marked marks.old p ≡ false }
-    requires falsified { AreFalse trail.now given.now }
-    ensures false_ones { IfOk result (λ r. AreFalse trail.now r.clause) }
+    requires falsified { AreFalse trail.now.assigned given.now }
+    ensures false_ones { IfOk result (λ r. AreFalse trail.now.assigned r.clause) }
     ensures derived { IfOk result (λ r. Propagates clauses.now r.clause r.hints) }
-    ensures empty { IfOk result (λ r. greatest_of trail.now given.now ≡ 0 → r.clause ≡ []) }
-    ensures one { IfOk result (λ r. let level = greatest_of trail.now given.now in
-        0 < level → count_by (λ m. level_of trail.now m == level) r.clause ≡ 1) }
-    ensures ground { IfOk result (λ r. (m : Lit) → Contains r.clause m → 0 < level_of trail.now m) }
-    ensures highest { IfOk result (λ r. (m : Lit) → Contains r.clause m → level_of trail.now m ≤ greatest_of trail.now given.now) }
-    ensures level { IfOk result (λ r. r.level ≡ greatest_of trail.now (literals_under trail.now (greatest_of trail.now r.clause) r.clause)) }
+    ensures empty { IfOk result (λ r. greatest_of trail.now.assigned given.now ≡ 0 → r.clause ≡ []) }
+    ensures one { IfOk result (λ r. let level = greatest_of trail.now.assigned given.now in
+        0 < level → count_by (λ m. level_of trail.now.assigned m == level) r.clause ≡ 1) }
+    ensures ground { IfOk result (λ r. (m : Lit) → Contains r.clause m → 0 < level_of trail.now.assigned m) }
+    ensures highest { IfOk result (λ r. (m : Lit) → Contains r.clause m → level_of trail.now.assigned m ≤ greatest_of trail.now.assigned given.now) }
+    ensures level { IfOk result (λ r. r.level ≡ greatest_of trail.now.assigned (literals_under trail.now.assigned (greatest_of trail.now.assigned r.clause) r.clause)) }
 {
     let level = greatest_level(trail, given);
     let count = keep_clause(trail, given, level, marks, 0);
@@ -152,24 +152,24 @@ pub fn conflict_clause(
     clauses: &[Clause],
     falsified: usize,
 ) -> Result<Learnt, AllocError>
-    requires lawful { IsLawful trail.now clauses.now }
+    requires lawful { IsLawful trail.now.assigned clauses.now }
     requires within { falsified < length clauses.now }
-    requires falsified { AreFalse trail.now (clause clauses.now falsified) }
+    requires falsified { AreFalse trail.now.assigned (clause clauses.now falsified) }
     // Its literals are false by the trail.
-    ensures false_ones { IfOk result (λ r. AreFalse trail.now r.clause) }
+    ensures false_ones { IfOk result (λ r. AreFalse trail.now.assigned r.clause) }
     // Unit propagation through the hints derives it.
     ensures derived { IfOk result (λ r. Propagates clauses.now r.clause r.hints) }
     // It is empty where all literals of the falsified clause are of level 0.
-    ensures empty { IfOk result (λ r. greatest_of trail.now (clause clauses.now falsified) ≡ 0 → r.clause ≡ []) }
+    ensures empty { IfOk result (λ r. greatest_of trail.now.assigned (clause clauses.now falsified) ≡ 0 → r.clause ≡ []) }
     // Otherwise exactly one of its literals is of their greatest level.
-    ensures one { IfOk result (λ r. let level = greatest_of trail.now (clause clauses.now falsified) in
-        0 < level → count_by (λ m. level_of trail.now m == level) r.clause ≡ 1) }
+    ensures one { IfOk result (λ r. let level = greatest_of trail.now.assigned (clause clauses.now falsified) in
+        0 < level → count_by (λ m. level_of trail.now.assigned m == level) r.clause ≡ 1) }
     // None of its literals is of a greater level.
-    ensures highest { IfOk result (λ r. (m : Lit) → Contains r.clause m → level_of trail.now m ≤ greatest_of trail.now (clause clauses.now falsified)) }
+    ensures highest { IfOk result (λ r. (m : Lit) → Contains r.clause m → level_of trail.now.assigned m ≤ greatest_of trail.now.assigned (clause clauses.now falsified)) }
     // None of its literals is of level 0.
-    ensures ground { IfOk result (λ r. (m : Lit) → Contains r.clause m → 0 < level_of trail.now m) }
+    ensures ground { IfOk result (λ r. (m : Lit) → Contains r.clause m → 0 < level_of trail.now.assigned m) }
     // The level is the greatest one of its literals below their greatest one.
-    ensures level { IfOk result (λ r. r.level ≡ greatest_of trail.now (literals_under trail.now (greatest_of trail.now r.clause) r.clause)) }
+    ensures level { IfOk result (λ r. r.level ≡ greatest_of trail.now.assigned (literals_under trail.now.assigned (greatest_of trail.now.assigned r.clause) r.clause)) }
 {
     let mut marks = vec![in alloc; Mark::Blank; trail.len()]?;
     learnt_from(

@@ -10,8 +10,8 @@ use ae_core::formulas::{Clause, Lit};
 
 /// Whether a literal is false by the first `n` literals of a trail, in time logarithmic in the trail.
 fn is_false_below(trail: &Trail, n: usize, lit: &Lit) -> bool
-    requires within { n ≤ length trail.now }
-    ensures { IsTrue result ↔ IsFalseBelow trail.now n lit.now }
+    requires within { n ≤ length trail.now.assigned }
+    ensures { IsTrue result ↔ IsFalseBelow trail.now.assigned n lit.now }
 {
     match trail.place_of(&lit.formula) {
         Some(place) => place < n && trail.lit_at(place).positive != lit.positive,
@@ -21,7 +21,7 @@ fn is_false_below(trail: &Trail, n: usize, lit: &Lit) -> bool
 
 /// Whether all literals of a clause are false by a trail, with a lookup for each of them.
 pub fn are_false(trail: &Trail, clause: &[Lit]) -> bool
-    ensures { IsTrue result ↔ AreFalse trail.now clause.now }
+    ensures { IsTrue result ↔ AreFalse trail.now.assigned clause.now }
 {
     for lit in clause {
         if !is_false_below(trail, trail.len(), lit) {
@@ -45,8 +45,8 @@ fn holds(clause: &[Lit], wanted: &Lit) -> bool
 
 /// Whether the literals of a clause other than `own` are false by the first `n` literals of a trail.
 fn others_are_false(trail: &Trail, n: usize, own: &Lit, clause: &[Lit]) -> bool
-    requires within { n ≤ length trail.now }
-    ensures { IsTrue result ↔ OthersAreFalse trail.now n own.now clause.now }
+    requires within { n ≤ length trail.now.assigned }
+    ensures { IsTrue result ↔ OthersAreFalse trail.now.assigned n own.now clause.now }
 {
     for lit in clause {
         if !same_lit(lit, own) && !is_false_below(trail, n, lit) {
@@ -58,8 +58,8 @@ fn others_are_false(trail: &Trail, n: usize, own: &Lit, clause: &[Lit]) -> bool
 
 /// Whether the clause of this number makes the literal at a place true after those before it.
 fn is_reason(trail: &Trail, clauses: &[Clause], place: usize, number: usize) -> bool
-    requires within { place < length trail.now }
-    ensures { IsTrue result ↔ IsReason trail.now clauses.now place number }
+    requires within { place < length trail.now.assigned }
+    ensures { IsTrue result ↔ IsReason trail.now.assigned clauses.now place number }
 {
     if clauses.len() <= number {
         return false;
@@ -71,8 +71,8 @@ fn is_reason(trail: &Trail, clauses: &[Clause], place: usize, number: usize) -> 
 
 /// The level before a place.
 fn level_ahead(trail: &Trail, place: usize) -> usize
-    requires within { place < length trail.now }
-    ensures { result ≡ level_before trail.now place }
+    requires within { place < length trail.now.assigned }
+    ensures { result ≡ level_before trail.now.assigned place }
 {
     if place == 0 {
         0
@@ -83,8 +83,8 @@ fn level_ahead(trail: &Trail, place: usize) -> usize
 
 /// Whether the literal at a place begins the next level, or is of the level before it and has a reason.
 fn enters(trail: &Trail, clauses: &[Clause], place: usize) -> bool
-    requires within { place < length trail.now }
-    ensures { IsTrue result ↔ Enters trail.now clauses.now place (at trail.now place).by }
+    requires within { place < length trail.now.assigned }
+    ensures { IsTrue result ↔ Enters trail.now.assigned clauses.now place (at trail.now.assigned place).by }
 {
     let before = level_ahead(trail, place);
     let level = trail.level_at(place);
@@ -98,7 +98,7 @@ fn enters(trail: &Trail, clauses: &[Clause], place: usize) -> bool
 /// it and a clause that holds it and whose other literals are false by earlier ones; a clause with a literal and its
 /// opposite is no such clause. It takes a lookup for each literal of the reasons.
 pub fn is_lawful(trail: &Trail, clauses: &[Clause]) -> bool
-    ensures { IsTrue result ↔ IsLawful trail.now clauses.now }
+    ensures { IsTrue result ↔ IsLawful trail.now.assigned clauses.now }
 {
     for place in 0..trail.as_slice().len() {
         if !enters(trail, clauses, place) {

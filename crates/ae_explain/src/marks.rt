@@ -18,11 +18,11 @@ pub enum Mark {
 
 /// Keeps a place of which nothing is known. Answers how many places of the level are kept then.
 fn keep_place(trail: &Trail, place: usize, level: usize, marks: &mut [Mark], count: usize) -> usize
-    requires len { length marks.old ≡ length trail.now }
-    requires within { place < length trail.now }
-    requires count { count ≡ kept_at trail.now marks.old level }
+    requires len { length marks.old ≡ length trail.now.assigned }
+    requires within { place < length trail.now.assigned }
+    requires count { count ≡ kept_at trail.now.assigned marks.old level }
     ensures kept { KeepsPlace marks.old marks.new place }
-    ensures count { result ≡ kept_at trail.now marks.new level }
+    ensures count { result ≡ kept_at trail.now.assigned marks.new level }
 {
     if marks[place] != Mark::Blank {
         return count;
@@ -38,10 +38,10 @@ fn keep_place(trail: &Trail, place: usize, level: usize, marks: &mut [Mark], cou
 
 /// Keeps the place of a literal's formula. Answers how many places of the level are kept then.
 fn keep_lit(trail: &Trail, lit: &Lit, level: usize, marks: &mut [Mark], count: usize) -> usize
-    requires len { length marks.old ≡ length trail.now }
-    requires count { count ≡ kept_at trail.now marks.old level }
-    ensures kept { KeepsLit trail.now marks.old marks.new lit.now }
-    ensures count { result ≡ kept_at trail.now marks.new level }
+    requires len { length marks.old ≡ length trail.now.assigned }
+    requires count { count ≡ kept_at trail.now.assigned marks.old level }
+    ensures kept { KeepsLit trail.now.assigned marks.old marks.new lit.now }
+    ensures count { result ≡ kept_at trail.now.assigned marks.new level }
 {
     match trail.place_of(&lit.formula) {
         Some(place) => keep_place(trail, place, level, marks, count),
@@ -57,10 +57,10 @@ pub fn keep_clause(
     marks: &mut [Mark],
     count: usize,
 ) -> usize
-    requires len { length marks.old ≡ length trail.now }
-    requires count { count ≡ kept_at trail.now marks.old level }
-    ensures kept { KeepsClause trail.now marks.old marks.new clause.now }
-    ensures count { result ≡ kept_at trail.now marks.new level }
+    requires len { length marks.old ≡ length trail.now.assigned }
+    requires count { count ≡ kept_at trail.now.assigned marks.old level }
+    ensures kept { KeepsClause trail.now.assigned marks.old marks.new clause.now }
+    ensures count { result ≡ kept_at trail.now.assigned marks.new level }
 {
     let mut count = count;
     for lit in clause {
@@ -71,12 +71,12 @@ pub fn keep_clause(
 
 /// Lets a kept place go. Answers how many places of the level are kept then.
 fn let_go(trail: &Trail, place: usize, level: usize, marks: &mut [Mark], count: usize) -> usize
-    requires len { length marks.old ≡ length trail.now }
-    requires within { place < length trail.now }
+    requires len { length marks.old ≡ length trail.now.assigned }
+    requires within { place < length trail.now.assigned }
     requires kept { kept marks.old place ≡ true }
-    requires count { count ≡ kept_at trail.now marks.old level }
+    requires count { count ≡ kept_at trail.now.assigned marks.old level }
     ensures marks { marks.new ≡ slice_set marks.old place Resolved }
-    ensures count { result ≡ kept_at trail.now marks.new level }
+    ensures count { result ≡ kept_at trail.now.assigned marks.new level }
 {
     marks[place] = Mark::Resolved;
     if trail.level_at(place) == level {
@@ -103,14 +103,14 @@ fn resolve_at(
     marks: &mut [Mark],
     count: usize,
 ) -> usize
-    requires lawful { IsLawful trail.now clauses.now }
-    requires len { length marks.old ≡ length trail.now }
-    requires within { place < length trail.now }
-    requires reason { (at trail.now place).by ≢ None }
+    requires lawful { IsLawful trail.now.assigned clauses.now }
+    requires len { length marks.old ≡ length trail.now.assigned }
+    requires within { place < length trail.now.assigned }
+    requires reason { (at trail.now.assigned place).by ≢ None }
     requires kept { kept marks.old place ≡ true }
-    requires count { count ≡ kept_at trail.now marks.old level }
-    ensures resolves { Resolves trail.now clauses.now marks.old marks.new place }
-    ensures count { result ≡ kept_at trail.now marks.new level }
+    requires count { count ≡ kept_at trail.now.assigned marks.old level }
+    ensures resolves { Resolves trail.now.assigned clauses.now marks.old marks.new place }
+    ensures count { result ≡ kept_at trail.now.assigned marks.new level }
 {
     let left = let_go(trail, place, level, marks, count);
     match trail.by_at(place) {
@@ -135,10 +135,10 @@ fn go_over(
     marks: &mut [Mark],
     count: usize,
 ) -> usize
-    requires lawful { IsLawful trail.now clauses.now }
-    requires within { place < length trail.now }
-    requires before { State trail.now clauses.now marks.old level (place + 1) count }
-    ensures after { State trail.now clauses.now marks.new level place result }
+    requires lawful { IsLawful trail.now.assigned clauses.now }
+    requires within { place < length trail.now.assigned }
+    requires before { State trail.now.assigned clauses.now marks.old level (place + 1) count }
+    ensures after { State trail.now.assigned clauses.now marks.new level place result }
     ensures grows { (p : ℕ) → marked marks.old p ≡ true → marked marks.new p ≡ true }
 {
     if marks[place] != Mark::Kept {
@@ -152,9 +152,9 @@ fn go_over(
 
 /// Goes over all places from the end of the trail to its start: what is kept then are the literals to learn.
 pub fn resolve(trail: &Trail, clauses: &[Clause], level: usize, marks: &mut [Mark], count: usize)
-    requires lawful { IsLawful trail.now clauses.now }
-    requires before { State trail.now clauses.now marks.old level (length trail.now) count }
-    ensures after { (left : ℕ) × State trail.now clauses.now marks.new level 0 left }
+    requires lawful { IsLawful trail.now.assigned clauses.now }
+    requires before { State trail.now.assigned clauses.now marks.old level (length trail.now.assigned) count }
+    ensures after { (left : ℕ) × State trail.now.assigned clauses.now marks.new level 0 left }
     ensures grows { (p : ℕ) → marked marks.old p ≡ true → marked marks.new p ≡ true }
 {
     let mut left = count;

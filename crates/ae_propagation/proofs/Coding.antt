@@ -11,6 +11,8 @@ use Rattle.ae_rules.specs.Clauses.{Clause}
 use Rattle.ae_core.specs.declared.formulas.Formula.{Formula}
 use Rattle.ae_core.specs.declared.formulas.Lit.{Lit}
 use Rattle.ae_explain.specs.declared.trail.Assigned.{Assigned}
+use Rattle.ae_explain.specs.Assignments.{AreKept, AreValues, value_in}
+use Rattle.ae_explain.specs.Inner.Index.{AreUnlike, value_at}
 use Rattle.ae_explain.specs.Trail.{at, nothing, place_in, clause, IsFalse}
 use Rattle.ae_explain.proofs.Places.{found}
 use Rattle.ae_propagation.specs.declared.codes.Code.{Code}
@@ -18,27 +20,27 @@ use Rattle.ae_propagation.specs.declared.occurrences.Occurrences.{Occurrences}
 use Rattle.ae_propagation.specs.declared.settle.ClauseState.{ClauseState}
 use Rattle.ae_propagation.specs.declared.settle.ClauseState.TheVariants as state
 use Rattle.ae_propagation.specs.Settled.{Holds, Says}
-use Rattle.ae_propagation.specs.Inner.Finding.{Adds, IsTable}
-use Rattle.ae_propagation.specs.Inner.Coding.{IsCode, AreCodes, AreAllCodes, AreApartBy, AreValues, value_in, value_at, SaysCodes}
+use Rattle.ae_propagation.specs.Inner.Finding.{IsTable}
+use Rattle.ae_propagation.specs.Inner.Coding.{IsCode, AreCodes, AreAllCodes, SaysCodes}
 
 pub none_code : Code
 none_code = record { number = 0; positive = false }
 
 -- ---- formulas that get numbers
-still_code : (b : ℕ) (old new : Formula → Option ℕ) (l : Lit) (k : Code) → Adds b old new → IsCode old l k → IsCode new l k
-still_code b old new l k a c = (a.stay l.formula k.number c.0, c.1)
+still_code : (old new : Formula → Option ℕ) (l : Lit) (k : Code) → AreKept old new → IsCode old l k → IsCode new l k
+still_code old new l k a c = (a l.formula k.number c.0, c.1)
 
-still_codes : (b : ℕ) (old new : Formula → Option ℕ) (c : Clause) (ks : List Code) → Adds b old new → AreCodes old c ks → AreCodes new c ks
-still_codes b old new c ks a h = record { size = h.size; each = λ i l k w. still_code b old new (get_or c i l) (get_or ks i k) a (h.each i l k w) }
+still_codes : (old new : Formula → Option ℕ) (c : Clause) (ks : List Code) → AreKept old new → AreCodes old c ks → AreCodes new c ks
+still_codes old new c ks a h = record { size = h.size; each = λ i l k w. still_code old new (get_or c i l) (get_or ks i k) a (h.each i l k w) }
 
-pub still_all : (b : ℕ) (old new : Formula → Option ℕ) (u : List Clause) (codes : List (List Code)) → Adds b old new → AreAllCodes old u codes → AreAllCodes new u codes
-still_all b old new u codes a h = record { size = h.size; each = λ n w. still_codes b old new (clause u n) (get_or codes n []) a (h.each n w) }
+pub still_all : (old new : Formula → Option ℕ) (u : List Clause) (codes : List (List Code)) → AreKept old new → AreAllCodes old u codes → AreAllCodes new u codes
+still_all old new u codes a h = record { size = h.size; each = λ n w. still_codes old new (clause u n) (get_or codes n []) a (h.each n w) }
 
 -- one code more
-pub more_codes : (b : ℕ) (old new : Formula → Option ℕ) (c : Clause) (ks : List Code) (i : ℕ) (x : Lit) (own : Code) → Adds b old new → i < length c → x ≡ get_or c i x → length ks ≡ i → IsCode new x own
+pub more_codes : (old new : Formula → Option ℕ) (c : Clause) (ks : List Code) (i : ℕ) (x : Lit) (own : Code) → AreKept old new → i < length c → x ≡ get_or c i x → length ks ≡ i → IsCode new x own
     → ((j : ℕ) (m : Lit) (k : Code) → j < i → IsCode old (get_or c j m) (get_or ks j k)) → (j : ℕ) (m : Lit) (k : Code) → j < i + 1 → IsCode new (get_or c j m) (get_or (ks ++ own ∷ []) j k)
-more_codes b old new c ks i x own a w e s is before j m k l = elim (cases_lt j i) as (λ _. IsCode new (get_or c j m) (get_or (ks ++ own ∷ []) j k)) [
-  | inl lt ↦ subst (λ (y : Code). IsCode new (get_or c j m) y) (sym (get_or_append_left ks (own ∷ []) k j (omega (arith, lt, s)))) (still_code b old new (get_or c j m) (get_or ks j k) a (before j m k lt))
+more_codes old new c ks i x own a w e s is before j m k l = elim (cases_lt j i) as (λ _. IsCode new (get_or c j m) (get_or (ks ++ own ∷ []) j k)) [
+  | inl lt ↦ subst (λ (y : Code). IsCode new (get_or c j m) y) (sym (get_or_append_left ks (own ∷ []) k j (omega (arith, lt, s)))) (still_code old new (get_or c j m) (get_or ks j k) a (before j m k lt))
   | inr ge ↦
       let q : i ≡ j = omega (arith, l, ge) in
       let r : x ≡ get_or c j m = subst (λ (n : ℕ). x ≡ get_or c n m) q (e ∙ get_or_default c i x m w) in
@@ -101,7 +103,7 @@ lit_code numbers c ks h m has =
     let w : has.0 < length ks = omega (arith, has.1, h.size) in
     (get_or ks has.0 none_code, Contains-get_or ks has.0 none_code w, subst (λ (y : Lit). IsCode numbers y (get_or ks has.0 none_code)) has.2 (h.each has.0 m none_code has.1))
 
-same_lit_of : (numbers : Formula → Option ℕ) → AreApartBy numbers → (l m : Lit) (k : Code) → IsCode numbers l k → IsCode numbers m k → l ≡ m
+same_lit_of : (numbers : Formula → Option ℕ) → AreUnlike numbers → (l m : Lit) (k : Code) → IsCode numbers l k → IsCode numbers m k → l ≡ m
 same_lit_of numbers apart l m k a b =
     let s : l.positive ≡ m.positive = a.1 ∙ sym b.1 in
     let f : l.formula ≡ m.formula = apart l.formula m.formula k.number a.0 b.0 in
@@ -143,7 +145,7 @@ unvalued t f e = by_place (place_in t f) refl
     by_place None q = q
     by_place (Some p) q = absurd (none-some (at t p).lit.positive (sym e ∙ ap (option_map (λ (p : ℕ). (at t p).lit.positive)) q))
 
-module _ (numbers : Formula → Option ℕ) (apart : AreApartBy numbers) (values : List (Option Bool)) (t : List Assigned) (v : AreValues numbers values t) where
+module _ (numbers : Formula → Option ℕ) (apart : AreUnlike numbers) (values : List (Option Bool)) (t : List Assigned) (v : AreValues numbers values t) where
   value_true : (m : Lit) (k : Code) → IsCode numbers m k → value_at values k.number ≡ Some k.positive → Holds t m
   value_true m k c h = valued_as t m.formula m.positive (sym (v m.formula k.number c.0) ∙ (h ∙ ap Some (sym c.1)))
 

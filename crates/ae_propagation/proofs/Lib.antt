@@ -1,6 +1,5 @@
 pub mod Trails
 pub mod Members
-pub mod Results
 pub mod Settling
 pub mod Listing
 pub mod Numbering
@@ -8,5 +7,4 @@ pub mod Entering
 pub mod Watching
 pub mod Bounding
 pub mod Coding
-pub mod Valuing
 pub mod Fitting

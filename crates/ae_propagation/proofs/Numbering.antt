@@ -1,37 +1,26 @@
 -- The numbers of formulas, and what stands at their places.
-use Rattle.std.proofs.Common.{◌≡◌, ◌≢◌, ℕ, ◌<◌, ◌≤◌, Bool, true, false, cond, List, [], ◌∷◌, ◌++◌, length, get_or, set, refl, sym, ◌∙◌, ap, subst, arith, ◌⊎◌, inl, inr, Option, Some, None, length-set}
+use Rattle.std.proofs.Common.{◌≡◌, ◌≢◌, ℕ, ◌<◌, Bool, true, false, List, [], ◌∷◌, ◌++◌, length, get_or, set, refl, sym, ◌∙◌, ap, subst, arith, inl, inr, Option, Some, None, length-set}
 use Rattle.std.specs.Prelude.{not}
-use Rattle.std.specs.Ordering.{is_eq}
 use Rattle.std.proofs.lemmas.Bool.{cases_eq}
-use Rattle.std.proofs.lemmas.Option.{same_Some, none-some}
 use Rattle.std.proofs.lemmas.List.{length_push, get_or_push, get_or_append_left, get_or-set_same, get_or-set_other}
-use Rattle.ae_base.proofs.Orders.{not_equal}
-use Rattle.ae_core.specs.Decided.{Formula_discrete}
-use Rattle.ae_core.specs.Orders.{formula_order}
-use Rattle.ae_core.proofs.OrderLaws.{formula_exact}
 use Rattle.ae_core.specs.declared.formulas.Formula.{Formula}
 use Rattle.ae_core.specs.declared.formulas.Lit.{Lit}
+use Rattle.ae_explain.specs.Assignments.{IsGiven}
+use Rattle.ae_explain.proofs.Valuing.{given_cases, own_number, still_unlike}
 use Rattle.ae_propagation.specs.declared.occurrences.Occurrences.{Occurrences}
 use Rattle.ae_propagation.specs.declared.codes.Code.{Code}
 use Rattle.ae_propagation.specs.Inner.Coding.{IsCode}
-use Rattle.ae_propagation.specs.Inner.Finding.{side, none_listed, occurrences_at, listed, IsTable, Adds, IsWidened}
+use Rattle.ae_propagation.specs.Inner.Finding.{side, none_listed, occurrences_at, listed, IsTable, IsWidened}
 use Rattle.ae_propagation.proofs.Members.{lit_cases}
-
--- ---- one formula more has a number
-module _ (old new : Formula → Option ℕ) (k : Formula) (n : ℕ) (u : (f : Formula) → new f ≡ cond (is_eq (formula_order k f)) (Some n) (old f)) where
-  pub new_own : new k ≡ Some n
-  new_own = u k ∙ ap (λ (b : Bool). cond b (Some n) (old k)) (ap is_eq ((formula_exact k k).1 refl))
-
-  new_cases : (f : Formula) → ((k ≡ f) × (new f ≡ Some n)) ⊎ (new f ≡ old f)
-  new_cases f = elim (Formula_discrete k f) as (λ _. ((k ≡ f) × (new f ≡ Some n)) ⊎ (new f ≡ old f)) [
-    | yes e ↦ inl (e, subst (λ (g : Formula). new g ≡ Some n) e new_own)
-    | no d ↦ inr (u f ∙ ap (λ (b : Bool). cond b (Some n) (old f)) (not_equal (formula_order k f) (λ e. d ((formula_exact k f).0 e))))
-  ]
 
 -- ---- one place more
 room_at : (table : List Occurrences) (o : Option ℕ) → ((n : ℕ) → o ≡ Some n → n < length table) → occurrences_at (table ++ none_listed ∷ []) o ≡ occurrences_at table o
 room_at table None w = refl
 room_at table (Some n) w = get_or_append_left table (none_listed ∷ []) none_listed n (w n refl)
+
+-- no formula has the number behind the table's
+pub unused_next : (numbers : Formula → Option ℕ) (table : List Occurrences) → IsTable numbers table → (f : Formula) → numbers f ≢ Some (length table)
+unused_next numbers table h f e = let l : length table < length table = h.within f (length table) e in omega (arith, l)
 
 pub more_room : (numbers : Formula → Option ℕ) (table : List Occurrences) → IsTable numbers table → IsTable numbers (table ++ none_listed ∷ [])
 more_room numbers table h = record { within = λ f n e. omega (arith, h.within f n e, length_push table none_listed); apart = h.apart }
@@ -39,37 +28,22 @@ more_room numbers table h = record { within = λ f n e. omega (arith, h.within f
 pub room_listed : (numbers : Formula → Option ℕ) (table : List Occurrences) (l : Lit) → IsTable numbers table → listed numbers (table ++ none_listed ∷ []) l ≡ listed numbers table l
 room_listed numbers table l h = ap (side l.positive) (room_at table (numbers l.formula) (λ n e. h.within l.formula n e))
 
-pub numbered : (old new : Formula → Option ℕ) (table : List Occurrences) (k : Formula) → ((f : Formula) → new f ≡ cond (is_eq (formula_order k f)) (Some (length table)) (old f)) → IsTable old table
-    → IsTable new (table ++ none_listed ∷ [])
-numbered old new table k u h = record {
-  within = λ f n e. elim (new_cases old new k (length table) u f) as (λ _. n < length (table ++ none_listed ∷ [])) [
-    | inl q ↦
-        let s : n ≡ length table = same_Some n (length table) (sym e ∙ q.1) in
-        omega (arith, s, length_push table none_listed)
+pub numbered : (old new : Formula → Option ℕ) (table : List Occurrences) (k : Formula) → IsGiven k (length table) old new → IsTable old table → IsTable new (table ++ none_listed ∷ [])
+numbered old new table k g h = record {
+  within = λ f n e. elim (given_cases k (length table) old new g f) as (λ _. n < length (table ++ none_listed ∷ [])) [
+    | inl q ↦ omega (arith, own_number k (length table) old new g f n q e, length_push table none_listed)
     | inr q ↦ omega (arith, h.within f n (sym q ∙ e), length_push table none_listed)
   ];
-  apart = λ f g n e d. elim (new_cases old new k (length table) u f) as (λ _. f ≡ g) [
-    | inl q ↦ elim (new_cases old new k (length table) u g) as (λ _. f ≡ g) [
-      | inl r ↦ sym q.0 ∙ r.0
-      | inr r ↦
-          let s : n ≡ length table = same_Some n (length table) (sym e ∙ q.1) in
-          absurd (omega (arith, s, h.within g n (sym r ∙ d)))
-    ]
-    | inr q ↦ elim (new_cases old new k (length table) u g) as (λ _. f ≡ g) [
-      | inl r ↦
-          let s : n ≡ length table = same_Some n (length table) (sym d ∙ r.1) in
-          absurd (omega (arith, s, h.within f n (sym q ∙ e)))
-      | inr r ↦ h.apart f g n (sym q ∙ e) (sym r ∙ d)
-    ]
-  ];
+  apart = still_unlike k (length table) old new g (unused_next old table h) h.apart;
 }
 
-pub number_listed : (old new : Formula → Option ℕ) (table : List Occurrences) (k : Formula) → ((f : Formula) → new f ≡ cond (is_eq (formula_order k f)) (Some (length table)) (old f)) → IsTable old table
-    → old k ≡ None → (l : Lit) → listed new (table ++ none_listed ∷ []) l ≡ listed old table l
-number_listed old new table k u h none l = elim (new_cases old new k (length table) u l.formula) as (λ _. listed new (table ++ none_listed ∷ []) l ≡ listed old table l) [
+pub number_listed : (old new : Formula → Option ℕ) (table : List Occurrences) (k : Formula) → IsGiven k (length table) old new → IsTable old table → old k ≡ None
+    → (l : Lit) → listed new (table ++ none_listed ∷ []) l ≡ listed old table l
+number_listed old new table k g h none l = elim (given_cases k (length table) old new g l.formula) as (λ _. listed new (table ++ none_listed ∷ []) l ≡ listed old table l) [
   | inl q ↦
-      let e : old l.formula ≡ None = subst (λ (f : Formula). old f ≡ None) q.0 none in
-      ap (λ (o : Option ℕ). side l.positive (occurrences_at (table ++ none_listed ∷ []) o)) q.1
+      let e : old l.formula ≡ None = ap old q ∙ none in
+      let r : new l.formula ≡ Some (length table) = ap new q ∙ g.given in
+      ap (λ (o : Option ℕ). side l.positive (occurrences_at (table ++ none_listed ∷ []) o)) r
       ∙ (ap (side l.positive) (get_or_push table none_listed none_listed (length table) refl) ∙ ap (λ (o : Option ℕ). side l.positive (occurrences_at table o)) (sym e))
   | inr q ↦ ap (λ (o : Option ℕ). side l.positive (occurrences_at (table ++ none_listed ∷ []) o)) q ∙ room_listed old table l h
 ]
@@ -109,42 +83,15 @@ set_others numbers table l m n o h e s d = by_number (numbers m.formula) refl
           listed_at numbers (set table n o) m k q ∙ (ap (side m.positive) (get_or-set_other table n k o none_listed far) ∙ sym (listed_at numbers table m k q))
     ]
 
--- ---- numbers that are given
-pub adds_none : (n : ℕ) (f : Formula → Option ℕ) → Adds n f f
-adds_none n f = record { stay = λ g k e. e; beyond = λ g k e. inl e }
-
-adds_trans : (m n : ℕ) (f g h : Formula → Option ℕ) → m ≤ n → Adds m f g → Adds n g h → Adds m f h
-adds_trans m n f g h l a b = record {
-  stay = λ x k e. b.stay x k (a.stay x k e);
-  beyond = λ x k e. elim (b.beyond x k e) as (λ _. (f x ≡ Some k) ⊎ (m ≤ k)) [
-    | inl q ↦ a.beyond x k q
-    | inr q ↦ inr (omega (arith, l, q))
-  ];
-}
-
-pub adds_one : (old new : Formula → Option ℕ) (table : List Occurrences) (k : Formula) → ((f : Formula) → new f ≡ cond (is_eq (formula_order k f)) (Some (length table)) (old f)) → old k ≡ None → Adds (length table) old new
-adds_one old new table k u none = record {
-  stay = λ f n e. elim (new_cases old new k (length table) u f) as (λ _. new f ≡ Some n) [
-    | inl q ↦ absurd (none-some n (sym none ∙ (ap old q.0 ∙ e)))
-    | inr q ↦ q ∙ e
-  ];
-  beyond = λ f n e. elim (new_cases old new k (length table) u f) as (λ _. (old f ≡ Some n) ⊎ (length table ≤ n)) [
-    | inl q ↦
-        let s : n ≡ length table = same_Some n (length table) (sym e ∙ q.1) in
-        inr (omega (arith, s))
-    | inr q ↦ inl (sym q ∙ e)
-  ];
-}
-
+-- ---- formulas that get numbers
 pub widened_none : (f : Formula → Option ℕ) (s : List Occurrences) → IsTable f s → IsWidened f s f s
-widened_none f s h = record { is_table = h; same = λ l. refl; adds = adds_none (length s) f; room = omega arith }
+widened_none f s h = record { is_table = h; same = λ l. refl; kept = λ x k e. e }
 
 pub widened_trans : (f : Formula → Option ℕ) (s : List Occurrences) (g : Formula → Option ℕ) (t : List Occurrences) (h : Formula → Option ℕ) (u : List Occurrences) → IsWidened f s g t → IsWidened g t h u → IsWidened f s h u
 widened_trans f s g t h u a b = record {
   is_table = b.is_table;
   same = λ l. b.same l ∙ a.same l;
-  adds = adds_trans (length s) (length t) f g h a.room a.adds b.adds;
-  room = omega (arith, a.room, b.room);
+  kept = λ x k e. b.kept x k (a.kept x k e);
 }
 
 -- ---- the list of a literal, by its code

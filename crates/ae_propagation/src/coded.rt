@@ -1,24 +1,22 @@
 //! Clauses with the codes of their literals, and the lists by which they are found.
-ghost use Rattle.std.specs.Prelude.{◌≡◌, ◌++◌, ◌∷◌, [], ◌<◌, ℕ, List, length, slice_index_or, Option, Some, IfOk, OnOk, OnErr};
+ghost use Rattle.std.specs.Prelude.{◌≡◌, ◌++◌, ◌∷◌, [], ◌<◌, ℕ, List, length, slice_index_or, Option, Some, None, IfOk, OnOk, OnErr};
 ghost use Rattle.ae_rules.specs.Clauses.{Clause};
 ghost use Rattle.ae_propagation.specs.declared.codes.Code.{Code};
-ghost use Rattle.ae_propagation.specs.declared.valued.Valued.{Valued};
 ghost use Rattle.ae_core.specs.declared.formulas.Formula.{Formula};
+ghost use Rattle.ae_explain.specs.Assignments.{number_in};
 ghost use Rattle.ae_propagation.specs.Inner.Finding.{listed, IsTable, AreListed, AreLeft};
-ghost use Rattle.ae_propagation.specs.Inner.Coding.{numbers_of, AreCodes, IsCoded, IsValued};
+ghost use Rattle.ae_propagation.specs.Inner.Coding.{AreCodes, IsCoded};
 
 use crate::codes::Code;
 use crate::occurrences::{Occurrences, codes_of, enter, forget, number_of};
 use ae_core::formulas::{Clause, Formula};
 use ae_core::lists::List;
+use ae_explain::Trail;
 use std::alloc::{AllocError, Global};
-use std::collections::BTreeMap;
 
-/// Clauses, the codes of each one's literals, and where they are found.
+/// Clauses, the codes of each one's literals, and where they are found: a formula's number is its place in the table.
 #[derive(Drop)]
 pub(crate) struct Coded {
-    /// The number of each formula, that is its place in the table.
-    pub(crate) numbers: BTreeMap<Formula, usize>,
     pub(crate) table: Vec<Occurrences>,
     pub(crate) clauses: List<Clause>,
     pub(crate) codes: List<List<Code>>,
@@ -26,11 +24,10 @@ pub(crate) struct Coded {
 
 /// No clauses.
 pub(crate) fn no_clauses(alloc: Global) -> Coded
-    ensures coded { IsCoded result }
+    ensures coded { (numbers : Formula → Option ℕ) → ((f : Formula) → numbers f ≡ None) → IsCoded numbers result }
     ensures clauses { result.clauses ≡ [] }
 {
     Coded {
-        numbers: BTreeMap::new(alloc),
         table: Vec::new(alloc),
         clauses: List::new(alloc),
         codes: List::new(alloc),
@@ -46,18 +43,19 @@ pub(crate) fn codes_at(codes: &List<List<Code>>, number: usize) -> &[Code]
 }
 
 /// A formula's number; the next one where it has none yet.
-pub(crate) fn number_in(
+pub(crate) fn number_for(
     alloc: Global,
     coded: &mut Coded,
+    trail: &mut Trail,
     formula: &Formula,
 ) -> Result<usize, AllocError>
-    requires { IsCoded coded.old }
-    ensures coded { IsCoded coded.new }
-    ensures valued { (v : Valued) → IsValued (numbers_of coded.old) (length coded.old.table.items) v → IsValued (numbers_of coded.new) (length coded.new.table.items) v }
+    requires { IsCoded (number_in trail.old.numbers) coded.old }
+    ensures coded { IsCoded (number_in trail.new.numbers) coded.new }
     ensures clauses { coded.new.clauses ≡ coded.old.clauses }
-    ensures number { IfOk result (λ n. numbers_of coded.new formula.now ≡ Some n) }
+    ensures trail { trail.new.assigned ≡ trail.old.assigned }
+    ensures number { IfOk result (λ n. number_in trail.new.numbers formula.now ≡ Some n) }
 {
-    number_of(alloc, &mut coded.numbers, &mut coded.table, formula)
+    number_of(alloc, trail, &mut coded.table, formula)
 }
 
 /// Drops the last clause.
@@ -101,20 +99,20 @@ fn push_both(
 }
 
 /// Takes in a clause behind the others. Refused memory leaves the clauses as they were.
-pub(crate) fn take_in(alloc: Global, coded: &mut Coded, clause: Clause) -> Result<(), AllocError>
-    requires { IsCoded coded.old }
-    ensures coded { IsCoded coded.new }
-    ensures valued { (v : Valued) → IsValued (numbers_of coded.old) (length coded.old.table.items) v → IsValued (numbers_of coded.new) (length coded.new.table.items) v }
+pub(crate) fn take_in(
+    alloc: Global,
+    coded: &mut Coded,
+    trail: &mut Trail,
+    clause: Clause,
+) -> Result<(), AllocError>
+    requires { IsCoded (number_in trail.old.numbers) coded.old }
+    ensures coded { IsCoded (number_in trail.new.numbers) coded.new }
+    ensures trail { trail.new.assigned ≡ trail.old.assigned }
     ensures ok { OnOk result (coded.new.clauses ≡ coded.old.clauses ++ clause ∷ []) }
     ensures err { OnErr result (coded.new.clauses ≡ coded.old.clauses) }
 {
     let number = coded.clauses.len();
-    let own = codes_of(
-        alloc,
-        &mut coded.numbers,
-        &mut coded.table,
-        clause.as_slice(),
-    )?;
+    let own = codes_of(alloc, trail, &mut coded.table, clause.as_slice())?;
     push_both(&mut coded.clauses, &mut coded.codes, clause, own)?;
     if let Err(failed) = enter(&mut coded.table, codes_at(&coded.codes, number), number) {
         drop_clause(&mut coded.clauses);
@@ -140,9 +138,8 @@ fn forget_last(table: &mut Vec<Occurrences>, codes: &mut List<List<Code>>, numbe
 
 /// Gives up the last clause, if there is one. It takes no memory.
 pub(crate) fn give_up(coded: &mut Coded)
-    requires { IsCoded coded.old }
-    ensures coded { IsCoded coded.new }
-    ensures valued { (v : Valued) → IsValued (numbers_of coded.old) (length coded.old.table.items) v → IsValued (numbers_of coded.new) (length coded.new.table.items) v }
+    requires { (numbers : Formula → Option ℕ) × IsCoded numbers coded.old }
+    ensures coded { (numbers : Formula → Option ℕ) → IsCoded numbers coded.old → IsCoded numbers coded.new }
     ensures last { (kept : List Clause) (last : Clause) → coded.old.clauses ≡ kept ++ last ∷ [] → coded.new.clauses ≡ kept }
     ensures none { coded.old.clauses ≡ [] → coded.new.clauses ≡ [] }
 {

@@ -2,7 +2,8 @@
 ghost use Rattle.std.specs.Prelude.{◌≡◌, ◌≢◌, ◌<◌, length, not, slice_index_or, Some, None, MatchBool, MatchOption};
 ghost use Rattle.std.specs.List.{Contains};
 ghost use Rattle.ae_propagation.specs.declared.codes.Code.{Code};
-ghost use Rattle.ae_propagation.specs.Inner.Coding.{value_at, IsTrueCode, IsNotFalseCode, SaysCodes};
+ghost use Rattle.ae_explain.specs.Inner.Index.{value_at};
+ghost use Rattle.ae_propagation.specs.Inner.Coding.{IsTrueCode, IsNotFalseCode, SaysCodes};
 
 use crate::settle::ClauseState;
 

@@ -7,4 +7,3 @@ mod codes;
 mod occurrences;
 pub mod propagation;
 pub mod settle;
-mod valued;

@@ -1,20 +1,18 @@
 //! Which clauses have a literal: lists of their numbers, found by the literal's formula.
 ghost use Rattle.std.specs.Prelude.{◌≡◌, ◌≢◌, ◌∷◌, ◌++◌, ◌<◌, ◌≤◌, [], ℕ, List, length, not, slice_index_or, MatchBool, Option, Some, IfOk, OnOk, OnErr};
-ghost use Rattle.std.specs.BTreeMap.{get};
-ghost use Rattle.ae_core.specs.Orders.{formula_order};
 ghost use Rattle.ae_core.specs.declared.formulas.Lit.{Lit};
 ghost use Rattle.ae_rules.specs.Clauses.{Clause};
 ghost use Rattle.ae_core.specs.declared.formulas.Formula.{Formula};
+ghost use Rattle.ae_explain.specs.Assignments.{AreKept, number_in};
 ghost use Rattle.ae_propagation.specs.declared.codes.Code.{Code};
 ghost use Rattle.ae_propagation.specs.Inner.Coding.{IsCode, AreCodes};
-ghost use Rattle.ae_propagation.specs.Inner.Finding.{Adds, EndsIn, IsPut, IsTaken, none_listed, side, listed, IsTable, IsWidened, AreListed, AreLeft};
+ghost use Rattle.ae_propagation.specs.Inner.Finding.{EndsIn, IsPut, IsTaken, none_listed, side, listed, IsTable, IsWidened, AreListed, AreLeft};
 
 use crate::codes::Code;
-use ae_core::copies::copy_formula;
 use ae_core::formulas::{Formula, Lit};
 use ae_core::lists::List;
+use ae_explain::Trail;
 use std::alloc::{AllocError, Global};
-use std::collections::BTreeMap;
 
 /// The numbers of the clauses that have a formula's two literals, rising.
 #[derive(Drop)]
@@ -103,41 +101,39 @@ fn no_occurrences(alloc: Global) -> Occurrences
 /// A formula's number; the next one where it has none yet.
 pub(crate) fn number_of(
     alloc: Global,
-    numbers: &mut BTreeMap<Formula, usize>,
+    trail: &mut Trail,
     table: &mut Vec<Occurrences>,
     formula: &Formula,
 ) -> Result<usize, AllocError>
-    requires { IsTable (get formula_order numbers.old) table.old.items }
-    ensures is_table { IsTable (get formula_order numbers.new) table.new.items }
-    ensures same { (l : Lit) → listed (get formula_order numbers.new) table.new.items l ≡ listed (get formula_order numbers.old) table.old.items l }
-    ensures adds { Adds (length table.old.items) (get formula_order numbers.old) (get formula_order numbers.new) }
-    ensures room { length table.old.items ≤ length table.new.items }
-    ensures number { IfOk result (λ n. get formula_order numbers.new formula.now ≡ Some n) }
+    requires { IsTable (number_in trail.old.numbers) table.old.items }
+    ensures is_table { IsTable (number_in trail.new.numbers) table.new.items }
+    ensures same { (l : Lit) → listed (number_in trail.new.numbers) table.new.items l ≡ listed (number_in trail.old.numbers) table.old.items l }
+    ensures kept { AreKept (number_in trail.old.numbers) (number_in trail.new.numbers) }
+    ensures trail { trail.new.assigned ≡ trail.old.assigned }
+    ensures number { IfOk result (λ n. number_in trail.new.numbers formula.now ≡ Some n) }
 {
-    if let Some(number) = numbers.get(formula).copied() {
+    if let Some(number) = trail.number_of(formula) {
         return Ok(number);
     }
-    let copy = copy_formula(alloc, formula)?;
     let number = table.len();
     table.push(no_occurrences(alloc))?;
-    match numbers.insert(copy, number) {
-        Ok(_) => Ok(number),
-        Err(failed) => Err(AllocError::from(failed)),
-    }
+    trail.give_number(alloc, formula, number)?;
+    Ok(number)
 }
 
 /// A literal's code.
 fn code_of(
     alloc: Global,
-    numbers: &mut BTreeMap<Formula, usize>,
+    trail: &mut Trail,
     table: &mut Vec<Occurrences>,
     lit: &Lit,
 ) -> Result<Code, AllocError>
-    requires { IsTable (get formula_order numbers.old) table.old.items }
-    ensures wide { IsWidened (get formula_order numbers.old) table.old.items (get formula_order numbers.new) table.new.items }
-    ensures code { IfOk result (λ k. IsCode (get formula_order numbers.new) lit.now k) }
+    requires { IsTable (number_in trail.old.numbers) table.old.items }
+    ensures wide { IsWidened (number_in trail.old.numbers) table.old.items (number_in trail.new.numbers) table.new.items }
+    ensures trail { trail.new.assigned ≡ trail.old.assigned }
+    ensures code { IfOk result (λ k. IsCode (number_in trail.new.numbers) lit.now k) }
 {
-    let number = number_of(alloc, numbers, table, &lit.formula)?;
+    let number = number_of(alloc, trail, table, &lit.formula)?;
     let positive = lit.positive;
     Ok(Code { number, positive })
 }
@@ -145,17 +141,18 @@ fn code_of(
 /// The codes of a clause's literals.
 pub(crate) fn codes_of(
     alloc: Global,
-    numbers: &mut BTreeMap<Formula, usize>,
+    trail: &mut Trail,
     table: &mut Vec<Occurrences>,
     lits: &[Lit],
 ) -> Result<List<Code>, AllocError>
-    requires { IsTable (get formula_order numbers.old) table.old.items }
-    ensures wide { IsWidened (get formula_order numbers.old) table.old.items (get formula_order numbers.new) table.new.items }
-    ensures codes { IfOk result (λ ks. AreCodes (get formula_order numbers.new) lits.now ks) }
+    requires { IsTable (number_in trail.old.numbers) table.old.items }
+    ensures wide { IsWidened (number_in trail.old.numbers) table.old.items (number_in trail.new.numbers) table.new.items }
+    ensures trail { trail.new.assigned ≡ trail.old.assigned }
+    ensures codes { IfOk result (λ ks. AreCodes (number_in trail.new.numbers) lits.now ks) }
 {
     let mut codes = List::new(alloc);
     for i in 0..lits.len() {
-        let code = code_of(alloc, numbers, table, &lits[i])?;
+        let code = code_of(alloc, trail, table, &lits[i])?;
         codes.push(code)?;
     }
     Ok(codes)

@@ -1,6 +1,7 @@
 //! A trail with the clauses that it is propagated through: literals are numbers while clauses are tested.
 ghost use Rattle.std.specs.Prelude.{◌≡◌, ℕ, ◌+◌, ◌<◌, ◌≤◌, ◌++◌, ◌∷◌, [], List, length, take, not, slice_index, slice_index_or, None, IfOk, OnOk, OnErr, MatchBool, MatchOption};
 ghost use Rattle.ae_rules.specs.Clauses.{Clause};
+ghost use Rattle.ae_explain.specs.Assignments.{number_in};
 ghost use Rattle.ae_explain.specs.Trail.{at, clause, place_in, AreFalse, IsLawful};
 ghost use Rattle.ae_explain.specs.Fronts.{AreRising, IsFront};
 ghost use Rattle.ae_explain.specs.declared.trail.Assigned.{Assigned};
@@ -8,13 +9,12 @@ ghost use Rattle.ae_propagation.specs.Settled.{Ends, Grown, HasTrue, IsOpenAlone
 ghost use Rattle.ae_propagation.specs.Watched.{AreQuietBy, IsQuietBy, against, pairs};
 ghost use Rattle.ae_propagation.specs.Inner.Scan.{open_all};
 ghost use Rattle.ae_propagation.specs.Inner.Finding.{none_listed, side};
-ghost use Rattle.ae_propagation.specs.Inner.Coding.{IsFit};
+ghost use Rattle.ae_propagation.specs.Inner.Coding.{IsCoded};
 
-use crate::coded::{Coded, codes_at, give_up, no_clauses, number_in, take_in};
+use crate::coded::{Coded, codes_at, give_up, no_clauses, number_for, take_in};
 use crate::codes::{number_at, state_of};
 use crate::occurrences::Occurrences;
 use crate::settle::{ClauseState, Settled, unit_at};
-use crate::valued::{Valued, assign_numbered, drop_above, no_literals};
 use ae_core::formulas::Clause;
 use ae_explain::{Assigned, Trail};
 use ae_steps::Steps;
@@ -27,22 +27,23 @@ use std::sync::ledger::Ledger;
 pub struct Propagation {
     alloc: Global,
     coded: Coded,
-    valued: Valued,
+    trail: Trail,
 }
 
 impl Model for Propagation {
     ghost use Rattle.std.specs.Coded.{codes};
     ghost use Rattle.ae_core.specs.contracts.formulas.Formula as formula;
     ghost use Rattle.ae_propagation.specs.Contents.{Contents};
-    ghost use Rattle.ae_propagation.specs.Inner.Coding.{IsFit};
+    ghost use Rattle.ae_explain.specs.Assignments.{number_in};
+    ghost use Rattle.ae_propagation.specs.Inner.Coding.{IsCoded};
 
     ghost Value = { Contents };
 
     ghost coded = { Prim.hlevel (codes, formula.the_row.coded) };
 
-    ghost view = { λ p. record { trail = p.valued.trail; clauses = p.coded.clauses } };
+    ghost view = { λ p. record { trail = p.trail.assigned; clauses = p.coded.clauses } };
 
-    ghost invariant = { λ p. IsFit p.coded p.valued };
+    ghost invariant = { λ p. IsCoded (number_in p.trail.numbers) p.coded };
 }
 
 /// The list of one of a formula's literals.
@@ -59,41 +60,41 @@ fn side_of(o: &Occurrences, positive: bool) -> &[usize]
 /// How a clause stands to the trail, counted as one step. It compares no formulas.
 fn state_at<L: Ledger>(
     coded: &Coded,
-    valued: &Valued,
+    trail: &Trail,
     number: usize,
     steps: &mut Steps<L>,
 ) -> ClauseState
-    requires fit { IsFit coded.now valued.now }
+    requires fit { IsCoded (number_in trail.now.numbers) coded.now }
     requires within { number < length coded.now.clauses }
-    ensures state { Says valued.now.trail (clause coded.now.clauses number) result }
+    ensures state { Says trail.now.assigned (clause coded.now.clauses number) result }
     ensures step { steps.new ≡ steps.old + 1 }
 {
     steps.tick();
-    state_of(valued.values.as_slice(), codes_at(&coded.codes, number))
+    state_of(trail.values(), codes_at(&coded.codes, number))
 }
 
 /// Makes the one open literal of a clause true.
 fn push_unit(
     alloc: Global,
     coded: &Coded,
-    valued: &mut Valued,
+    trail: &mut Trail,
     k: usize,
     p: usize,
 ) -> Result<(), AllocError>
-    requires fit { IsFit coded.now valued.old }
-    requires lawful { IsLawful valued.old.trail coded.now.clauses }
+    requires fit { IsCoded (number_in trail.old.numbers) coded.now }
+    requires lawful { IsLawful trail.old.assigned coded.now.clauses }
     requires within { k < length coded.now.clauses }
-    requires alone { IsOpenAlone valued.old.trail (clause coded.now.clauses k) p }
-    ensures fit { IsFit coded.now valued.new }
-    ensures lawful { IsLawful valued.new.trail coded.now.clauses }
-    ensures grown { (first : List Assigned) → Grown first valued.old.trail → Grown first valued.new.trail }
-    ensures falls { OnOk result (open_all valued.new.trail coded.now.clauses < open_all valued.old.trail coded.now.clauses) }
-    ensures longer { OnOk result (length valued.new.trail ≡ length valued.old.trail + 1) }
-    ensures made { OnOk result (HasTrue valued.new.trail (clause coded.now.clauses k)) }
+    requires alone { IsOpenAlone trail.old.assigned (clause coded.now.clauses k) p }
+    ensures fit { IsCoded (number_in trail.new.numbers) coded.now }
+    ensures lawful { IsLawful trail.new.assigned coded.now.clauses }
+    ensures grown { (first : List Assigned) → Grown first trail.old.assigned → Grown first trail.new.assigned }
+    ensures falls { OnOk result (open_all trail.new.assigned coded.now.clauses < open_all trail.old.assigned coded.now.clauses) }
+    ensures longer { OnOk result (length trail.new.assigned ≡ length trail.old.assigned + 1) }
+    ensures made { OnOk result (HasTrue trail.new.assigned (clause coded.now.clauses k)) }
 {
-    let assigned = unit_at(alloc, coded.clauses.as_slice(), &valued.trail, k, p)?;
+    let assigned = unit_at(alloc, coded.clauses.as_slice(), trail, k, p)?;
     let number = number_at(codes_at(&coded.codes, k), p);
-    assign_numbered(alloc, valued, number, assigned)
+    trail.assign_numbered(number, assigned)
 }
 
 /// Tests a clause, and assigns its last literal where it is unit; `true` where it is false.
@@ -101,23 +102,23 @@ fn look_at<L: Ledger>(
     alloc: Global,
     coded: &Coded,
     number: usize,
-    valued: &mut Valued,
+    trail: &mut Trail,
     steps: &mut Steps<L>,
 ) -> Result<bool, AllocError>
-    requires fit { IsFit coded.now valued.old }
-    requires lawful { IsLawful valued.old.trail coded.now.clauses }
+    requires fit { IsCoded (number_in trail.old.numbers) coded.now }
+    requires lawful { IsLawful trail.old.assigned coded.now.clauses }
     requires within { number < length coded.now.clauses }
-    ensures fit { IsFit coded.now valued.new }
-    ensures lawful { IsLawful valued.new.trail coded.now.clauses }
-    ensures grown { (first : List Assigned) → Grown first valued.old.trail → Grown first valued.new.trail }
-    ensures falls { OnOk result (open_all valued.new.trail coded.now.clauses + length valued.new.trail ≤ open_all valued.old.trail coded.now.clauses + length valued.old.trail) }
-    ensures says { IfOk result (λ b. MatchBool b (AreFalse valued.new.trail (clause coded.now.clauses number)) ((n : ℕ) → IsQuietBy (take n valued.new.trail) valued.new.trail (clause coded.now.clauses number))) }
+    ensures fit { IsCoded (number_in trail.new.numbers) coded.now }
+    ensures lawful { IsLawful trail.new.assigned coded.now.clauses }
+    ensures grown { (first : List Assigned) → Grown first trail.old.assigned → Grown first trail.new.assigned }
+    ensures falls { OnOk result (open_all trail.new.assigned coded.now.clauses + length trail.new.assigned ≤ open_all trail.old.assigned coded.now.clauses + length trail.old.assigned) }
+    ensures says { IfOk result (λ b. MatchBool b (AreFalse trail.new.assigned (clause coded.now.clauses number)) ((n : ℕ) → IsQuietBy (take n trail.new.assigned) trail.new.assigned (clause coded.now.clauses number))) }
     ensures step { steps.new ≡ steps.old + 1 }
 {
-    match state_at(coded, valued, number, steps) {
+    match state_at(coded, trail, number, steps) {
         ClauseState::False => Ok(true),
         ClauseState::Unit(place) => {
-            push_unit(alloc, coded, valued, number, place)?;
+            push_unit(alloc, coded, trail, number, place)?;
             Ok(false)
         }
         ClauseState::True => Ok(false),
@@ -130,23 +131,23 @@ fn look_at_each<L: Ledger>(
     alloc: Global,
     coded: &Coded,
     numbers: &[usize],
-    valued: &mut Valued,
+    trail: &mut Trail,
     steps: &mut Steps<L>,
 ) -> Result<Option<usize>, AllocError>
-    requires fit { IsFit coded.now valued.old }
-    requires lawful { IsLawful valued.old.trail coded.now.clauses }
+    requires fit { IsCoded (number_in trail.old.numbers) coded.now }
+    requires lawful { IsLawful trail.old.assigned coded.now.clauses }
     requires within { (i : ℕ) → i < length numbers.now → slice_index numbers.now i < length coded.now.clauses }
-    ensures fit { IsFit coded.now valued.new }
-    ensures lawful { IsLawful valued.new.trail coded.now.clauses }
-    ensures grown { Grown valued.old.trail valued.new.trail }
-    ensures falls { OnOk result (open_all valued.new.trail coded.now.clauses + length valued.new.trail ≤ open_all valued.old.trail coded.now.clauses + length valued.old.trail) }
+    ensures fit { IsCoded (number_in trail.new.numbers) coded.now }
+    ensures lawful { IsLawful trail.new.assigned coded.now.clauses }
+    ensures grown { Grown trail.old.assigned trail.new.assigned }
+    ensures falls { OnOk result (open_all trail.new.assigned coded.now.clauses + length trail.new.assigned ≤ open_all trail.old.assigned coded.now.clauses + length trail.old.assigned) }
     ensures says { IfOk result (λ o. MatchOption o
-        ((n : ℕ) → n ≤ length valued.old.trail → (i : ℕ) → i < length numbers.now → IsQuietBy (take n valued.new.trail) valued.new.trail (clause coded.now.clauses (slice_index numbers.now i)))
-        (λ k. (k < length coded.now.clauses) × AreFalse valued.new.trail (clause coded.now.clauses k))) }
+        ((n : ℕ) → n ≤ length trail.old.assigned → (i : ℕ) → i < length numbers.now → IsQuietBy (take n trail.new.assigned) trail.new.assigned (clause coded.now.clauses (slice_index numbers.now i)))
+        (λ k. (k < length coded.now.clauses) × AreFalse trail.new.assigned (clause coded.now.clauses k))) }
     ensures steps { steps.new ≤ steps.old + length numbers.now }
 {
     for i in 0..numbers.len() {
-        if look_at(alloc, coded, numbers[i], valued, steps)? {
+        if look_at(alloc, coded, numbers[i], trail, steps)? {
             return Ok(Some(numbers[i]));
         }
     }
@@ -157,20 +158,20 @@ fn look_at_each<L: Ledger>(
 fn look_at_all<L: Ledger>(
     alloc: Global,
     coded: &Coded,
-    valued: &mut Valued,
+    trail: &mut Trail,
     steps: &mut Steps<L>,
 ) -> Result<Option<usize>, AllocError>
-    requires fit { IsFit coded.now valued.old }
-    requires lawful { IsLawful valued.old.trail coded.now.clauses }
-    ensures fit { IsFit coded.now valued.new }
-    ensures lawful { IsLawful valued.new.trail coded.now.clauses }
-    ensures grown { Grown valued.old.trail valued.new.trail }
-    ensures says { IfOk result (λ o. MatchOption o (AreQuietBy (take (length valued.old.trail) valued.new.trail) valued.new.trail coded.now.clauses)
-        (λ k. (k < length coded.now.clauses) × AreFalse valued.new.trail (clause coded.now.clauses k))) }
+    requires fit { IsCoded (number_in trail.old.numbers) coded.now }
+    requires lawful { IsLawful trail.old.assigned coded.now.clauses }
+    ensures fit { IsCoded (number_in trail.new.numbers) coded.now }
+    ensures lawful { IsLawful trail.new.assigned coded.now.clauses }
+    ensures grown { Grown trail.old.assigned trail.new.assigned }
+    ensures says { IfOk result (λ o. MatchOption o (AreQuietBy (take (length trail.old.assigned) trail.new.assigned) trail.new.assigned coded.now.clauses)
+        (λ k. (k < length coded.now.clauses) × AreFalse trail.new.assigned (clause coded.now.clauses k))) }
     ensures steps { steps.new ≤ steps.old + length coded.now.clauses }
 {
     for number in 0..coded.clauses.len() {
-        if look_at(alloc, coded, number, valued, steps)? {
+        if look_at(alloc, coded, number, trail, steps)? {
             return Ok(Some(number));
         }
     }
@@ -189,47 +190,47 @@ fn numbers_against(coded: &Coded, number: usize, positive: bool) -> &[usize]
 fn look_against<L: Ledger>(
     alloc: Global,
     coded: &Coded,
-    valued: &mut Valued,
+    trail: &mut Trail,
     place: usize,
     steps: &mut Steps<L>,
 ) -> Result<Option<usize>, AllocError>
-    requires fit { IsFit coded.now valued.old }
-    requires lawful { IsLawful valued.old.trail coded.now.clauses }
-    requires within { place < length valued.old.trail }
-    requires quiet { AreQuietBy (take place valued.old.trail) valued.old.trail coded.now.clauses }
-    ensures fit { IsFit coded.now valued.new }
-    ensures lawful { IsLawful valued.new.trail coded.now.clauses }
-    ensures grown { Grown valued.old.trail valued.new.trail }
-    ensures falls { OnOk result (open_all valued.new.trail coded.now.clauses + length valued.new.trail ≤ open_all valued.old.trail coded.now.clauses + length valued.old.trail) }
-    ensures says { IfOk result (λ o. MatchOption o (AreQuietBy (take (place + 1) valued.new.trail) valued.new.trail coded.now.clauses)
-        (λ k. (k < length coded.now.clauses) × AreFalse valued.new.trail (clause coded.now.clauses k))) }
-    ensures steps { steps.new ≤ steps.old + against coded.now.clauses (at valued.old.trail place) }
+    requires fit { IsCoded (number_in trail.old.numbers) coded.now }
+    requires lawful { IsLawful trail.old.assigned coded.now.clauses }
+    requires within { place < length trail.old.assigned }
+    requires quiet { AreQuietBy (take place trail.old.assigned) trail.old.assigned coded.now.clauses }
+    ensures fit { IsCoded (number_in trail.new.numbers) coded.now }
+    ensures lawful { IsLawful trail.new.assigned coded.now.clauses }
+    ensures grown { Grown trail.old.assigned trail.new.assigned }
+    ensures falls { OnOk result (open_all trail.new.assigned coded.now.clauses + length trail.new.assigned ≤ open_all trail.old.assigned coded.now.clauses + length trail.old.assigned) }
+    ensures says { IfOk result (λ o. MatchOption o (AreQuietBy (take (place + 1) trail.new.assigned) trail.new.assigned coded.now.clauses)
+        (λ k. (k < length coded.now.clauses) × AreFalse trail.new.assigned (clause coded.now.clauses k))) }
+    ensures steps { steps.new ≤ steps.old + against coded.now.clauses (at trail.old.assigned place) }
 {
-    let number = valued.places.as_slice()[place];
-    let numbers = numbers_against(coded, number, valued.trail.lit_at(place).positive);
-    look_at_each(alloc, coded, numbers, valued, steps)
+    let number = trail.number_at(place);
+    let numbers = numbers_against(coded, number, trail.lit_at(place).positive);
+    look_at_each(alloc, coded, numbers, trail, steps)
 }
 
 /// Tests the clauses that have the opposite of a literal of the trail, from a place on, each literal in turn.
 fn settle_from<L: Ledger>(
     alloc: Global,
     coded: &Coded,
-    valued: &mut Valued,
+    trail: &mut Trail,
     from: usize,
     steps: &mut Steps<L>,
 ) -> Result<Settled, AllocError>
-    requires fit { IsFit coded.now valued.old }
-    requires lawful { IsLawful valued.old.trail coded.now.clauses }
-    requires quiet { AreQuietBy (take from valued.old.trail) valued.old.trail coded.now.clauses }
-    ensures fit { IsFit coded.now valued.new }
-    ensures lawful { IsLawful valued.new.trail coded.now.clauses }
-    ensures grown { Grown valued.old.trail valued.new.trail }
-    ensures ends { IfOk result (λ r. Ends valued.new.trail coded.now.clauses r) }
-    ensures bound { steps.new ≤ steps.old + pairs valued.new.trail coded.now.clauses from }
+    requires fit { IsCoded (number_in trail.old.numbers) coded.now }
+    requires lawful { IsLawful trail.old.assigned coded.now.clauses }
+    requires quiet { AreQuietBy (take from trail.old.assigned) trail.old.assigned coded.now.clauses }
+    ensures fit { IsCoded (number_in trail.new.numbers) coded.now }
+    ensures lawful { IsLawful trail.new.assigned coded.now.clauses }
+    ensures grown { Grown trail.old.assigned trail.new.assigned }
+    ensures ends { IfOk result (λ r. Ends trail.new.assigned coded.now.clauses r) }
+    ensures bound { steps.new ≤ steps.old + pairs trail.new.assigned coded.now.clauses from }
 {
     let mut place = from;
-    while place < valued.trail.len() {
-        match look_against(alloc, coded, valued, place, steps)? {
+    while place < trail.len() {
+        match look_against(alloc, coded, trail, place, steps)? {
             Some(number) => return Ok(Settled::Falsified(number)),
             None => place += 1,
         }
@@ -246,15 +247,15 @@ impl Propagation {
         Propagation {
             alloc,
             coded: no_clauses(alloc),
-            valued: no_literals(alloc),
+            trail: Trail::new(alloc),
         }
     }
 
     /// The true literals.
     pub fn trail(&self) -> &Trail
-        ensures { result.now ≡ self.now.trail }
+        ensures { result.now.assigned ≡ self.now.trail }
     {
-        &self.valued.trail
+        &self.trail
     }
 
     /// The clauses in their order.
@@ -270,7 +271,7 @@ impl Propagation {
         ensures err { OnErr result (self.new.clauses ≡ self.old.clauses) }
         ensures trail { self.new.trail ≡ self.old.trail }
     {
-        take_in(self.alloc, &mut self.coded, clause)
+        take_in(self.alloc, &mut self.coded, &mut self.trail, clause)
     }
 
     /// Gives up the last clause, if there is one. It takes no memory.
@@ -290,8 +291,13 @@ impl Propagation {
         ensures err { OnErr result (self.new.trail ≡ self.old.trail) }
         ensures clauses { self.new.clauses ≡ self.old.clauses }
     {
-        let number = number_in(self.alloc, &mut self.coded, &assigned.lit.formula)?;
-        assign_numbered(self.alloc, &mut self.valued, number, assigned)
+        let number = number_for(
+            self.alloc,
+            &mut self.coded,
+            &mut self.trail,
+            &assigned.lit.formula,
+        )?;
+        self.trail.assign_numbered(number, assigned)
     }
 
     /// Drops the trail's literals above a level, in time linear in those. It takes no memory.
@@ -300,7 +306,7 @@ impl Propagation {
         ensures front { IsFront self.old.trail level self.new.trail }
         ensures clauses { self.new.clauses ≡ self.old.clauses }
     {
-        drop_above(&mut self.valued, level);
+        self.trail.back_to(level);
     }
 
     /// Assigns the literals of unit clauses, each by its clause and at the last literal's level, until there is none,
@@ -320,7 +326,7 @@ impl Propagation {
         ensures bound { steps.new ≤ steps.old + pairs self.new.trail self.new.clauses from }
         ensures clauses { self.new.clauses ≡ self.old.clauses }
     {
-        settle_from(self.alloc, &self.coded, &mut self.valued, from, steps)
+        settle_from(self.alloc, &self.coded, &mut self.trail, from, steps)
     }
 
     /// The same for any lawful trail: it tests each clause once, and then those in which a literal becomes false.
@@ -332,10 +338,10 @@ impl Propagation {
         ensures clauses { self.new.clauses ≡ self.old.clauses }
         ensures bound { steps.new ≤ steps.old + (length self.new.clauses + pairs self.new.trail self.new.clauses (length self.old.trail)) }
     {
-        let from = self.valued.trail.len();
-        match look_at_all(self.alloc, &self.coded, &mut self.valued, steps)? {
+        let from = self.trail.len();
+        match look_at_all(self.alloc, &self.coded, &mut self.trail, steps)? {
             Some(number) => Ok(Settled::Falsified(number)),
-            None => settle_from(self.alloc, &self.coded, &mut self.valued, from, steps),
+            None => settle_from(self.alloc, &self.coded, &mut self.trail, from, steps),
         }
     }
 }

@@ -49,7 +49,7 @@ pub enum Settled {
 
 /// Whether a literal is true, in time logarithmic in the trail.
 pub fn is_true(trail: &Trail, lit: &Lit) -> bool
-    ensures { MatchBool result (Holds trail.now lit.now) (¬ Holds trail.now lit.now) }
+    ensures { MatchBool result (Holds trail.now.assigned lit.now) (¬ Holds trail.now.assigned lit.now) }
 {
     match trail.place_of(&lit.formula) {
         Some(place) => trail.lit_at(place).positive == lit.positive,
@@ -59,7 +59,7 @@ pub fn is_true(trail: &Trail, lit: &Lit) -> bool
 
 /// Whether a literal is false, in time logarithmic in the trail.
 pub fn is_false(trail: &Trail, lit: &Lit) -> bool
-    ensures { MatchBool result (IsFalse trail.now lit.now) (¬ IsFalse trail.now lit.now) }
+    ensures { MatchBool result (IsFalse trail.now.assigned lit.now) (¬ IsFalse trail.now.assigned lit.now) }
 {
     match trail.place_of(&lit.formula) {
         Some(place) => trail.lit_at(place).positive != lit.positive,
@@ -69,7 +69,7 @@ pub fn is_false(trail: &Trail, lit: &Lit) -> bool
 
 /// The place of a true literal.
 fn true_one(trail: &Trail, clause: &[Lit]) -> Option<usize>
-    ensures { MatchOption result ((m : Lit) → Contains clause.now m → ¬ Holds trail.now m) (λ k. HasTrue trail.now clause.now) }
+    ensures { MatchOption result ((m : Lit) → Contains clause.now m → ¬ Holds trail.now.assigned m) (λ k. HasTrue trail.now.assigned clause.now) }
 {
     for i in 0..clause.len() {
         if is_true(trail, &clause[i]) {
@@ -81,7 +81,7 @@ fn true_one(trail: &Trail, clause: &[Lit]) -> Option<usize>
 
 /// The place of a literal that isn't false.
 fn open_one(trail: &Trail, clause: &[Lit]) -> Option<usize>
-    ensures { MatchOption result ((m : Lit) → Contains clause.now m → IsFalse trail.now m) (λ k. IsNotFalse trail.now clause.now k) }
+    ensures { MatchOption result ((m : Lit) → Contains clause.now m → IsFalse trail.now.assigned m) (λ k. IsNotFalse trail.now.assigned clause.now k) }
 {
     for i in 0..clause.len() {
         if !is_false(trail, &clause[i]) {
@@ -93,8 +93,8 @@ fn open_one(trail: &Trail, clause: &[Lit]) -> Option<usize>
 
 /// The place of a literal that isn't false and isn't this one.
 fn other_open(trail: &Trail, clause: &[Lit], own: &Lit) -> Option<usize>
-    ensures { MatchOption result ((m : Lit) → Contains clause.now m → m ≢ own.now → IsFalse trail.now m)
-        (λ k. IsNotFalse trail.now clause.now k × ((d : Lit) → slice_index_or clause.now k d ≢ own.now)) }
+    ensures { MatchOption result ((m : Lit) → Contains clause.now m → m ≢ own.now → IsFalse trail.now.assigned m)
+        (λ k. IsNotFalse trail.now.assigned clause.now k × ((d : Lit) → slice_index_or clause.now k d ≢ own.now)) }
 {
     for i in 0..clause.len() {
         if !same_lit(&clause[i], own) && !is_false(trail, &clause[i]) {
@@ -106,7 +106,7 @@ fn other_open(trail: &Trail, clause: &[Lit], own: &Lit) -> Option<usize>
 
 /// How a clause stands to a trail, uncounted.
 fn state_of(trail: &Trail, clause: &[Lit]) -> ClauseState
-    ensures { Says trail.now clause.now result }
+    ensures { Says trail.now.assigned clause.now result }
 {
     if let Some(_k) = true_one(trail, clause) {
         return ClauseState::True;
@@ -123,7 +123,7 @@ fn state_of(trail: &Trail, clause: &[Lit]) -> ClauseState
 /// How a clause stands to a trail, counted as one step. A true literal counts first: a clause that has one is
 /// `True`, whatever its others are.
 pub fn clause_state<L: Ledger>(clause: &Clause, trail: &Trail, steps: &mut Steps<L>) -> ClauseState
-    ensures state { Says trail.now clause.now result }
+    ensures state { Says trail.now.assigned clause.now result }
     ensures step { steps.new ≡ steps.old + 1 }
 {
     steps.tick();
@@ -132,7 +132,7 @@ pub fn clause_state<L: Ledger>(clause: &Clause, trail: &Trail, steps: &mut Steps
 
 /// What a scan finds to do.
 fn find_work(trail: &Trail, clauses: &[Clause]) -> Work
-    ensures { Finds trail.now clauses.now (length clauses.now) result }
+    ensures { Finds trail.now.assigned clauses.now (length clauses.now) result }
 {
     for k in 0..clauses.len() {
         match state_of(trail, clauses[k].as_slice()) {
@@ -147,7 +147,7 @@ fn find_work(trail: &Trail, clauses: &[Clause]) -> Work
 
 /// The level of the last literal, 0 where there is none.
 pub fn level_now(trail: &Trail) -> usize
-    ensures { result ≡ last_level trail.now }
+    ensures { result ≡ last_level trail.now.assigned }
 {
     let n = trail.len();
     if n == 0 { 0 } else { trail.level_at(n - 1) }
@@ -161,10 +161,10 @@ pub(crate) fn unit_at(
     k: usize,
     p: usize,
 ) -> Result<Assigned, AllocError>
-    requires lawful { IsLawful trail.now clauses.now }
+    requires lawful { IsLawful trail.now.assigned clauses.now }
     requires within { k < length clauses.now }
-    requires alone { IsOpenAlone trail.now (clause clauses.now k) p }
-    ensures { IfOk result (λ a. IsUnitStep trail.now clauses.now k p a) }
+    requires alone { IsOpenAlone trail.now.assigned (clause clauses.now k) p }
+    ensures { IfOk result (λ a. IsUnitStep trail.now.assigned clauses.now k p a) }
 {
     let lit = copy_lit(alloc, &clauses[k].as_slice()[p])?;
     let level = level_now(trail);
@@ -180,12 +180,12 @@ fn push_unit(
     k: usize,
     p: usize,
 ) -> Result<(), AllocError>
-    requires lawful { IsLawful trail.old clauses.now }
+    requires lawful { IsLawful trail.old.assigned clauses.now }
     requires within { k < length clauses.now }
-    requires alone { IsOpenAlone trail.old (clause clauses.now k) p }
-    ensures lawful { IsLawful trail.new clauses.now }
-    ensures grown { (first : List Assigned) → Grown first trail.old → Grown first trail.new }
-    ensures falls { OnOk result (open_all trail.new clauses.now < open_all trail.old clauses.now) }
+    requires alone { IsOpenAlone trail.old.assigned (clause clauses.now k) p }
+    ensures lawful { IsLawful trail.new.assigned clauses.now }
+    ensures grown { (first : List Assigned) → Grown first trail.old.assigned → Grown first trail.new.assigned }
+    ensures falls { OnOk result (open_all trail.new.assigned clauses.now < open_all trail.old.assigned clauses.now) }
 {
     let assigned = unit_at(alloc, clauses, trail, k, p)?;
     trail.assign(alloc, assigned)
@@ -194,10 +194,10 @@ fn push_unit(
 /// Assigns the literals of unit clauses, each by its clause and at the last literal's level, until there is none, or a
 /// clause is false. It looks at all clauses for each literal.
 pub fn settle(alloc: Global, clauses: &[Clause], trail: &mut Trail) -> Result<Settled, AllocError>
-    requires lawful { IsLawful trail.old clauses.now }
-    ensures lawful { IsLawful trail.new clauses.now }
-    ensures grown { Grown trail.old trail.new }
-    ensures ends { IfOk result (λ r. Ends trail.new clauses.now r) }
+    requires lawful { IsLawful trail.old.assigned clauses.now }
+    ensures lawful { IsLawful trail.new.assigned clauses.now }
+    ensures grown { Grown trail.old.assigned trail.new.assigned }
+    ensures ends { IfOk result (λ r. Ends trail.new.assigned clauses.now r) }
 {
     loop {
         match find_work(trail, clauses) {

@@ -7,7 +7,7 @@ use Rattle.ae_explain.specs.declared.trail.Assigned.{Assigned}
 use Rattle.ae_explain.specs.Trail.{clause}
 use Rattle.ae_propagation.specs.Settled.{Holds, IsQuiet}
 use Rattle.ae_propagation.specs.Watched.{AreQuietBy}
-use Rattle.ae_propagation.proofs.Results.{either_way}
+use Rattle.ae_explain.proofs.Results.{either_way}
 use Rattle.ae_propagation.proofs.Trails.{at_old}
 use Rattle.ae_propagation.proofs.Watching.{quiet_ahead}
 use Rattle.ae_sat.specs.Inner.Kept.{IsKept}

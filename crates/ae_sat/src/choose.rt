@@ -19,10 +19,10 @@ pub fn choose(
     pick: &Pick,
     turn: usize,
 ) -> Result<Lit, AllocError>
-    requires untrue { ¬ HasTrue trail.now clause.now }
-    requires not_false { ¬ AreFalse trail.now clause.now }
+    requires untrue { ¬ HasTrue trail.now.assigned clause.now }
+    requires not_false { ¬ AreFalse trail.now.assigned clause.now }
     ensures has { IfOk result (λ l. Contains clause.now l) }
-    ensures no_value { IfOk result (λ l. place_in trail.now l.formula ≡ None) }
+    ensures no_value { IfOk result (λ l. place_in trail.now.assigned l.formula ≡ None) }
 {
     let mut places = Vec::new(alloc);
     for i in 0..clause.len() {

@@ -69,7 +69,7 @@ fn settle_behind<L: Ledger>(
 
 /// Whether a clause has a true literal.
 fn has_true(trail: &Trail, clause: &[Lit]) -> bool
-    ensures { MatchBool result (HasTrue trail.now clause.now) (¬ HasTrue trail.now clause.now) }
+    ensures { MatchBool result (HasTrue trail.now.assigned clause.now) (¬ HasTrue trail.now.assigned clause.now) }
 {
     for lit in clause {
         if is_true(trail, lit) {
@@ -93,7 +93,7 @@ impl Propagator {
 
     /// The true literals in their order.
     pub fn trail(&self) -> &Trail
-        ensures { result.now ≡ self.now.trail }
+        ensures { result.now.assigned ≡ self.now.trail }
     {
         self.propagation.trail()
     }

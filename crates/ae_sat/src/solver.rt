@@ -253,7 +253,7 @@ where
 
     /// The true literals in their order.
     pub fn trail(&self) -> &Trail
-        ensures { result.now ≡ self.now.propagation.trail }
+        ensures { result.now.assigned ≡ self.now.propagation.trail }
     {
         self.propagation.trail()
     }

@@ -1,18 +1,14 @@
 -- Literals as numbers.
-use Rattle.std.specs.Prelude.{◌≡◌, ◌≢◌, ℕ, ◌<◌, ◌≤◌, Bool, not, List, [], length, slice_index_or, Option, Some, None}
+use Rattle.std.specs.Prelude.{◌≡◌, ◌≢◌, ℕ, ◌<◌, Bool, not, List, [], length, slice_index_or, Option, Some, None}
 use Rattle.std.specs.List.{Contains}
-use Rattle.std.specs.Option.{option_map}
-use Rattle.std.specs.BTreeMap.{get}
 use Rattle.ae_rules.specs.Clauses.{Clause}
-use Rattle.ae_core.specs.Orders.{formula_order}
 use Rattle.ae_core.specs.declared.formulas.Formula.{Formula}
 use Rattle.ae_core.specs.declared.formulas.Lit.{Lit}
-use Rattle.ae_explain.specs.declared.trail.Assigned.{Assigned}
-use Rattle.ae_explain.specs.Trail.{at, place_in, clause}
+use Rattle.ae_explain.specs.Inner.Index.{value_at}
+use Rattle.ae_explain.specs.Trail.{clause}
 use Rattle.ae_propagation.specs.Inner.Finding.{IsTable, listed, AreListed}
 use Rattle.ae_propagation.specs.declared.codes.Code.{Code}
 use Rattle.ae_propagation.specs.declared.coded.Coded.{Coded}
-use Rattle.ae_propagation.specs.declared.valued.Valued.{Valued}
 use Rattle.ae_propagation.specs.declared.settle.ClauseState.{ClauseState}
 use Rattle.ae_propagation.specs.declared.settle.ClauseState.TheVariants as state
 
@@ -30,42 +26,10 @@ pub record AreAllCodes (numbers : Formula → Option ℕ) (clauses : List Clause
   pub size : length codes ≡ length clauses
   pub each : (n : ℕ) → n < length clauses → AreCodes numbers (clause clauses n) (slice_index_or codes n [])
 
-abbrev pub numbers_of : Coded → Formula → Option ℕ
-numbers_of c = get formula_order c.numbers
-
-pub record IsCoded (c : Coded) : Type 0 where
-  pub is_table : IsTable (numbers_of c) c.table.items
-  pub each : AreListed (listed (numbers_of c) c.table.items) c.clauses
-  pub codes : AreAllCodes (numbers_of c) c.clauses c.codes
-
--- no two formulas have one number
-abbrev pub AreApartBy : (Formula → Option ℕ) → Type 0
-AreApartBy numbers = (f g : Formula) (n : ℕ) → numbers f ≡ Some n → numbers g ≡ Some n → f ≡ g
-
--- ---- trails
--- whether a formula is true, where it stands
-abbrev pub value_in : List Assigned → Formula → Option Bool
-value_in t f = option_map (λ p. (at t p).lit.positive) (place_in t f)
-
-abbrev pub value_at : List (Option Bool) → ℕ → Option Bool
-value_at values n = slice_index_or values n None
-
-abbrev pub AreValues : (Formula → Option ℕ) → List (Option Bool) → List Assigned → Type 0
-AreValues numbers values t = (f : Formula) (n : ℕ) → numbers f ≡ Some n → value_at values n ≡ value_in t f
-
--- the numbers of the formulas of a trail, in their order
-pub record AreNumbered (numbers : Formula → Option ℕ) (t : List Assigned) (places : List ℕ) : Type 0 where
-  pub size : length places ≡ length t
-  pub each : (i : ℕ) → i < length t → numbers (at t i).lit.formula ≡ Some (slice_index_or places i 0)
-
-pub record IsValued (numbers : Formula → Option ℕ) (bound : ℕ) (v : Valued) : Type 0 where
-  pub places : AreNumbered numbers v.trail v.places
-  pub values : AreValues numbers v.values v.trail
-  pub room : length v.values ≤ bound
-
-pub record IsFit (c : Coded) (v : Valued) : Type 0 where
-  pub coded : IsCoded c
-  pub valued : IsValued (numbers_of c) (length c.table.items) v
+pub record IsCoded (numbers : Formula → Option ℕ) (c : Coded) : Type 0 where
+  pub is_table : IsTable numbers c.table.items
+  pub each : AreListed (listed numbers c.table.items) c.clauses
+  pub codes : AreAllCodes numbers c.clauses c.codes
 
 -- ---- how codes stand to values
 -- the one at p is true

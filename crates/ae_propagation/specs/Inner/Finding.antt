@@ -3,6 +3,7 @@ use Rattle.std.specs.Prelude.{◌≡◌, ℕ, suc, ◌<◌, ◌≤◌, ◌⊎◌
 use Rattle.ae_rules.specs.Clauses.{Clause, stands}
 use Rattle.ae_core.specs.declared.formulas.Formula.{Formula}
 use Rattle.ae_core.specs.declared.formulas.Lit.{Lit}
+use Rattle.ae_explain.specs.Assignments.{AreKept}
 use Rattle.ae_propagation.specs.declared.occurrences.Occurrences.{Occurrences}
 
 -- the numbers of the clauses that have a literal, rising, where the first clause has number n
@@ -46,17 +47,11 @@ pub record IsTable (numbers : Formula → Option ℕ) (table : List Occurrences)
   pub within : (f : Formula) (n : ℕ) → numbers f ≡ Some n → n < length table
   pub apart : (f g : Formula) (n : ℕ) → numbers f ≡ Some n → numbers g ≡ Some n → f ≡ g
 
--- formulas that have a number keep it, and those that get one get one that isn't below a bound
-pub record Adds (bound : ℕ) (old new : Formula → Option ℕ) : Type 0 where
-  pub stay : (f : Formula) (n : ℕ) → old f ≡ Some n → new f ≡ Some n
-  pub beyond : (f : Formula) (n : ℕ) → new f ≡ Some n → (old f ≡ Some n) ⊎ (bound ≤ n)
-
 -- formulas may have got numbers, and the table may have got places; the lists stay
 pub record IsWidened (old : Formula → Option ℕ) (before : List Occurrences) (new : Formula → Option ℕ) (after : List Occurrences) : Type 0 where
   pub is_table : IsTable new after
   pub same : (l : Lit) → listed new after l ≡ listed old before l
-  pub adds : Adds (length before) old new
-  pub room : length before ≤ length after
+  pub kept : AreKept old new
 
 -- each literal leads to the numbers of the clauses that have it
 abbrev pub AreListed : (Lit → List ℕ) → List Clause → Type 0

@@ -5,8 +5,8 @@ use Rattle.ae_explain.proofs.conflict.kept_clause.Given as goal
 
 abbrev pub invariant-loop-place : goal.invariant-loop-place
 invariant-loop-place l = record {
-  inside : l.place ≤ length l.trail;
-  same : l.clause ++ map opposite (lits_below l.trail l.marks l.place) ≡ map opposite (lits_below l.trail l.marks (length l.trail));
+  inside : l.place ≤ length l.trail.assigned;
+  same : l.clause ++ map opposite (lits_below l.trail.assigned l.marks l.place) ≡ map opposite (lits_below l.trail.assigned l.marks (length l.trail.assigned));
 }
 
 abbrev pub decreases-loop-place : goal.decreases-loop-place

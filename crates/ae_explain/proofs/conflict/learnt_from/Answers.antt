@@ -14,11 +14,11 @@ use Rattle.ae_explain.proofs.Hinting.{derived}
 use Rattle.ae_explain.proofs.conflict.learnt_from.Goals as goal
 
 pub keep_clause-count-requires-clause-count : goal.keep_clause-count-requires-clause-count
-keep_clause-count-requires-clause-count c = sym (nothing_kept c.args.trail.now c.args.marks.now c.greatest_level-level.result c.requires.blank)
+keep_clause-count-requires-clause-count c = sym (nothing_kept c.args.trail.now.assigned c.args.marks.now c.greatest_level-level.result c.requires.blank)
 
 pub resolve-requires-clause-before : goal.resolve-requires-clause-before
 resolve-requires-clause-before c =
-    let t = c.args.trail.now in
+    let t = c.args.trail.now.assigned in
     let e = c.greatest_level-level.ensures in
     let s : State t c.args.clauses.now c.keep_clause-count.new.marks (greatest_of t c.args.given.now) (length t) c.keep_clause-count.result =
     start t c.args.clauses.now c.requires.lawful c.args.given.now c.requires.falsified c.args.marks.now c.keep_clause-count.new.marks c.requires.blank c.keep_clause-count.ensures.kept (c.keep_clause-count.auto.marks ∙ c.requires.len)
@@ -27,11 +27,11 @@ resolve-requires-clause-before c =
 
 pub returns-clause-false_ones : goal.returns-clause-false_ones
 returns-clause-false_ones c m h =
-    is_false c.args.trail.now c.resolve.new.marks (length c.args.trail.now) (omega arith) m (subst (λ (w : Clause). Contains w m) c.in_ok-clause.ensures h)
+    is_false c.args.trail.now.assigned c.resolve.new.marks (length c.args.trail.now.assigned) (omega arith) m (subst (λ (w : Clause). Contains w m) c.in_ok-clause.ensures h)
 
 pub returns-clause-derived : goal.returns-clause-derived
 returns-clause-derived c =
-    let t = c.args.trail.now in
+    let t = c.args.trail.now.assigned in
     let u = c.args.clauses.now in
     let s = c.resolve.ensures.after.1 in
     let marked_all : (m : Lit) → Contains (clause u c.args.falsified) m → IsMarked t c.resolve.new.marks (length t) m = λ m h.
@@ -45,11 +45,11 @@ returns-clause-derived c =
 
 pub returns-clause-empty : goal.returns-clause-empty
 returns-clause-empty c z =
-    c.in_ok-clause.ensures ∙ ap (map opposite) (empty_at_0 c.args.trail.now c.args.clauses.now c.resolve.new.marks c.greatest_level-level.result c.resolve.ensures.after.0 c.resolve.ensures.after.1 (c.greatest_level-level.ensures ∙ z))
+    c.in_ok-clause.ensures ∙ ap (map opposite) (empty_at_0 c.args.trail.now.assigned c.args.clauses.now c.resolve.new.marks c.greatest_level-level.result c.resolve.ensures.after.0 c.resolve.ensures.after.1 (c.greatest_level-level.ensures ∙ z))
 
 pub returns-clause-one : goal.returns-clause-one
 returns-clause-one c h =
-    let t = c.args.trail.now in
+    let t = c.args.trail.now.assigned in
     let s : State t c.args.clauses.now c.resolve.new.marks (greatest_of t c.args.given.now) 0 c.resolve.ensures.after.0 =
     subst (λ (w : ℕ). State t c.args.clauses.now c.resolve.new.marks w 0 c.resolve.ensures.after.0) c.greatest_level-level.ensures c.resolve.ensures.after.1 in
     subst (λ (w : Clause). count_by (λ m. level_of t m == greatest_of t c.args.given.now) w ≡ 1) (sym c.in_ok-clause.ensures)
@@ -57,11 +57,11 @@ returns-clause-one c h =
 
 pub returns-clause-ground : goal.returns-clause-ground
 returns-clause-ground c m h =
-    above_ground c.args.trail.now c.args.clauses.now c.resolve.new.marks c.greatest_level-level.result c.resolve.ensures.after.0 c.resolve.ensures.after.1 c.requires.lawful.apart m
+    above_ground c.args.trail.now.assigned c.args.clauses.now c.resolve.new.marks c.greatest_level-level.result c.resolve.ensures.after.0 c.resolve.ensures.after.1 c.requires.lawful.apart m
     (subst (λ (w : Clause). Contains w m) c.in_ok-clause.ensures h)
 
 pub returns-clause-highest : goal.returns-clause-highest
 returns-clause-highest c m h =
-    subst (λ (w : ℕ). level_of c.args.trail.now m ≤ w) c.greatest_level-level.ensures
-    (at_most c.args.trail.now c.args.clauses.now c.resolve.new.marks c.greatest_level-level.result c.resolve.ensures.after.0 c.resolve.ensures.after.1 c.requires.lawful.apart m
+    subst (λ (w : ℕ). level_of c.args.trail.now.assigned m ≤ w) c.greatest_level-level.ensures
+    (at_most c.args.trail.now.assigned c.args.clauses.now c.resolve.new.marks c.greatest_level-level.result c.resolve.ensures.after.0 c.resolve.ensures.after.1 c.requires.lawful.apart m
     (subst (λ (w : Clause). Contains w m) c.in_ok-clause.ensures h))

@@ -7,4 +7,4 @@ pub returns-then-not-is_false_below : goal.returns-then-not-is_false_below
 returns-then-not-is_false_below c =
     let no : c.is_false_below.result ≡ false = search rules in
     let item = c.lit-item.result in
-    refuted c.is_false_below.result no c.is_false_below.ensures (λ all. subst (λ (n : ℕ). IsFalseBelow c.args.trail.now n item) (sym c.len.ensures) (all item (c.loop-lit.lit-index, c.loop-lit-test.true, sym c.lit-item.is)))
+    refuted c.is_false_below.result no c.is_false_below.ensures (λ all. subst (λ (n : ℕ). IsFalseBelow c.args.trail.now.assigned n item) (sym c.len.ensures) (all item (c.loop-lit.lit-index, c.loop-lit-test.true, sym c.lit-item.is)))

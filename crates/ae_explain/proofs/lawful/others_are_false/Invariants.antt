@@ -4,4 +4,4 @@ use Rattle.ae_explain.specs.Trail.{IsFalseBelow}
 use Rattle.ae_explain.proofs.lawful.others_are_false.Given as goal
 
 abbrev pub invariant-loop-lit : goal.invariant-loop-lit
-invariant-loop-lit l = (k : ℕ) (m : Lit) → k < l.lit-index → get_or l.clause k m ≡ m → m ≢ l.own → IsFalseBelow l.trail l.n m
+invariant-loop-lit l = (k : ℕ) (m : Lit) → k < l.lit-index → get_or l.clause k m ≡ m → m ≢ l.own → IsFalseBelow l.trail.assigned l.n m

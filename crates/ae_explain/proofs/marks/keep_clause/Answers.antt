@@ -14,7 +14,7 @@ loop-lit-preserved c =
     let item = c.lit-item.result in
     let old = c.loop-lit.marks in
     let new = c.keep_lit-count.new.marks in
-    let t = c.args.trail.now in
+    let t = c.args.trail.now.assigned in
     record {
       grows = λ p h. e.grows p (ap is_marked (i.grows p h) ∙ h) ∙ i.grows p h;
       fresh = λ p u h. elim (cases_Bool (marked old p)) as (λ _. (kept new p ≡ true) × IsPlaceOf t c.args.clause.now p) [

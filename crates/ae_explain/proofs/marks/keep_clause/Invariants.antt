@@ -7,7 +7,7 @@ use Rattle.ae_explain.proofs.marks.keep_clause.Given as goal
 abbrev pub invariant-loop-lit : goal.invariant-loop-lit
 invariant-loop-lit l = record {
   grows : (p : ℕ) → marked l.fn.marks p ≡ true → mark l.marks p ≡ mark l.fn.marks p;
-  fresh : (p : ℕ) → marked l.fn.marks p ≡ false → marked l.marks p ≡ true → (kept l.marks p ≡ true) × IsPlaceOf l.trail l.clause p;
-  all : (k : ℕ) (m : Lit) → k < l.lit-index → get_or l.clause k m ≡ m → (p : ℕ) → place_in l.trail m.formula ≡ Some p → marked l.marks p ≡ true;
-  count : l.count ≡ kept_at l.trail l.marks l.level;
+  fresh : (p : ℕ) → marked l.fn.marks p ≡ false → marked l.marks p ≡ true → (kept l.marks p ≡ true) × IsPlaceOf l.trail.assigned l.clause p;
+  all : (k : ℕ) (m : Lit) → k < l.lit-index → get_or l.clause k m ≡ m → (p : ℕ) → place_in l.trail.assigned m.formula ≡ Some p → marked l.marks p ≡ true;
+  count : l.count ≡ kept_at l.trail.assigned l.marks l.level;
 }

@@ -4,8 +4,8 @@ use Rattle.ae_explain.proofs.marks.resolve.Given as goal
 
 abbrev pub invariant-loop-place : goal.invariant-loop-place
 invariant-loop-place l = record {
-  inside : l.place ≤ length l.trail;
-  state : State l.trail l.clauses l.marks l.level l.place l.left;
+  inside : l.place ≤ length l.trail.assigned;
+  state : State l.trail.assigned l.clauses l.marks l.level l.place l.left;
   grows : (p : ℕ) → marked l.fn.marks p ≡ true → marked l.marks p ≡ true;
 }
 

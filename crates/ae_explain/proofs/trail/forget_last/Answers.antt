@@ -1,13 +1,12 @@
-use Rattle.std.proofs.Common.{List, subst}
-use Rattle.std.specs.BTreeMap.{get}
-use Rattle.ae_core.specs.Orders.{formula_order}
+use Rattle.std.proofs.Common.{◌∙◌, List, sym, subst}
 use Rattle.ae_explain.specs.declared.trail.Assigned.{Assigned}
 use Rattle.ae_explain.specs.Inner.Index.{IsIndex}
-use Rattle.ae_explain.proofs.Indexing.{less}
 use Rattle.ae_explain.proofs.trail.forget_last.Goals as goal
 
 pub returns-in-Some-clause-index : goal.returns-in-Some-clause-index
-returns-in-Some-clause-index c =
-    let old = get formula_order c.args.places.now in
-    let new = get formula_order c.remove.new.self in
-    less c.pop.new.self c.in-Some.last old new (subst (λ (w : List Assigned). IsIndex w old) c.in-Some.ensures c.requires.index) c.remove.ensures.updates.0
+returns-in-Some-clause-index c number places h =
+    c.forget_number.ensures number c.pop.new.self c.in-Some._last places (subst (λ (w : List Assigned). IsIndex number w c.args.standing.now c.args.values.now places) c.in-Some.ensures h)
+
+pub returns-in-None-clause-index : goal.returns-in-None-clause-index
+returns-in-None-clause-index c number places h =
+    subst (λ (w : List Assigned). IsIndex number w c.args.standing.now c.args.values.now places) (c.in-None.ensures.0 ∙ sym c.in-None.ensures.1) h

@@ -1,30 +1,21 @@
 use Rattle.std.proofs.Common.{◌≡◌, ◌∙◌, ◌<◌, ◌++◌, ◌∷◌, [], ℕ, List, length, get_or, refl, sym, ap, subst, arith}
-use Rattle.std.specs.BTreeMap.{get}
 use Rattle.std.proofs.lemmas.Result.{IfOk-at_ok, IfErr-at_err}
 use Rattle.std.proofs.lemmas.List.{get_or_push, length_push}
 use Rattle.ae_rules.specs.Clauses.{Clause}
-use Rattle.ae_core.specs.Orders.{formula_order}
+use Rattle.ae_explain.specs.Assignments.{number_in}
 use Rattle.ae_propagation.specs.declared.codes.Code.{Code}
 use Rattle.ae_propagation.specs.Inner.Finding.{listed, AreListed}
-use Rattle.ae_propagation.specs.Inner.Coding.{AreCodes, AreAllCodes, numbers_of}
+use Rattle.ae_propagation.specs.Inner.Coding.{AreCodes, AreAllCodes}
 use Rattle.ae_propagation.proofs.Numbering.{table_sized}
 use Rattle.ae_propagation.proofs.Coding.{still_all, push_codes, codes_within}
-use Rattle.ae_propagation.proofs.Fitting.{wide_coded, wide_valued}
+use Rattle.ae_propagation.proofs.Fitting.{wide_coded}
 use Rattle.ae_propagation.proofs.coded.take_in.Goals as goal
 
 pub returns-in_err-own-clause-coded : goal.returns-in_err-own-clause-coded
-returns-in_err-own-clause-coded c = wide_coded c.args.coded.now _ c.codes_of.ensures.wide refl refl c.requires
-
-pub returns-in_err-own-clause-valued : goal.returns-in_err-own-clause-valued
-returns-in_err-own-clause-valued c v i =
-    wide_valued (numbers_of c.args.coded.now) _ c.args.coded.now.table.items _ v c.requires.is_table c.codes_of.ensures.wide.adds c.codes_of.ensures.wide.room i
+returns-in_err-own-clause-coded c = wide_coded (number_in c.args.trail.now.numbers) (number_in c.codes_of.new.trail.numbers) c.args.coded.now _ c.codes_of.ensures.wide refl refl c.requires
 
 pub returns-in_err-push_both-clause-coded : goal.returns-in_err-push_both-clause-coded
-returns-in_err-push_both-clause-coded c = wide_coded c.args.coded.now _ c.codes_of.ensures.wide c.in_err-push_both.ensures.err c.in_err-push_both.ensures.err_codes c.requires
-
-pub returns-in_err-push_both-clause-valued : goal.returns-in_err-push_both-clause-valued
-returns-in_err-push_both-clause-valued c v i =
-    wide_valued (numbers_of c.args.coded.now) _ c.args.coded.now.table.items _ v c.requires.is_table c.codes_of.ensures.wide.adds c.codes_of.ensures.wide.room i
+returns-in_err-push_both-clause-coded c = wide_coded (number_in c.args.trail.now.numbers) (number_in c.codes_of.new.trail.numbers) c.args.coded.now _ c.codes_of.ensures.wide c.in_err-push_both.ensures.err c.in_err-push_both.ensures.err_codes c.requires
 
 pub codes_at-requires : goal.codes_at-requires
 codes_at-requires c =
@@ -34,7 +25,7 @@ codes_at-requires c =
 
 pub enter-requires : goal.enter-requires
 enter-requires c =
-    let numbers = get formula_order c.codes_of.new.numbers in
+    let numbers = number_in c.codes_of.new.trail.numbers in
     let table = c.codes_of.new.table.items in
     let ks = c.args.coded.now.codes in
     let own = c.in_ok-own.own in
@@ -48,7 +39,7 @@ enter-requires c =
 
 pub returns-in-Err-clause-coded : goal.returns-in-Err-clause-coded
 returns-in-Err-clause-coded c =
-    let numbers = get formula_order c.codes_of.new.numbers in
+    let numbers = number_in c.codes_of.new.trail.numbers in
     let wide = c.codes_of.ensures.wide in
     let u = c.args.coded.now.clauses in
     let ks = c.args.coded.now.codes in
@@ -63,20 +54,16 @@ returns-in-Err-clause-coded c =
     let before : AreListed (listed numbers c.codes_of.new.table.items) u = λ l. wide.same l ∙ c.requires.each l in
     let kept_u : c.drop_clause.new.clauses ≡ u = c.drop_clause.ensures u c.args.clause c.in_ok-push_both.ensures.ok in
     let kept_k : c.drop_codes.new.codes ≡ ks = c.drop_codes.ensures ks own c.in_ok-push_both.ensures.ok_codes in
-    let still : AreAllCodes numbers u ks = still_all (length c.args.coded.now.table.items) (numbers_of c.args.coded.now) numbers u ks wide.adds c.requires.codes in
+    let still : AreAllCodes numbers u ks = still_all (number_in c.args.trail.now.numbers) numbers u ks wide.kept c.requires.codes in
     record {
       is_table = table_sized numbers c.codes_of.new.table.items after c.enter.ensures.size wide.is_table;
       each = subst (AreListed (listed numbers after)) (sym kept_u) (IfErr-at_err (λ _. AreListed (listed numbers after) u) c.in-Err.is (c.enter.ensures.err numbers c.args.clause u wide.is_table entered count before));
       codes = subst (λ (v : List Clause). AreAllCodes numbers v c.drop_codes.new.codes) (sym kept_u) (subst (λ (w : List (List Code)). AreAllCodes numbers u w) (sym kept_k) still);
     }
 
-pub returns-in-Err-clause-valued : goal.returns-in-Err-clause-valued
-returns-in-Err-clause-valued c v i =
-    wide_valued (numbers_of c.args.coded.now) _ c.args.coded.now.table.items _ v c.requires.is_table c.codes_of.ensures.wide.adds (omega (arith, c.codes_of.ensures.wide.room, c.enter.ensures.size)) i
-
 pub returns-clause-coded : goal.returns-clause-coded
 returns-clause-coded c =
-    let numbers = get formula_order c.codes_of.new.numbers in
+    let numbers = number_in c.codes_of.new.trail.numbers in
     let wide = c.codes_of.ensures.wide in
     let u = c.args.coded.now.clauses in
     let ks = c.args.coded.now.codes in
@@ -89,7 +76,7 @@ returns-clause-coded c =
     let codes : AreCodes numbers c.args.clause own = subst (λ (x : Clause). AreCodes numbers x own) c.as_slice.ensures c.in_ok-own.ensures.codes in
     let entered : AreCodes numbers c.args.clause c.codes_at.result.now = subst (λ (w : List Code). AreCodes numbers c.args.clause w) (sym e) codes in
     let before : AreListed (listed numbers c.codes_of.new.table.items) u = λ l. wide.same l ∙ c.requires.each l in
-    let still : AreAllCodes numbers u ks = still_all (length c.args.coded.now.table.items) (numbers_of c.args.coded.now) numbers u ks wide.adds c.requires.codes in
+    let still : AreAllCodes numbers u ks = still_all (number_in c.args.trail.now.numbers) numbers u ks wide.kept c.requires.codes in
     let more : AreListed (listed numbers after) (u ++ c.args.clause ∷ []) =
     IfOk-at_ok (λ _. AreListed (listed numbers after) (u ++ c.args.clause ∷ [])) c.in_default.is (c.enter.ensures.ok numbers c.args.clause u wide.is_table entered count before) in
     record {
@@ -99,7 +86,3 @@ returns-clause-coded c =
           subst (λ (w : List (List Code)). AreAllCodes numbers (u ++ c.args.clause ∷ []) w) (sym c.in_ok-push_both.ensures.ok_codes) (push_codes numbers u ks c.args.clause own still codes)
           );
     }
-
-pub returns-clause-valued : goal.returns-clause-valued
-returns-clause-valued c v i =
-    wide_valued (numbers_of c.args.coded.now) _ c.args.coded.now.table.items _ v c.requires.is_table c.codes_of.ensures.wide.adds (omega (arith, c.codes_of.ensures.wide.room, c.enter.ensures.size)) i

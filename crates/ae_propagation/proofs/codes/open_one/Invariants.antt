@@ -1,7 +1,7 @@
 use Rattle.std.proofs.Common.{◌≡◌, ℕ, ◌<◌, get_or, Some}
 use Rattle.std.specs.Prelude.{not}
 use Rattle.ae_propagation.specs.declared.codes.Code.{Code}
-use Rattle.ae_propagation.specs.Inner.Coding.{value_at}
+use Rattle.ae_explain.specs.Inner.Index.{value_at}
 use Rattle.ae_propagation.proofs.codes.open_one.Given as goal
 
 abbrev pub invariant-loop-i : goal.invariant-loop-i

@@ -1,6 +1,6 @@
 use Rattle.std.proofs.Common.{◌≡◌, ◌≢◌, ℕ, ◌<◌, get_or, Some}
 use Rattle.ae_propagation.specs.declared.codes.Code.{Code}
-use Rattle.ae_propagation.specs.Inner.Coding.{value_at}
+use Rattle.ae_explain.specs.Inner.Index.{value_at}
 use Rattle.ae_propagation.proofs.codes.true_one.Given as goal
 
 abbrev pub invariant-loop-i : goal.invariant-loop-i

@@ -1,43 +1,65 @@
-use Rattle.std.proofs.Common.{◌≡◌, ◌∙◌, ◌++◌, ◌∷◌, [], List, length, cond, sym, ap, subst, rules, Some, None}
-use Rattle.std.specs.BTreeMap.{get}
-use Rattle.std.specs.Ordering.{is_eq}
-use Rattle.ae_core.specs.Orders.{formula_order}
+use Rattle.std.proofs.Common.{◌≡◌, ◌∙◌, ◌++◌, ◌∷◌, [], ℕ, List, Option, length, sym, ap, subst, rules, Some, None}
 use Rattle.ae_core.specs.declared.formulas.Formula.{Formula}
+use Rattle.ae_explain.specs.Assignments.{IsGiven, number_in}
+use Rattle.ae_explain.proofs.Valuing.{given_kept}
 use Rattle.ae_propagation.specs.declared.occurrences.Occurrences.{Occurrences}
 use Rattle.ae_propagation.specs.Inner.Finding.{none_listed, listed, IsTable}
-use Rattle.ae_propagation.proofs.Numbering.{numbered, number_listed, adds_one}
+use Rattle.ae_propagation.proofs.Numbering.{more_room, room_listed, numbered, number_listed, unused_next}
 use Rattle.ae_propagation.proofs.occurrences.number_of.Goals as goal
 
-pub returns-in-Ok-clause-is_table : goal.returns-in-Ok-clause-is_table
-returns-in-Ok-clause-is_table c =
-    let old = get formula_order c.args.numbers.now in
-    let new = get formula_order c.insert.new.self in
+pub give_number-requires : goal.give_number-requires
+give_number-requires c =
+    let table = c.args.table.now.items in
+    let n : c.len-number.result ≡ length table = search rules in
+    record {
+      new = search rules;
+      free = λ f e. unused_next (number_in c.args.trail.now.numbers) table c.requires f (e ∙ ap Some n);
+    }
+
+pub returns-in_err-give_number-clause-is_table : goal.returns-in_err-give_number-clause-is_table
+returns-in_err-give_number-clause-is_table c =
+    let old = number_in c.args.trail.now.numbers in
+    let table = c.args.table.now.items in
+    let e : c.push.new.self.items ≡ table ++ none_listed ∷ [] = c.in_ok-push.ensures.items ∙ ap (λ (o : Occurrences). table ++ o ∷ []) c.no_occurrences.ensures in
+    let same : number_in c.give_number.new.self.numbers ≡ old = ap number_in c.in_err-give_number.ensures.err in
+    subst (λ (m : Formula → Option ℕ). IsTable m c.push.new.self.items) (sym same) (subst (IsTable old) (sym e) (more_room old table c.requires))
+
+pub returns-in_err-give_number-clause-same : goal.returns-in_err-give_number-clause-same
+returns-in_err-give_number-clause-same c l =
+    let old = number_in c.args.trail.now.numbers in
+    let table = c.args.table.now.items in
+    let e : c.push.new.self.items ≡ table ++ none_listed ∷ [] = c.in_ok-push.ensures.items ∙ ap (λ (o : Occurrences). table ++ o ∷ []) c.no_occurrences.ensures in
+    let same : number_in c.give_number.new.self.numbers ≡ old = ap number_in c.in_err-give_number.ensures.err in
+    ap (λ (m : Formula → Option ℕ). listed m c.push.new.self.items l) same ∙ (ap (λ (w : List Occurrences). listed old w l) e ∙ room_listed old table l c.requires)
+
+pub returns-in_err-give_number-clause-kept : goal.returns-in_err-give_number-clause-kept
+returns-in_err-give_number-clause-kept c f k q =
+    let same : number_in c.give_number.new.self.numbers ≡ number_in c.args.trail.now.numbers = ap number_in c.in_err-give_number.ensures.err in
+    ap (λ (m : Formula → Option ℕ). m f) same ∙ q
+
+pub returns-clause-is_table : goal.returns-clause-is_table
+returns-clause-is_table c =
+    let old = number_in c.args.trail.now.numbers in
+    let new = number_in c.give_number.new.self.numbers in
     let table = c.args.table.now.items in
     let e : c.push.new.self.items ≡ table ++ none_listed ∷ [] = c.in_ok-push.ensures.items ∙ ap (λ (o : Occurrences). table ++ o ∷ []) c.no_occurrences.ensures in
     let n : c.len-number.result ≡ length table = search rules in
-    let u : (f : Formula) → new f ≡ cond (is_eq (formula_order c.args.formula.now f)) (Some (length table)) (old f) =
-    λ f. c.in-Ok.ensures.updates.0 f ∙ (λ i. cond (is_eq (formula_order (c.in_ok-copy.ensures i) f)) (Some (n i)) (old f)) in
-    subst (IsTable new) (sym e) (numbered old new table c.args.formula.now u c.requires)
+    let g : IsGiven c.args.formula.now (length table) old new = subst (λ (k : ℕ). IsGiven c.args.formula.now k old new) n c.in_ok-give_number.ensures.ok in
+    subst (IsTable new) (sym e) (numbered old new table c.args.formula.now g c.requires)
 
-pub returns-in-Ok-clause-same : goal.returns-in-Ok-clause-same
-returns-in-Ok-clause-same c l =
-    let old = get formula_order c.args.numbers.now in
-    let new = get formula_order c.insert.new.self in
+pub returns-clause-same : goal.returns-clause-same
+returns-clause-same c l =
+    let old = number_in c.args.trail.now.numbers in
+    let new = number_in c.give_number.new.self.numbers in
     let table = c.args.table.now.items in
     let e : c.push.new.self.items ≡ table ++ none_listed ∷ [] = c.in_ok-push.ensures.items ∙ ap (λ (o : Occurrences). table ++ o ∷ []) c.no_occurrences.ensures in
     let n : c.len-number.result ≡ length table = search rules in
-    let u : (f : Formula) → new f ≡ cond (is_eq (formula_order c.args.formula.now f)) (Some (length table)) (old f) =
-    λ f. c.in-Ok.ensures.updates.0 f ∙ (λ i. cond (is_eq (formula_order (c.in_ok-copy.ensures i) f)) (Some (n i)) (old f)) in
+    let g : IsGiven c.args.formula.now (length table) old new = subst (λ (k : ℕ). IsGiven c.args.formula.now k old new) n c.in_ok-give_number.ensures.ok in
     let none : old c.args.formula.now ≡ None = search rules in
-    ap (λ (w : List Occurrences). listed new w l) e ∙ number_listed old new table c.args.formula.now u c.requires none l
+    ap (λ (w : List Occurrences). listed new w l) e ∙ number_listed old new table c.args.formula.now g c.requires none l
 
-pub returns-in-Ok-clause-adds : goal.returns-in-Ok-clause-adds
-returns-in-Ok-clause-adds c =
-    let old = get formula_order c.args.numbers.now in
-    let new = get formula_order c.insert.new.self in
-    let table = c.args.table.now.items in
-    let n : c.len-number.result ≡ length table = search rules in
-    let u : (f : Formula) → new f ≡ cond (is_eq (formula_order c.args.formula.now f)) (Some (length table)) (old f) =
-    λ f. c.in-Ok.ensures.updates.0 f ∙ (λ i. cond (is_eq (formula_order (c.in_ok-copy.ensures i) f)) (Some (n i)) (old f)) in
+pub returns-clause-kept : goal.returns-clause-kept
+returns-clause-kept c =
+    let old = number_in c.args.trail.now.numbers in
     let none : old c.args.formula.now ≡ None = search rules in
-    adds_one old new table c.args.formula.now u none
+    given_kept c.args.formula.now c.len-number.result old (number_in c.give_number.new.self.numbers) c.in_ok-give_number.ensures.ok none

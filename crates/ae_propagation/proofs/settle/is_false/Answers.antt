@@ -4,4 +4,4 @@ use Rattle.ae_propagation.proofs.settle.is_false.Goals as goal
 
 pub returns-in-Some : goal.returns-in-Some
 returns-in-Some c =
-    is_turned c.args.trail.now c.args.lit.now c.lit_at.result.now c.in-Some.place _ (sym c.in-Some.is ∙ c.place_of.ensures.place) (λ q l h. sym c.in-Some.is ∙ c.place_of.ensures.only q l h) c.lit_at.ensures refl
+    is_turned c.args.trail.now.assigned c.args.lit.now c.lit_at.result.now c.in-Some.place _ (sym c.in-Some.is ∙ c.place_of.ensures.place) (λ q l h. sym c.in-Some.is ∙ c.place_of.ensures.only q l h) c.lit_at.ensures refl

@@ -5,9 +5,9 @@ use Rattle.ae_propagation.proofs.settle.settle.Given as goal
 
 abbrev pub invariant-loop-k : goal.invariant-loop-k
 invariant-loop-k l = record {
-  lawful : IsLawful l.trail l.clauses;
-  grown : Grown l.fn.trail l.trail;
+  lawful : IsLawful l.trail.assigned l.clauses;
+  grown : Grown l.fn.trail.assigned l.trail.assigned;
 }
 
 abbrev pub decreases-loop-k : goal.decreases-loop-k
-decreases-loop-k l = open_all l.trail l.clauses
+decreases-loop-k l = open_all l.trail.assigned l.clauses

@@ -7,7 +7,7 @@ use Rattle.ae_propagation.proofs.settle.state_of.Goals as goal
 
 pub returns-in-Some-other_open : goal.returns-in-Some-other_open
 returns-in-Some-other_open c =
-    let t = c.args.trail.now in
+    let t = c.args.trail.now.assigned in
     let u = c.args.clause.now in
     let x = c.index-clause-p.result in
     let p = c.in-Some-open_one.p in
@@ -18,7 +18,7 @@ returns-in-Some-other_open c =
 
 pub returns-in-None : goal.returns-in-None
 returns-in-None c =
-    let t = c.args.trail.now in
+    let t = c.args.trail.now.assigned in
     let u = c.args.clause.now in
     let x = c.index-clause-p.result in
     let p = c.in-Some-open_one.p in

@@ -16,7 +16,7 @@ read t clauses k p at_k own x copy o l same is r e =
 
 pub returns : goal.returns
 returns c =
-    let t = c.args.trail.now in
+    let t = c.args.trail.now.assigned in
     let u = c.args.clauses.now in
     let o = c.requires.alone in
     let q : c.in_ok-lit.lit ≡ o.lit =

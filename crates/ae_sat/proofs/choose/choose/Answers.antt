@@ -11,7 +11,7 @@ use Rattle.ae_sat.proofs.choose.choose.Goals as goal
 
 pub loop-i-preserved : goal.loop-i-preserved
 loop-i-preserved g c =
-    let t = c.args.trail.now in
+    let t = c.args.trail.now.assigned in
     let u = c.args.clause.now in
     let i = c.loop-i.i in
     let x = c.index-clause-i.result in
@@ -27,12 +27,12 @@ pub returns-clause-has : goal.returns-clause-has
 returns-clause-has g c =
     let u = c.args.clause.now in
     let n : c.ask-number.result < length c.loop-i.places.items = omega (arith, c.ask-number.ensures, c.len.ensures, c.loop-i.places.ok.0) in
-    let w : IsNotFalse c.args.trail.now u c.index.result.now = subst (IsNotFalse c.args.trail.now u) (sym c.index.ensures) (c.loop-i.invariant.kept c.ask-number.result c.index.result.now n) in
+    let w : IsNotFalse c.args.trail.now.assigned u c.index.result.now = subst (IsNotFalse c.args.trail.now.assigned u) (sym c.index.ensures) (c.loop-i.invariant.kept c.ask-number.result c.index.result.now n) in
     IfOk-weaker c.copy_lit.result _ _ (λ l e. subst (Contains u) (sym e) (c.index.result.now, w.within, sym c.index-clause-index.is)) c.copy_lit.ensures
 
 pub returns-clause-no_value : goal.returns-clause-no_value
 returns-clause-no_value g c =
-    let t = c.args.trail.now in
+    let t = c.args.trail.now.assigned in
     let u = c.args.clause.now in
     let x = c.index-clause-index.result in
     let n : c.ask-number.result < length c.loop-i.places.items = omega (arith, c.ask-number.ensures, c.len.ensures, c.loop-i.places.ok.0) in

@@ -10,4 +10,4 @@ pub returns : goal.returns
 returns c =
     let x = clause c.args.self.now.clauses c.args.number in
     subst (λ (w : List Assigned). MatchBool c.has_true.result (HasTrue w x) (¬ HasTrue w x)) c.trail.ensures
-    (subst (λ (y : Clause). MatchBool c.has_true.result (HasTrue c.trail.result.now y) (¬ HasTrue c.trail.result.now y)) c.clause_at.ensures c.has_true.ensures)
+    (subst (λ (y : Clause). MatchBool c.has_true.result (HasTrue c.trail.result.now.assigned y) (¬ HasTrue c.trail.result.now.assigned y)) c.clause_at.ensures c.has_true.ensures)

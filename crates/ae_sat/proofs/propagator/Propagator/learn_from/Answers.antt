@@ -30,19 +30,19 @@ returns-clause-derived c = subst (λ (v : List Clause). IfOk c.conflict_clause.r
 pub returns-clause-empty : goal.returns-clause-empty
 returns-clause-empty c =
     subst (λ (w : List Assigned). IfOk c.conflict_clause.result (λ r. greatest_of w (clause c.args.self.now.clauses c.args.falsified) ≡ 0 → r.clause ≡ [])) c.trail.ensures
-    (subst (λ (v : List Clause). IfOk c.conflict_clause.result (λ r. greatest_of c.trail.result.now (clause v c.args.falsified) ≡ 0 → r.clause ≡ [])) c.clauses.ensures c.conflict_clause.ensures.empty)
+    (subst (λ (v : List Clause). IfOk c.conflict_clause.result (λ r. greatest_of c.trail.result.now.assigned (clause v c.args.falsified) ≡ 0 → r.clause ≡ [])) c.clauses.ensures c.conflict_clause.ensures.empty)
 
 pub returns-clause-one : goal.returns-clause-one
 returns-clause-one c =
     subst (λ (w : List Assigned). IfOk c.conflict_clause.result (λ r. 0 < greatest_of w (clause c.args.self.now.clauses c.args.falsified) →
     count_by (λ m. level_of w m == greatest_of w (clause c.args.self.now.clauses c.args.falsified)) r.clause ≡ 1)) c.trail.ensures
-    (subst (λ (v : List Clause). IfOk c.conflict_clause.result (λ r. 0 < greatest_of c.trail.result.now (clause v c.args.falsified) →
-    count_by (λ m. level_of c.trail.result.now m == greatest_of c.trail.result.now (clause v c.args.falsified)) r.clause ≡ 1)) c.clauses.ensures c.conflict_clause.ensures.one)
+    (subst (λ (v : List Clause). IfOk c.conflict_clause.result (λ r. 0 < greatest_of c.trail.result.now.assigned (clause v c.args.falsified) →
+    count_by (λ m. level_of c.trail.result.now.assigned m == greatest_of c.trail.result.now.assigned (clause v c.args.falsified)) r.clause ≡ 1)) c.clauses.ensures c.conflict_clause.ensures.one)
 
 pub returns-clause-highest : goal.returns-clause-highest
 returns-clause-highest c =
     subst (λ (w : List Assigned). IfOk c.conflict_clause.result (λ r. (m : Lit) → Contains r.clause m → level_of w m ≤ greatest_of w (clause c.args.self.now.clauses c.args.falsified))) c.trail.ensures
-    (subst (λ (v : List Clause). IfOk c.conflict_clause.result (λ r. (m : Lit) → Contains r.clause m → level_of c.trail.result.now m ≤ greatest_of c.trail.result.now (clause v c.args.falsified))) c.clauses.ensures
+    (subst (λ (v : List Clause). IfOk c.conflict_clause.result (λ r. (m : Lit) → Contains r.clause m → level_of c.trail.result.now.assigned m ≤ greatest_of c.trail.result.now.assigned (clause v c.args.falsified))) c.clauses.ensures
     c.conflict_clause.ensures.highest)
 
 pub returns-clause-level : goal.returns-clause-level

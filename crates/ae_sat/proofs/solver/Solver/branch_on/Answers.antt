@@ -17,13 +17,13 @@ pub choose-requires-clause-untrue : goal.choose-requires-clause-untrue
 choose-requires-clause-untrue g c h =
     let s = c.args.self.now in
     let e : c.clause_at.result.now ≡ clause s.propagation.clauses c.args.number = c.clause_at.ensures in
-    c.requires.untrue (subst (λ (w : List Assigned). HasTrue w (clause s.propagation.clauses c.args.number)) c.trail.ensures (subst (HasTrue c.trail.result.now) e h))
+    c.requires.untrue (subst (λ (w : List Assigned). HasTrue w (clause s.propagation.clauses c.args.number)) c.trail.ensures (subst (HasTrue c.trail.result.now.assigned) e h))
 
 pub choose-requires-clause-not_false : goal.choose-requires-clause-not_false
 choose-requires-clause-not_false g c h =
     let s = c.args.self.now in
     let e : c.clause_at.result.now ≡ clause s.propagation.clauses c.args.number = c.clause_at.ensures in
-    c.requires.quiet.none_false c.args.number c.requires.within (subst (λ (w : List Assigned). AreFalse w (clause s.propagation.clauses c.args.number)) c.trail.ensures (subst (AreFalse c.trail.result.now) e h))
+    c.requires.quiet.none_false c.args.number c.requires.within (subst (λ (w : List Assigned). AreFalse w (clause s.propagation.clauses c.args.number)) c.trail.ensures (subst (AreFalse c.trail.result.now.assigned) e h))
 
 pub returns-in_err-decide-clause-journal : goal.returns-in_err-decide-clause-journal
 returns-in_err-decide-clause-journal g c = keeps_either c.args.journal.now c.decide.new.journal c.in_ok-lit.lit c.in_err-decide.ensures.noted_or

@@ -1,10 +1,10 @@
 use Rattle.std.proofs.Common.{◌≡◌, ◌++◌, ◌∷◌, [], List, Bool, Option, None, length, refl, ap, ◌∙◌}
 use Rattle.std.proofs.lemmas.List.{length_push}
 use Rattle.std.proofs.lemmas.Result.{on_ok_weaker}
-use Rattle.ae_propagation.specs.Inner.Coding.{value_at}
-use Rattle.ae_propagation.proofs.Results.{either_way}
-use Rattle.ae_propagation.proofs.Valuing.{value_room}
-use Rattle.ae_propagation.proofs.valued.push_none.Goals as goal
+use Rattle.ae_explain.specs.Inner.Index.{value_at}
+use Rattle.ae_explain.proofs.Results.{either_way}
+use Rattle.ae_explain.proofs.Valuing.{value_room}
+use Rattle.ae_explain.proofs.trail.push_value.Goals as goal
 
 pub returns-clause-ok : goal.returns-clause-ok
 returns-clause-ok c = on_ok_weaker c.push.result (λ e. ap length e ∙ length_push c.args.values.now None) c.push.ensures.ok
