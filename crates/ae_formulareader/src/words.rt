@@ -1,16 +1,16 @@
 //! The words of formulas.
-ghost use Rattle.std.specs.Prelude.{◌≡◌, [], drop, get_or, map};
+ghost use Rattle.std.specs.Prelude.{◌≡◌, [], drop, get_or};
 ghost use Rattle.std.specs.Str.{bytes_eq};
 ghost use Rattle.ae_prooftext.specs.FormulaTexts.{word_fine, leaf_fine, kind_of, same};
-ghost use Rattle.ae_prooftext.specs.Words.{symbol_name, symbol_of, symbols};
+ghost use Rattle.ae_prooftext.specs.Words.{symbol_of};
 ghost use Rattle.ae_formulareader.specs.Formulas.{kind_is, leaf_at, words_at};
 ghost use Rattle.ae_readers.specs.declared.closing.Closing.TheVariants as closing;
-ghost use Rattle.ae_readers.specs.Readers.{Reads, Ahead, closes, named_read, place_of};
+ghost use Rattle.ae_readers.specs.Readers.{Reads, Ahead, closes, named_read};
 
 use ae_base::lists::List;
 use ae_core::formulas::Formula;
-use ae_readers::{Closing, Fault, Form, read_name};
-use ae_termreader::{Names, Tables};
+use ae_readers::{Closing, Fault, Form};
+use ae_termreader::{Names, Tables, read_named};
 use std::alloc::Global;
 
 /// What a word behind a formula's bracket says of what follows.
@@ -91,37 +91,12 @@ pub fn word_among(words: &[List<u8>], place: usize) -> &[u8]
     }
 }
 
-// The first place of a word in a table; the number of its words where it isn't one of them.
-fn place_among(words: &[List<u8>], word: &[u8]) -> usize
-    ensures { result ≡ place_of words.now word.now }
-{
-    let mut place = 0;
-    for entry in words {
-        if same(entry.as_slice(), word) {
-            return place;
-        }
-        place += 1;
-    }
-    place
-}
-
-// The names of symbols, which stand behind the ten words of formulas.
-fn symbol_words<'a>(tables: &'a Tables<'_>) -> &'a [List<u8>]
-    ensures { result.now ≡ map (symbol_name tables.now.signature.now) (symbols tables.now.signature.now) }
-{
-    let words = tables.formula_words.words.as_slice();
-    if words.len() < 10 {
-        return &[];
-    }
-    &words[10..]
-}
-
 /// The number of the first symbol of this name; 0 where there is none.
 #[tactic(auto, using(crate::proofs::WordForms::symbol_below, crate::proofs::WordForms::symbol_above))]
 pub fn symbol_named(tables: &Tables<'_>, word: &[u8]) -> usize
     ensures { result ≡ symbol_of tables.now.signature.now word.now }
 {
-    let place = place_among(symbol_words(tables), word);
+    let place = tables.symbol_words.place(word);
     if place < tables.signature.symbols.len() {
         place
     } else {
@@ -140,31 +115,12 @@ pub fn opening_words<'a>(tables: &'a Tables<'_>, negations: bool) -> &'a Names
     }
 }
 
-fn opening_among(text: &[u8], at: usize, words: &[List<u8>]) -> Result<((usize, u8), usize), Fault>
-    ensures read { Reads text.now result (named_read word_fine (closes closing.Blank) words.now (drop at text.now)) }
-    ensures ahead { Ahead text.now at result }
-{
-    read_name(text, at, words, Form::Word, Closing::Blank)
-}
-
-fn leaf_among(
-    text: &[u8],
-    at: usize,
-    words: &[List<u8>],
-    closing: Closing,
-) -> Result<((usize, u8), usize), Fault>
-    ensures read { Reads text.now result (named_read leaf_fine (closes closing) words.now (drop at text.now)) }
-    ensures ahead { Ahead text.now at result }
-{
-    read_name(text, at, words, Form::Leaf, closing)
-}
-
 /// The word that begins at a place and stands first in a formula's brackets, by its first place in the table, and the blank behind it.
 pub fn read_opening(text: &[u8], at: usize, names: &Names) -> Result<((usize, u8), usize), Fault>
     ensures read { Reads text.now result (named_read word_fine (closes closing.Blank) names.now.words (drop at text.now)) }
     ensures ahead { Ahead text.now at result }
 {
-    opening_among(text, at, names.words.as_slice())
+    read_named(text, at, names, Form::Word, Closing::Blank)
 }
 
 /// The word that begins at a place and stands alone as a formula, and the byte that closes it.
@@ -177,7 +133,7 @@ pub fn read_leaf_word(
     ensures read { Reads text.now result (named_read leaf_fine (closes closing) names.now.words (drop at text.now)) }
     ensures ahead { Ahead text.now at result }
 {
-    leaf_among(text, at, names.words.as_slice(), closing)
+    read_named(text, at, names, Form::Leaf, closing)
 }
 
 fn proposition(numbers: &[usize], place: usize) -> usize

@@ -1,4 +1,5 @@
 pub mod Forms
+pub mod Lookups
 pub mod Ranges
 pub mod SortReading
 pub mod TermReading

@@ -2,13 +2,14 @@
 #![tactic(auto)]
 
 mod heads;
+mod index;
 mod names;
 mod numerals;
 mod sorts;
 mod tables;
 mod terms;
 
-pub use names::Names;
+pub use names::{Names, read_named};
 pub use numerals::read_numeral;
 pub use sorts::{read_sort, read_sort_row, read_sorts};
 pub use tables::Tables;

@@ -8,7 +8,7 @@ ghost use Rattle.ae_prooftext.specs.Words.{type_names, bracket_heads, lone_heads
 
 use crate::heads::{
     atom_words, bracket_heads, formula_words, has_name, leaf_words, lone_heads, lone_symbols,
-    type_words, words_of,
+    numbers_below, push_symbol_names, type_words, words_of,
 };
 use crate::names::Names;
 use ae_base::lists::List;
@@ -35,6 +35,8 @@ pub struct Tables<'a> {
     /// The numbers of the symbols whose names may stand alone in a formula.
     pub propositions: List<usize>,
     pub proposition_words: Names,
+    /// The names of symbols.
+    pub symbol_words: Names,
     /// The words that may stand first in a formula's brackets.
     pub formula_words: Names,
     /// The same where no negation may stand.
@@ -48,6 +50,7 @@ pub struct Tables<'a> {
     ghost constant_words_are: { constant_words.words ≡ lone_table signature.now },
     ghost propositions_are: { propositions ≡ lone_symbols signature.now },
     ghost proposition_words_are: { proposition_words.words ≡ leaf_words (map (symbol_name signature.now) (lone_symbols signature.now)) },
+    ghost symbol_words_are: { symbol_words.words ≡ map (symbol_name signature.now) (symbols signature.now) },
     ghost formula_words_are: { formula_words.words ≡ bracket_words true (map (symbol_name signature.now) (symbols signature.now)) },
     ghost positive_words_are: { positive_words.words ≡ bracket_words false (map (symbol_name signature.now) (symbols signature.now)) },
 }
@@ -70,6 +73,7 @@ impl<'a> Tables<'a> {
             constant_words: constant_table(alloc, signature)?,
             propositions: lone_symbols(alloc, signature)?,
             proposition_words: proposition_table(alloc, signature)?,
+            symbol_words: symbol_table(alloc, signature)?,
             formula_words: formula_table(alloc, signature, true)?,
             positive_words: formula_table(alloc, signature, false)?,
         })
@@ -113,6 +117,15 @@ fn proposition_table(alloc: Global, signature: &Signature) -> Result<Names, Allo
 {
     let numbers = lone_symbols(alloc, signature)?;
     let words = leaf_words(alloc, signature, numbers.as_slice())?;
+    Names::new(alloc, words)
+}
+
+fn symbol_table(alloc: Global, signature: &Signature) -> Result<Names, AllocError>
+    ensures { IfOk result (λ t. t.words ≡ map (symbol_name signature.now) (symbols signature.now)) }
+{
+    let numbers = numbers_below(alloc, signature.symbols.len())?;
+    let mut words = List::new(alloc);
+    push_symbol_names(alloc, &mut words, signature, numbers.as_slice())?;
     Names::new(alloc, words)
 }
 
