@@ -1,0 +1,2 @@
+pub mod ChoiceForms
+pub mod WholeForms

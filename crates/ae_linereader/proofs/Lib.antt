@@ -1,0 +1,3 @@
+pub mod OwnReading
+pub mod RuleReading
+pub mod LineReading
