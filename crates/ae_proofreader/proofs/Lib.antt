@@ -1,0 +1,3 @@
+pub mod PlaceReading
+pub mod VersionReading
+pub mod WholeReading

@@ -1,0 +1,5 @@
+//! Tests of the reader of proof texts.
+#![tactic(auto)]
+
+#[cfg(test)]
+mod tests;
