@@ -1,0 +1,5 @@
+pub mod LineLaws
+pub mod NumberedReading
+pub mod PointReading
+pub mod SectionReading
+pub mod StateReading

@@ -1,0 +1,5 @@
+//! Tests of what reads states.
+#![tactic(auto)]
+
+#[cfg(test)]
+mod tests;
