@@ -1,9 +1,9 @@
-mod Places
-mod Named
-mod Closing
-mod Sorts
-mod Heads
-mod Worded
+pub mod Places
+pub mod Named
+pub mod Closing
+pub mod Sorts
+pub mod Heads
+pub mod Worded
 mod Lists
 mod Numerals
 mod TermLayers
@@ -14,6 +14,6 @@ mod Rising
 mod Repeated
 pub mod Rules
 pub mod Signs
-mod Lines
+pub mod Lines
 pub mod Allowed
 pub mod Legal

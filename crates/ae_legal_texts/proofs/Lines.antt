@@ -87,7 +87,7 @@ module _ (sig : Signature) (lawful : IsLawful sig) where
       listing_fits 93 above_square (closed_term sig (real sig) square) (Bound 0) (closed_in_square sig (real sig)) (term_text sig) (λ v f. term_is_spelled sig (real sig []) square v) (closed_begins sig (real sig)) ts
       (term_items ts o (all_parts IsWithin term_numbers ts w))
 
-  sorts_has : (ss : List Sort) → list_all (is_closed_sort sig) ss ≡ true → AreWithin (flat_map sort_numbers ss) → (sorts sig).Fits ss
+  pub sorts_has : (ss : List Sort) → list_all (is_closed_sort sig) ss ≡ true → AreWithin (flat_map sort_numbers ss) → (sorts sig).Fits ss
   unfolding sorts
   sorts_has ss o w =
       listing_fits 93 above_square (sort_in sig square) Int (sorts_shaped sig) (sort_text (type_names sig)) (λ v f. sort_is_spelled (type_names sig) (some_type (type_names sig)) square v f) (sorts_begin sig) ss
