@@ -1,9 +1,9 @@
 -- The values that are built for a chain, piece by piece, and that the signs of their literals are as they have to be.
-use Rattle.std.specs.Prelude.{ℕ, zero, suc, ◌+◌, ◌-◌, ◌<◌, Bool, true, false, not, List, [], ◌∷◌, ◌++◌, ◌≡◌, length, get_or, take, drop}
+use Rattle.std.specs.Prelude.{ℕ, zero, suc, ◌+◌, ◌<◌, Bool, true, false, not, List, [], ◌∷◌, ◌++◌, ◌≡◌, length, get_or, drop}
 use Rattle.std.specs.List.{list_all}
-use Rattle.std.proofs.Common.{refl, sym, ap, ◌∙◌, arith}
+use Rattle.std.proofs.Common.{refl, ap, ◌∙◌, arith}
 use Rattle.std.proofs.lemmas.Bool.{and_from}
-use Rattle.ae_rules.specs.Clauses.{is_true, is_false}
+use Rattle.ae_rules.specs.Clauses.{is_false}
 use Rattle.ae_core.specs.declared.formulas.Formula.{Or, Not}
 use Rattle.ae_core.specs.declared.formulas.Formula.TheVariants.{outs-Eq, outs-Or}
 use Rattle.ae_core.specs.declared.proofs.ClauseLine.{ClauseLine}

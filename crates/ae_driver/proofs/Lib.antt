@@ -4,6 +4,7 @@ pub mod Growing
 pub mod Propagates
 pub mod ChainProof
 pub mod ChainValues
+pub mod ChainTexts
 pub mod MergingInOrder
 pub mod MergedValues
 pub mod FromModels

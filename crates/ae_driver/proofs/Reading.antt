@@ -28,7 +28,6 @@ use Rattle.ae_driver.specs.FirstTexts.{IsNameAt, IsConstantAt, IsEquation, IsCha
 use Rattle.ae_driver.specs.Inner.Places.{IsEquationOver, IsGoalOver, IsWellPlaced}
 use Rattle.ae_base.proofs.ListFacts.{cons_head, cons_tail, get_front, get_read}
 use Rattle.ae_base.proofs.Relations.{pairwise_at, pairwise_back, pairwise_get}
-use Rattle.ae_base.proofs.Options.{never_some}
 use Rattle.std.proofs.lemmas.Option.{slice_get-get_or, same_Some}
 use Rattle.ae_base.specs.Relations.{Pairwise}
 use Rattle.std.proofs.lemmas.List.{get_or_default}

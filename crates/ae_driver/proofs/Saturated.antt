@@ -3,7 +3,6 @@ use Rattle.std.specs.Prelude.{◌≡◌, ◌≢◌, ◌⊎◌, ℕ, zero, suc, �
 use Rattle.std.specs.List.{AllByRecursion, Contains}
 use Rattle.std.proofs.Common.{refl, sym, ap, ◌∙◌, subst, arith, true≢false, ⊎_elim, inl, inr}
 use Rattle.std.proofs.lemmas.Bool.Decides.{eqb_tells}
-use Rattle.std.proofs.lemmas.Option.{slice_get_within, get_or_from_slice_get}
 use Rattle.ae_base.specs.Options.{or_else, only, ◌>>=◌}
 use Rattle.ae_rules.specs.Clauses.{Clause, yes_of, no_of, is_true, is_false, opposite, row}
 use Rattle.ae_rules.specs.Instances.{hypothesis, axiom_with, choices_of}

@@ -1,9 +1,10 @@
-//! The answer to a goal, and its part of the output.
+//! A goal's part of the output.
 
-ghost use Rattle.std.specs.Prelude.{◌≡◌, ◌<◌, ◌^◌, length, IfOk};
+ghost use Rattle.std.specs.Prelude.{◌≡◌, ◌++◌, ◌<◌, ◌^◌, length, codes, IfOk, OnOk};
 ghost use Rattle.ae_journal.specs.declared.answers.Answer.TheVariants.{Valid, Unknown};
+ghost use Rattle.ae_statetext.specs.AnswerTexts.{goal_line, answer_text};
 ghost use Rattle.ae_driver.specs.Problems as problems;
-ghost use Rattle.ae_driver.specs.Inner.Answers.{IsAnswerTo, IsPartOf};
+ghost use Rattle.ae_driver.specs.Inner.Answers.{IsPartOf};
 ghost use Rattle.ae_driver.specs.Inner.ChainProofs.{chain_proof};
 ghost use Rattle.ae_driver.specs.Inner.Merging.{numbers_of};
 ghost use Rattle.ae_driver.specs.Inner.Places.{IsGoalOver};
@@ -11,11 +12,13 @@ ghost use Rattle.ae_driver.specs.Inner.Search.{block_of};
 ghost use Rattle.ae_driver.specs.Inner.StateChains.{state_of};
 
 use crate::first_text::{Chain, FirstText};
-use crate::proofs::proof_of_chain;
+use crate::proofs::put_chain_proof;
 use crate::search::{Named, Outcome, Refutation, settle};
 use crate::states::state_of_chain;
 use ae_core::problems::Signature;
+use ae_core::words::Word;
 use ae_journal::answers::Answer;
+use ae_prooftext::put;
 use ae_statetext::answer_text;
 use std::alloc::{AllocError, Global};
 
@@ -30,39 +33,52 @@ pub fn goal_part(
     requires signature { signature.now ≡ problems.signature first.now }
     ensures { IfOk result (λ part. IsPartOf first.now goal.now part.items) }
 {
-    let answer = answer_of(alloc, first.constants.len(), goal)?;
-    answer_text(alloc, signature, &goal.name, &answer)
-}
-
-// The answer to a goal over the first `count` constants.
-fn answer_of(alloc: Global, count: usize, goal: &Chain) -> Result<Answer, AllocError>
-    requires { IsGoalOver count goal.now }
-    ensures { IfOk result (IsAnswerTo count goal.now) }
-{
+    let count = first.constants.len();
     match settle(alloc, count, goal.hyps.as_slice(), goal.last)? {
-        Outcome::Refuted(refutation) => valid(alloc, goal, refutation),
-        Outcome::Open(values) => unknown(alloc, count, goal, values.as_slice()),
+        Outcome::Refuted(refutation) => valid_part(alloc, signature, goal, refutation),
+        Outcome::Open(values) => unknown_part(alloc, count, signature, goal, values.as_slice()),
     }
 }
 
-// The answer to a goal that is refuted.
-fn valid(alloc: Global, goal: &Chain, refutation: Refutation) -> Result<Answer, AllocError>
-    requires { length goal.now.hyps < 2 ^ 32 }
-    ensures { IfOk result (λ answer. answer ≡ Valid (chain_proof goal.now.hyps goal.now.last (block_of goal.now.hyps refutation))) }
+// Puts the line that says that a goal is valid.
+fn put_valid_line(out: &mut Vec<u8>, name: &Word) -> Result<(), AllocError>
+    ensures { OnOk result (out.new.items ≡ out.old.items ++ goal_line name.now (codes " Valid")) }
 {
-    let proof = proof_of_chain(alloc, goal.hyps.as_slice(), goal.last, refutation)?;
-    Ok(Answer::Valid(proof))
+    put(out, b"goal ")?;
+    put(out, name.as_str().as_bytes())?;
+    put(out, b" Valid")?;
+    put(out, b"\n")
 }
 
-// The answer to a goal whose sides have different values.
-fn unknown(
+// The part of a goal that is refuted.
+#[tactic(auto, unfolding(ae_statetext::specs::AnswerTexts::answer_text))]
+fn valid_part(
+    alloc: Global,
+    signature: &Signature,
+    goal: &Chain,
+    refutation: Refutation,
+) -> Result<Vec<u8>, AllocError>
+    requires { length goal.now.hyps < 2 ^ 32 }
+    ensures { IfOk result (λ part. part.items ≡ answer_text signature.now goal.now.name (Valid (chain_proof goal.now.hyps goal.now.last (block_of goal.now.hyps refutation)))) }
+{
+    let hyps = goal.hyps.as_slice();
+    let mut part = Vec::new(alloc);
+    put_valid_line(&mut part, &goal.name)?;
+    put_chain_proof(alloc, &mut part, signature, hyps, goal.last, refutation)?;
+    Ok(part)
+}
+
+// The part of a goal whose sides have different values.
+fn unknown_part(
     alloc: Global,
     count: usize,
+    signature: &Signature,
     goal: &Chain,
     values: &[Named],
-) -> Result<Answer, AllocError>
-    ensures { IfOk result (λ answer. answer ≡ Unknown (state_of count goal.now.hyps goal.now.last (numbers_of values.now))) }
+) -> Result<Vec<u8>, AllocError>
+    ensures { IfOk result (λ part. part.items ≡ answer_text signature.now goal.now.name (Unknown (state_of count goal.now.hyps goal.now.last (numbers_of values.now)))) }
 {
     let state = state_of_chain(alloc, count, goal.hyps.as_slice(), goal.last, values)?;
-    Ok(Answer::Unknown(state))
+    let answer = Answer::Unknown(state);
+    answer_text(alloc, signature, &goal.name, &answer)
 }

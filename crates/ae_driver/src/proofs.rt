@@ -1,17 +1,22 @@
-//! The proof of a chain, made from its refutation.
+//! The text of a chain's proof, written as the proof is made from its refutation.
 
-ghost use Rattle.std.specs.Prelude.{◌≡◌, ◌++◌, ◌+◌, ◌<◌, ◌^◌, length, IfOk, OnOk};
+ghost use Rattle.std.specs.Prelude.{◌≡◌, ◌++◌, ◌+◌, ◌<◌, ◌^◌, length, codes, IfOk, OnOk};
+ghost use Rattle.std.specs.List.{flat_map};
 ghost use Rattle.ae_core.specs.declared.formulas.Formula.{Or, Not};
 ghost use Rattle.ae_core.specs.declared.proofs.ClauseLine.TheVariants.{Def};
+ghost use Rattle.ae_prooftext.specs.Texts.{line_text, number_blank};
+ghost use Rattle.ae_statetext.specs.AnswerTexts.{first_version};
 ghost use Rattle.ae_driver.specs.Problems.{equation, chain};
-ghost use Rattle.ae_driver.specs.Inner.ChainProofs.{defs, hints, chain_proof};
+ghost use Rattle.ae_driver.specs.Inner.ChainProofs.{defs, hints, last_lines, chain_proof};
 ghost use Rattle.ae_driver.specs.Inner.Search.{block_of};
 
 use crate::first_text::Equation;
 use crate::search::{Refutation, equation_formula};
 use ae_base::lists::{Boxed, List};
 use ae_core::formulas::Formula;
-use ae_core::proofs::{Block, ClauseLine, Ending, Proof};
+use ae_core::problems::Signature;
+use ae_core::proofs::{Block, ClauseLine, Ending};
+use ae_prooftext::{put, put_formula, put_lines, put_number};
 use ae_rules::rows::{OR_FROM_LEFT, OR_FROM_RIGHT};
 use std::alloc::{AllocError, Global};
 
@@ -41,34 +46,44 @@ pub fn chain_formula(
     Ok(formula)
 }
 
-fn definition(
-    alloc: Global,
-    row: usize,
-    hyps: &[Equation],
-    last: Equation,
-) -> Result<ClauseLine, AllocError>
-    ensures { IfOk result (λ line. line ≡ Def row (chain hyps.now last)) }
+fn put_row(out: &mut Vec<u8>, row: usize) -> Result<(), AllocError>
+    ensures { OnOk result (out.new.items ≡ out.old.items ++ (codes "def " ++ number_blank row)) }
 {
-    Ok(ClauseLine::Def {
-        row,
-        formula: chain_formula(alloc, hyps, last)?,
-    })
+    put(out, b"def ")?;
+    put_number(out, row)?;
+    put(out, b" ")
 }
 
-// Adds the defining lines of the chain and of each of its rests.
-fn push_definitions(
+// Puts the line that gives a formula one of its defining clauses.
+#[tactic(auto, unfolding(ae_prooftext::specs::Texts::line_text))]
+fn put_definition(
+    out: &mut Vec<u8>,
+    signature: &Signature,
+    row: usize,
+    formula: &Formula,
+) -> Result<(), AllocError>
+    ensures { OnOk result (out.new.items ≡ out.old.items ++ line_text signature.now (Def row formula.now)) }
+{
+    put_row(out, row)?;
+    put_formula(out, signature, formula)?;
+    put(out, b"\n")
+}
+
+// Puts the defining lines of the chain and of each of its rests. Each formula is let go as soon as its two lines are written:
+// all of them together have many times the bytes of their lines.
+fn put_definitions(
     alloc: Global,
-    lines: &mut List<ClauseLine>,
+    out: &mut Vec<u8>,
+    signature: &Signature,
     hyps: &[Equation],
     last: Equation,
 ) -> Result<(), AllocError>
-    ensures { OnOk result (lines.new ≡ lines.old ++ defs hyps.now last) }
+    ensures { OnOk result (out.new.items ≡ out.old.items ++ flat_map (line_text signature.now) (defs hyps.now last)) }
 {
     for i in 0..hyps.len() {
-        let left = definition(alloc, OR_FROM_LEFT, &hyps[i..], last)?;
-        lines.push(left)?;
-        let right = definition(alloc, OR_FROM_RIGHT, &hyps[i..], last)?;
-        lines.push(right)?;
+        let rest = chain_formula(alloc, &hyps[i..], last)?;
+        put_definition(out, signature, OR_FROM_LEFT, &rest)?;
+        put_definition(out, signature, OR_FROM_RIGHT, &rest)?;
     }
     Ok(())
 }
@@ -101,23 +116,39 @@ fn block(hyps: &[Equation], refutation: Refutation) -> Block
     }
 }
 
-/// The proof of a chain: it splits the negated chain into its hypotheses and its negated end, which the refutation refutes.
-pub fn proof_of_chain(
+// The lines behind the defining ones: the block, and the empty clause.
+fn last_lines(
     alloc: Global,
     hyps: &[Equation],
-    last: Equation,
     refutation: Refutation,
-) -> Result<Proof, AllocError>
+) -> Result<List<ClauseLine>, AllocError>
     requires { length hyps.now < 2 ^ 32 }
-    ensures { IfOk result (λ proof. proof ≡ chain_proof hyps.now last (block_of hyps.now refutation)) }
+    ensures { IfOk result (λ lines. lines ≡ last_lines hyps.now (block_of hyps.now refutation)) }
 {
     let mut lines = List::new(alloc);
-    lines.push(ClauseLine::Goal)?;
-    push_definitions(alloc, &mut lines, hyps, last)?;
     lines.push(ClauseLine::Block(block(hyps, refutation)))?;
     lines.push(ClauseLine::Rup {
         clause: List::new(alloc),
         hints: chain_hints(alloc, hyps)?,
     })?;
-    Ok(Proof { lines })
+    Ok(lines)
+}
+
+/// Puts the text of the proof of a chain at the end: the proof splits the negated chain into its hypotheses and its negated end,
+/// which the refutation refutes. `Err` where there is no memory for it.
+pub fn put_chain_proof(
+    alloc: Global,
+    out: &mut Vec<u8>,
+    signature: &Signature,
+    hyps: &[Equation],
+    last: Equation,
+    refutation: Refutation,
+) -> Result<(), AllocError>
+    requires { length hyps.now < 2 ^ 32 }
+    ensures { OnOk result (out.new.items ≡ out.old.items ++ first_version signature.now (chain_proof hyps.now last (block_of hyps.now refutation))) }
+{
+    put(out, b"proof 1\ngoal\n")?;
+    put_definitions(alloc, out, signature, hyps, last)?;
+    let lines = last_lines(alloc, hyps, refutation)?;
+    put_lines(out, signature, lines.as_slice())
 }

@@ -24,8 +24,12 @@ abbrev pub hints : List Equation → ℕ → ℕ → ℕ → List ℕ
 hints [] q p b = b ∷ q ∷ []
 hints (e ∷ es) q p b = q ∷ p ∷ hints es (p + 1) (p + 2) b
 
+-- the lines behind the defining ones: the block, and the empty clause
+abbrev pub last_lines : List Equation → Block → List ClauseLine
+last_lines es b = BlockLine b ∷ Rup [] (hints es 0 1 (length es + length es + 1)) ∷ []
+
 abbrev pub proof_lines : List Equation → Equation → Block → List ClauseLine
-proof_lines es g b = Goal ∷ (defs es g ++ BlockLine b ∷ Rup [] (hints es 0 1 (length es + length es + 1)) ∷ [])
+proof_lines es g b = Goal ∷ (defs es g ++ last_lines es b)
 
 abbrev pub chain_proof : List Equation → Equation → Block → Proof
 chain_proof es g b = record { lines = proof_lines es g b }

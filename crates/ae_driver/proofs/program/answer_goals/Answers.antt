@@ -1,4 +1,4 @@
-use Rattle.std.proofs.Common.{rules, arith}
+use Rattle.std.proofs.Common.{arith}
 use Rattle.ae_driver.proofs.Answered.{nothing_yet}
 use Rattle.ae_driver.proofs.program.answer_goals.Goals as goal
 

@@ -1,6 +1,5 @@
 use Rattle.std.proofs.Common.{ap, subst, arith}
 use Rattle.ae_driver.specs.Inner.Endings.{PartEnds}
-use Rattle.ae_driver.specs.declared.program.Status.TheVariants as status
 use Rattle.ae_driver.proofs.Answered.{part_ends, part_done, rose_later, item_at}
 use Rattle.ae_driver.proofs.program.answer_in_order.Goals as goal
 

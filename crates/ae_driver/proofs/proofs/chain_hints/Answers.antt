@@ -1,4 +1,4 @@
-use Rattle.std.proofs.Common.{rules, ◌≡◌, ◌+◌, ◌∷◌, ◌++◌, [], ap, ◌∙◌, sym, drop, length}
+use Rattle.std.proofs.Common.{◌+◌, ◌∷◌, ◌++◌, [], ap, ◌∙◌, sym, drop, length}
 use Rattle.ae_driver.specs.Inner.ChainProofs.{hints}
 use Rattle.ae_driver.proofs.ChainValues.{two_more, hints_step}
 use Rattle.ae_driver.proofs.proofs.chain_hints.Goals as goal

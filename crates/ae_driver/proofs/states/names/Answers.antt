@@ -1,4 +1,4 @@
-use Rattle.std.proofs.Common.{◌≡◌, ◌++◌, ◌∷◌, [], ap, ◌∙◌}
+use Rattle.std.proofs.Common.{◌++◌, ◌∷◌, [], ◌∙◌}
 use Rattle.ae_driver.proofs.ChainValues.{constants_more}
 use Rattle.ae_driver.proofs.states.names.Goals as goal
 
