@@ -1,0 +1,12 @@
+mod ApplyLaws
+mod ArgumentLaws
+mod BeforeLaws
+mod JoinLaws
+mod LetLaws
+mod OperandLaws
+mod PartLaws
+mod QuantifiedLaws
+mod RuleLaws
+mod TriggerLaws
+mod ValueLaws
+mod TruthForms

@@ -1,0 +1,3 @@
+pub mod OperandsAnswers
+pub mod PatternsAnswers
+pub mod ValuesAnswers
