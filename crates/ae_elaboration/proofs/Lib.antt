@@ -1,0 +1,3 @@
+mod CollectLaws
+mod ElaborationRules
+mod VariableLaws
