@@ -2,3 +2,4 @@
 pub mod Sets
 pub mod Points
 pub mod Derived
+pub mod Primitive

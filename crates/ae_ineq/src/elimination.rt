@@ -9,7 +9,7 @@ ghost use Rattle.ae_rows.specs.Rows.{IsCovered, IsClosed, HasPositiveNumbers, co
 ghost use Rattle.ae_ineq.specs.declared.elimination.Verdict.TheVariants.{Open, Tight, Contradiction};
 ghost use Rattle.ae_ineq.specs.declared.elimination.Side.TheVariants.{Lower, Upper, Rest};
 ghost use Rattle.ae_ineq.specs.Inner.Points.{AreFalling};
-ghost use Rattle.ae_ineq.specs.Inner.Sets.{IsRow, IsGoodRow, IsLowerRow, IsUpperRow, IsRestRow, HasForm, HasDirection, AreAmong, AreCovered, reach, HasAny, HasPart, IsStage, reach_of, name_reach};
+ghost use Rattle.ae_ineq.specs.Inner.Sets.{IsRow, IsGoodRow, IsLowerRow, IsUpperRow, IsRestRow, HasForm, HasDirection, HasMultiple, AreAmong, AreCovered, reach, HasAny, HasPart, IsStage, reach_of, name_reach};
 ghost use Rattle.ae_ineq.specs.Inner.Derived.{IsDerived, IsJudged};
 ghost use Rattle.ae_ineq.specs.declared.solving.Inequality.{Inequality};
 
@@ -139,10 +139,12 @@ pub fn split(alloc: Global, name: Name, rows: Items<Row>) -> Result<(Stage, Item
     ))
 }
 
-/// Adds a row where none has its direction.
+/// Adds a row where it is no positive multiple of one that is there.
 pub fn add(rest: &mut Items<Row>, row: Row) -> Result<(), AllocError>
+    requires row { IsRow row }
+    requires rest { AllByRecursion IsRow rest.old }
     ensures added { OnOk result (((rest.new ≡ rest.old) × HasDirection rest.old row.direction) ⊎ (rest.new ≡ rest.old ++ row ∷ [])) }
-    ensures new { OnOk result (rest.new ≡ rest.old ⊎ ¬ HasDirection rest.old row.direction) }
+    ensures new { OnOk result (rest.new ≡ rest.old ⊎ ¬ HasMultiple rest.old (meaning row.lin)) }
 {
     if !has_direction(rest.as_slice(), &row.direction) {
         rest.push(row)?;

@@ -1,13 +1,13 @@
 //! Rows: linear forms over names that aren't negative, or are positive.
 
-ghost use Rattle.std.specs.Prelude.{◌≡◌, ◌≢◌, ◌≤◌, ◌<◌, ◌<ℤ◌, pos, true, false, IfOk, length};
-ghost use Rattle.ae_num.specs.Forms.{IsNormal, meaning};
+ghost use Rattle.std.specs.Prelude.{◌≡◌, ◌≢◌, ◌≤◌, ◌<◌, ◌<ℤ◌, pos, true, false, IfOk, length, unsigned_abs, []};
+ghost use Rattle.ae_num.specs.Forms.{IsNormal, meaning, IsCommonDivisor, sizes};
 ghost use Rattle.ae_num.specs.Limits.{FitsLimits};
+ghost use Rattle.ae_ineq.specs.Inner.Primitive.{IsPrimitive};
 ghost use Rattle.ae_ineq.specs.Inner.Sets.{last_part, IsMultiple, IsRow, HasDirection};
 
 use ae_num::forms::{Lin, Name, Part};
-use ae_num::numbers::gcd;
-use ae_num::reduction::reduced;
+use ae_num::reduction::{common_divisor, reduced};
 use sqlite_items::Items;
 use std::alloc::{AllocError, Global};
 
@@ -29,39 +29,50 @@ pub fn last(parts: &[Part]) -> Option<Part>
     Some(parts[parts.len() - 1])
 }
 
-/// The greatest common divisor of the factors and the constant; 1 where all are 0.
-fn content(form: &Lin) -> i128
-    requires { IsNormal form.now }
-    ensures positive { pos 0 <ℤ result }
-    ensures within { FitsLimits result }
+/// The form over the greatest common divisor of its constant and its factors, in place of its denominator.
+fn over_content(alloc: Global, form: &Lin) -> Result<Lin, AllocError>
+    requires normal { IsNormal form.now }
+    requires nonzero { form.now.parts ≡ [] → form.now.constant ≢ pos 0 }
+    ensures parts { IfOk result (λ whole. whole.parts ≡ form.now.parts) }
+    ensures constant { IfOk result (λ whole. whole.constant ≡ form.now.constant) }
+    ensures positive { IfOk result (λ whole. pos 0 <ℤ whole.den) }
+    ensures within { IfOk result (λ whole. FitsLimits whole.den) }
+    ensures common { IfOk result (λ whole. IsCommonDivisor (sizes form.now.constant form.now.parts form.now.constant) (unsigned_abs whole.den)) }
 {
-    let mut divisor = gcd(form.constant, 0);
-    for part in form.parts.as_slice() {
-        divisor = gcd(divisor, part.factor);
-    }
-    if divisor == 0 {
-        return 1;
-    }
-    divisor
+    let numbers = Lin {
+        den: form.constant,
+        parts: Items::from_slice(alloc, form.parts.as_slice())?,
+        constant: form.constant,
+    };
+    let divisor = common_divisor(&numbers);
+    let Lin {
+        den: _,
+        parts,
+        constant,
+    } = numbers;
+    Ok(Lin {
+        den: divisor,
+        parts,
+        constant,
+    })
 }
 
 /// The positive multiple of a form in whole numbers without a common divisor.
 pub fn direction(alloc: Global, form: &Lin) -> Result<Lin, AllocError>
-    requires { IsNormal form.now }
+    requires normal { IsNormal form.now }
+    requires nonzero { form.now.parts ≡ [] → form.now.constant ≢ pos 0 }
     ensures multiple { IfOk result (λ f. IsMultiple (meaning form.now) (meaning f)) }
     ensures normal { IfOk result (λ f. IsNormal f) }
+    ensures primitive { IfOk result (λ f. IsPrimitive f) }
 {
-    let whole = Lin {
-        den: content(form),
-        parts: Items::from_slice(alloc, form.parts.as_slice())?,
-        constant: form.constant,
-    };
+    let whole = over_content(alloc, form)?;
     reduced(alloc, &whole)
 }
 
 /// A row of a form in the normal form.
 pub fn row_of(alloc: Global, lin: Lin, strict: bool) -> Result<Row, AllocError>
-    requires { IsNormal lin }
+    requires normal { IsNormal lin }
+    requires nonzero { lin.parts ≡ [] → lin.constant ≢ pos 0 }
     ensures form { IfOk result (λ row. row.lin ≡ lin) }
     ensures strict { IfOk result (λ row. row.strict ≡ strict) }
     ensures known { IfOk result (λ row. IsRow row) }

@@ -39,6 +39,9 @@ combined-requires-clause-within c =
     let e = c.last-falling.ensures ∙ ap last_part c.as_slice-2.ensures ∙ l.is in
     subst (λ o. IfSome o (λ (part : Part). FitsLimits part.factor)) (sym e) (last_within c.args.upper.now.lin p l.row.normal l.is)
 
+pub add-requires-clause-rest : goal.add-requires-clause-rest
+add-requires-clause-rest c = all_weaker (IsRestRow c.args.name) IsRow (λ x h. h.good.row) c.args.rest.now c.requires.rest
+
 pub returns-in_ok-add-in-Open-clause-rest : goal.returns-in_ok-add-in-Open-clause-rest
 returns-in_ok-add-in-Open-clause-rest c =
     let row = c.in_ok-row-in-Open.row in

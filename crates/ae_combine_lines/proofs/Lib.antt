@@ -1,0 +1,5 @@
+pub mod Lists
+pub mod Values
+pub mod Standing
+pub mod Sums
+pub mod Legal
