@@ -1,2 +1,2 @@
-mod Symbols
-mod Systems
+pub mod Symbols
+pub mod Systems

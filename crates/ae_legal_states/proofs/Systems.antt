@@ -1,5 +1,5 @@
 -- A state of a completed system has a text.
-use Rattle.std.specs.Prelude.{ℕ, ◌≡◌, ◌≤◌, ◌^◌, true, not, List, [], ◌∷◌}
+use Rattle.std.specs.Prelude.{◌≡◌, ◌≤◌, ◌⊎◌, ◌^◌, true, not, List, [], ◌∷◌, Some}
 use Rattle.std.specs.List.{AllByRecursion}
 use Rattle.std.proofs.Common.{refl, sym, ap, ◌∙◌, subst, inl, inr}
 use Rattle.std.proofs.lemmas.Bool.{and_parts, and_from, or_right}
@@ -8,15 +8,16 @@ use Rattle.ae_base.proofs.AllOf.{all_at, all_from_places}
 use Rattle.ae_codes.specs.Closers.{by_line}
 use Rattle.ae_codes.specs.Codes.{got, reads_text}
 use Rattle.ae_core.specs.Signatures.{IsLawful}
-use Rattle.ae_core.specs.Sorts.{is_closed_sort, sort_in, trigger_ok, applied_ok, formula_ok}
+use Rattle.ae_core.specs.Sorts.{is_closed_sort, sort_in, sort_of, trigger_ok, applied_ok, formula_ok}
 use Rattle.ae_core.proofs.SortLaws.{formula_in_pred}
 use Rattle.ae_core.specs.declared.formulas.Formula.{out-Formula}
 use Rattle.ae_core.specs.declared.formulas.Lit.{Lit}
 use Rattle.ae_core.specs.declared.problems.Signature.{Signature}
 use Rattle.ae_core.specs.declared.terms.Head.TheVariants as head
+use Rattle.ae_core.specs.declared.terms.Sort.{Sort}
 use Rattle.ae_core.specs.declared.terms.Term.{Term, Apply}
 use Rattle.ae_core.specs.declared.terms.Term.TheVariants.{outs-Apply}
-use Rattle.ae_journal.specs.Systems.{IsCompleted, IsName, IsPredicateName}
+use Rattle.ae_journal.specs.Systems.{IsCompleted, IsPredicateName}
 use Rattle.ae_journal.specs.declared.systems.Saturated.{Saturated}
 use Rattle.ae_legal_texts.specs.Numbers.{AreWithin, IsWithin, term_numbers, literal_numbers}
 use Rattle.ae_legal_texts.specs.Writable.{is_negation, no_negations}
@@ -44,9 +45,9 @@ module _ (sig : Signature) (lawful : IsLawful sig) where
       ∙ or_right (known (sort_in sig (is_closed_sort sig) [] (Apply (head.Symbol p.0) p.1 p.2))) _
       (ap (applied_ok sig (is_closed_sort sig) []) (outs-Apply (head.Symbol p.0) p.1 p.2) ∙ sym (formula_in_pred sig (is_closed_sort sig) [] p.0 p.1 p.2) ∙ p.4)
 
-  named_has : (y : Saturated) → IsCompleted sig y.system → (n : ℕ) (t : Term) → IsName y.system n t → AreWithin (term_numbers t) → (term_code sig [] by_line).Fits (t, 10)
+  pub name_has : (t : Term) → ((s : Sort) × (sort_of sig t ≡ Some s)) ⊎ IsPredicateName sig t → AreWithin (term_numbers t) → (term_code sig [] by_line).Fits (t, 10)
   unfolding by_line
-  named_has y done n t g w = elim (done.sorted n t g) [
+  name_has t h w = elim h [
     | inl k ↦ terms_legal sig lawful [] t (ap known k.1) w by_line line_parts 10 refl
     | inr p ↦ trigger_terms_legal sig lawful [] t (applied t p) w by_line line_parts 10 refl
   ]
@@ -67,7 +68,7 @@ module _ (sig : Signature) (lawful : IsLawful sig) where
         state_fits sig s (record {
           literals = literals_have s.literals sorted limits.literals (all_parts IsWithin literal_numbers s.literals limits.literal_limits);
           names = all_from_places (λ t. (term_code sig [] by_line).Fits (t, 10)) s.system.names
-              (λ n t g. named_has s done n t g (all_at (λ t. AreWithin (term_numbers t)) s.system.names n t (all_parts IsWithin term_numbers s.system.names limits.name_limits) g));
+              (λ n t g. name_has t (done.sorted n t g) (all_at (λ t. AreWithin (term_numbers t)) s.system.names n t (all_parts IsWithin term_numbers s.system.names limits.name_limits) g));
           values = all_from_places (λ v. (value by_line).Fits (v, 10)) s.system.values
               (λ n v g. normal_values_fit v (done.normal n v g) (all_at (λ v. AreNames (names_in v)) s.system.values n v limits.value_names g) by_line 10 refl);
           rules = all_from_places (RuleStands sig) s.system.rules

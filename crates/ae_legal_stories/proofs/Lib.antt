@@ -1,0 +1,12 @@
+mod Wider
+mod Items
+mod Parts
+mod Sorted
+mod Direct
+mod Lasting
+mod Symbols
+mod Lines
+mod RowNames
+mod Stories
+mod Steps
+mod Widths
