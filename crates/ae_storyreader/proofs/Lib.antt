@@ -1,0 +1,3 @@
+pub mod LineReading
+pub mod StoryReading
+pub mod WidthReading

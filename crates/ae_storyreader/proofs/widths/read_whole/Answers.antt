@@ -1,0 +1,14 @@
+use Rattle.std.proofs.Common.{◌+◌, drop}
+use Rattle.ae_choices.proofs.WholeForms.{whole_end, whole_fault, whole_more}
+use Rattle.ae_stategrammar.specs.Widths.{number_code}
+use Rattle.ae_storyreader.proofs.widths.read_whole.Goals as goal
+
+pub returns-in-Some : goal.returns-in-Some
+returns-in-Some c =
+    whole_more (number_code c.args.tables.now.terms.signature.now) c.args.text.now c.in-Ok.found c.in-Ok.next c.in-Some.field-0 (drop (c.in-Ok.next + 1) c.args.text.now) c.in-Ok.ensures.exact c.in-Some.ensures.some
+
+pub returns-in-Err : goal.returns-in-Err
+returns-in-Err c = whole_fault (number_code c.args.tables.now.terms.signature.now) c.args.text.now c.in-Err.fault c.in-Err.ensures.exact
+
+pub returns-in_default : goal.returns-in_default
+returns-in_default c = whole_end (number_code c.args.tables.now.terms.signature.now) c.args.text.now c.in-Ok.found c.in-Ok.next c.in-Ok.ensures.exact c.in_default.ensures.none
