@@ -124,6 +124,7 @@ fn clause_fault(alloc: Global, line: &[u8]) -> Result<Option<Fault>, AllocError>
 fn clauses(rt: HostRuntime) -> Result<(), Fail> {
     assert!(rt; clause_comes_back(rt.alloc(), b"]")?);
     assert!(rt; clause_comes_back(rt.alloc(), b"+q -(p a) -(< 0 -1/2)]")?);
+    assert!(rt; clause_comes_back(rt.alloc(), b"+q +q -q]")?);
     assert!(rt; clause_fault(rt.alloc(), b"+q -(@not q)]")? == Some(Fault::At(6)));
     assert!(rt; clause_fault(rt.alloc(), b"+q ]")? == Some(Fault::At(3)));
     assert!(rt; clause_fault(rt.alloc(), b"+q")? == Some(Fault::At(2)));

@@ -83,6 +83,7 @@ fn states(rt: HostRuntime) -> Result<(), Fail> {
     let full =
         b"state 1\nname 0 x\nname 1 a\nvalue 0 (lin 2 1 3 0)\nvalue 1 (: 0 1)\nrule u [0 0 1] []\nrule *int [1] [0 1]\npoint 0 -3/2\npoint 7 0/1\nend\n";
     assert!(rt; state_comes_back(alloc, full)?);
+    assert!(rt; state_comes_back(alloc, b"state 1\nname 0 a\nvalue 0 0\nvalue 1 (:)\nend\n")?);
     Ok(())
 }
 
@@ -92,6 +93,7 @@ fn no_states(rt: HostRuntime) -> Result<(), Fail> {
     assert!(rt; state_fault(alloc, b"state 1\nname 1 a\nend\n")? == Some(Fault::At(13)));
     assert!(rt; state_fault(alloc, b"state 1\nvalue 0 0\nname 0 a\nend\n")? == Some(Fault::At(18)));
     assert!(rt; state_fault(alloc, b"state 1\nrule u [1 0] []\nend\n")? == Some(Fault::At(18)));
+    assert!(rt; state_fault(alloc, b"state 1\nrule a [0] []\nend\n")? == Some(Fault::At(13)));
     assert!(rt; state_fault(alloc, b"state 1\npoint 0 2/4\nend\n")? == Some(Fault::At(19)));
     assert!(rt; state_fault(alloc, b"state 1\npoint 0 2/43\nend\n")? == None);
     assert!(rt; state_fault(alloc, b"state 1\npoint 0 5\nend\n")? == Some(Fault::At(17)));

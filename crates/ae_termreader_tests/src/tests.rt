@@ -1,6 +1,6 @@
 //! Terms over two types and a few symbols, read and written again; what no term's text goes on to. What is expected is written by hand from the rules of the texts.
 use ae_base::lists::List;
-use ae_core::problems::{Kind, Nature, Signature, SymbolEntry, TypeEntry};
+use ae_core::problems::{FieldEntry, Kind, Nature, Signature, SymbolEntry, TypeEntry};
 use ae_core::terms::Sort;
 use ae_core::words::Word;
 use ae_prooftext::put_term;
@@ -18,6 +18,20 @@ fn abstract_type(alloc: Global, name: &str, arity: usize) -> Result<TypeEntry, A
         name: word(alloc, name)?,
         arity,
         kind: Kind::Abstract,
+    })
+}
+
+/// The record type `r`, with one field `y`.
+fn record_type(alloc: Global) -> Result<TypeEntry, AllocError> {
+    let mut fields = List::new(alloc);
+    fields.push(FieldEntry {
+        name: word(alloc, "y")?,
+        sort: element(alloc),
+    })?;
+    Ok(TypeEntry {
+        name: word(alloc, "r")?,
+        arity: 0,
+        kind: Kind::Fields(fields),
     })
 }
 
@@ -44,11 +58,12 @@ fn element(alloc: Global) -> Sort {
     }
 }
 
-/// The types `t` and `list`; `a`, `ab` and `f` over `t`, `x` of sort `real`, and `nil`, which has a type variable.
+/// The types `t` and `list` and the record type `r`; `a`, `ab` and `f` over `t`, `x` of sort `real`, and `nil`, which has a type variable.
 fn signature(alloc: Global) -> Result<Signature, AllocError> {
     let mut types = List::new(alloc);
     types.push(abstract_type(alloc, "t", 0)?)?;
     types.push(abstract_type(alloc, "list", 1)?)?;
+    types.push(record_type(alloc)?)?;
     let mut one = List::new(alloc);
     one.push(element(alloc))?;
     let mut variable = List::new(alloc);
@@ -104,6 +119,26 @@ fn terms(rt: HostRuntime) -> Result<(), Fail> {
     Ok(())
 }
 
+// a text says what it says, whether the sorts fit or not
+#[test]
+fn ill_sorted_terms(rt: HostRuntime) -> Result<(), Fail> {
+    assert!(rt; comes_back(rt.alloc(), b"(f a ab)\n")?);
+    assert!(rt; comes_back(rt.alloc(), b"f\n")?);
+    assert!(rt; comes_back(rt.alloc(), b"(+ a)\n")?);
+    assert!(rt; comes_back(rt.alloc(), b"(! 0 (list t '7))\n")?);
+    assert!(rt; comes_back(rt.alloc(), b"(.y (:r a x))\n")?);
+    Ok(())
+}
+
+#[test]
+fn wrong_heads(rt: HostRuntime) -> Result<(), Fail> {
+    assert!(rt; fault_of(rt.alloc(), b"(+)\n")? == Some(Fault::At(2)));
+    assert!(rt; fault_of(rt.alloc(), b"(:r)\n")? == Some(Fault::At(3)));
+    assert!(rt; fault_of(rt.alloc(), b"(:t a)\n")? == Some(Fault::At(2)));
+    assert!(rt; fault_of(rt.alloc(), b"(.x a)\n")? == Some(Fault::At(2)));
+    Ok(())
+}
+
 #[test]
 fn wrong_terms(rt: HostRuntime) -> Result<(), Fail> {
     assert!(rt; fault_of(rt.alloc(), b"(f)\n")? == Some(Fault::At(2)));
@@ -124,6 +159,12 @@ fn wrong_numerals(rt: HostRuntime) -> Result<(), Fail> {
     assert!(rt;
         fault_of(rt.alloc(), b"(f 999999999999999999999999999999999999999)\n")?
             == Some(Fault::WideNumber(3))
+    );
+    assert!(rt;
+        fault_of(
+            rt.alloc(),
+            b"(f 1/999999999999999999999999999999999999999)\n"
+        )? == Some(Fault::WideNumber(3))
     );
     Ok(())
 }
