@@ -1,0 +1,5 @@
+pub mod Coding
+pub mod Knowing
+pub mod Numbering
+pub mod Stepping
+pub mod Verdicts

@@ -1,0 +1,3 @@
+-- What the crate's own functions and proofs need.
+pub mod Coding
+pub mod Knowing
