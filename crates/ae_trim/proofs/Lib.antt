@@ -1,0 +1,4 @@
+pub mod Rising
+pub mod Marking
+pub mod Keeping
+pub mod Deriving

@@ -1,0 +1,2 @@
+-- What the crate's own functions and proofs need.
+pub mod Marks
