@@ -1,0 +1,5 @@
+mod AdditionLaws
+mod DefinitionLaws
+mod FormalLaws
+mod StatementLaws
+mod UnderLaws

@@ -1,0 +1,2 @@
+mod FileRules
+mod KindLaws
