@@ -1,0 +1,2 @@
+mod ShownRules
+mod TypePlaces
