@@ -1,0 +1,4 @@
+pub mod Quotients
+mod Whole
+mod Legal
+mod Lines

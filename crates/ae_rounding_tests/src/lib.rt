@@ -1,0 +1,5 @@
+//! Tests of rounding.
+#![tactic(auto)]
+
+#[cfg(test)]
+mod tests;
