@@ -72,10 +72,9 @@ product_number a r p n e s = no_last_parts p.parts (none (last_part p.parts) ref
     none (Some x) h = let b = last_below p 0 x n zeros h in absurd (omega (arith, b))
     none None h = h
 
-pub quotient_value : (o p r i : Lin) (k c : ℚ) → ratio o.constant o.den ≡ neg_ℚ (ratio p.constant p.den) → SameMeaning (meaning p) (scale (ratio i.constant i.den) (meaning r)) → ratio r.constant r.den ≡ k
+pub quotient_value : (o p r i : Lin) (k c : ℚ) → ratio o.constant o.den ≡ neg_ℚ (ratio p.constant p.den) → ratio p.constant p.den ≡ ratio i.constant i.den *ℚ ratio r.constant r.den → ratio r.constant r.den ≡ k
     → ratio i.constant i.den ≡ c → ratio o.constant o.den ≡ neg_ℚ k *ℚ c
-quotient_value o p r i k c e s f g =
-    e ∙ ap neg_ℚ (s.constants ∙ (λ j. g j *ℚ f j) ∙ mul_comm_q c k) ∙ sym (neg_mul_q k c)
+quotient_value o p r i k c e s f g = e ∙ ap neg_ℚ (s ∙ (λ j. g j *ℚ f j) ∙ mul_comm_q c k) ∙ sym (neg_mul_q k c)
 
 -- ---- the rest of a form in which one name is left
 cancel_left : (x y z : ℚ) → x +ℚ y ≡ x +ℚ z → y ≡ z

@@ -3,3 +3,4 @@ pub mod Sets
 pub mod Points
 pub mod Derived
 pub mod Primitive
+pub mod Steps

@@ -10,7 +10,8 @@ use Rattle.ae_rows.specs.Rows.{bound_at}
 use Rattle.ae_ineq.specs.Inner.Sets.{last_part}
 use Rattle.ae_ineq.specs.Inner.Points.{Agrees}
 use Rattle.ae_ineq.proofs.LastLaws.{last_nonzero, last_within}
-use Rattle.ae_ineq.proofs.Bounding.{bound_is, never_none}
+use Rattle.ae_ineq.proofs.Bounding.{bound_is, never_none, last_is_name}
+use Rattle.ae_ineq.proofs.StepLaws.{divide_wide, same_fail}
 use Rattle.ae_ineq.proofs.point.bound.Goals as goal
 
 pub quotient-requires-clause-factor : goal.quotient-requires-clause-factor
@@ -38,3 +39,16 @@ returns-clause-value c =
     (λ (b : Lin). (e : ℕ → ℚ) → Agrees c.args.name c.args.point.now e → ratio b.constant b.den ≡ bound_at e c.args.name (meaning c.args.row.now))
     (λ (b : Lin) h. λ v g. bound_is c.args.row.now f p b c.args.name v a.normal e (a.values v g) a.others a.factor (h ∙ (λ i. neg_ℚ (ratio f.constant f.den) *ℚ inverse_ℚ (ratio (to_z-of_z w128 p.factor (search rules) i) f.den))))
     c.quotient.ensures.value
+
+pub returns-in_err-form-clause-wide : goal.returns-in_err-form-clause-wide
+returns-in_err-form-clause-wide c = λ w e. c.in_err-form.ensures.wide w (same_fail c.from_residual.result c.in_err-form.field-0.0 w c.from_residual.ensures.1 e)
+
+pub returns-clause-wide : goal.returns-clause-wide
+returns-clause-wide c =
+    let a = c.in_ok-form.ensures in
+    let f = c.in_ok-form.form in
+    let p = c.in-Some.part in
+    let e : last_part f.parts ≡ Some p = ap last_part (sym c.as_slice.ensures) ∙ sym c.last.ensures ∙ c.in-Some.is in
+    λ w h. λ v g.
+    divide_wide v c.args.name c.args.row.now f (ratio (to_z w128 (of_z w128 p.factor)) f.den) w (a.placed v g) a.others
+    ((λ i. ratio (to_z-of_z w128 p.factor (search rules) i) f.den) ∙ last_is_name f p c.args.name a.normal e a.others) (c.quotient.ensures.wide w h)
