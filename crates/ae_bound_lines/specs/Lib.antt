@@ -1,0 +1,2 @@
+-- Rows that are kept, as rows that stand in a journal, and the lines of their combinations.
+pub mod Standing

@@ -1,0 +1,12 @@
+//! Laws of the definitions. These functions do nothing: each one's contract is a theorem.
+ghost use Rattle.ae_bound_lines.specs.Standing.{ExtensionsAreLegal, WidthsAreLicensed};
+
+/// Rows that stand, extended by combinations that are no positive multiples of a row, still stand, and each noted line is legal.
+pub fn extensions_are_legal()
+    ensures { ExtensionsAreLegal }
+{}
+
+/// A step outside the limits that `close` answers is licensed where the rows stand.
+pub fn widths_are_licensed()
+    ensures { WidthsAreLicensed }
+{}

@@ -1,0 +1,2 @@
+-- The point of rows that are kept.
+pub mod Points

@@ -1,0 +1,11 @@
+pub mod Zeros
+pub mod SameDirection
+pub mod Indexing
+pub mod Closing
+pub mod Lasts
+pub mod Made
+pub mod Noted
+pub mod Feeding
+pub mod Keeping
+pub mod Sums
+pub mod Found

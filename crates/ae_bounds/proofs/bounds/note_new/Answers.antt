@@ -1,0 +1,20 @@
+use Rattle.std.proofs.Common.{◌≡◌, ◌∙◌, sym}
+use Rattle.ae_bounds.specs.Combinations.IsExtended.{as_it_was}
+use Rattle.ae_bounds.proofs.Indexing.{unseen_there}
+use Rattle.ae_bounds.proofs.Noted.{done_noted, extended_noted}
+use Rattle.ae_bounds.proofs.bounds.note_new.Goals as goal
+
+pub returns-in_err-direction-clause-extended : goal.returns-in_err-direction-clause-extended
+returns-in_err-direction-clause-extended c = as_it_was
+
+pub returns-then-has_direction-clause-extended : goal.returns-then-has_direction-clause-extended
+returns-then-has_direction-clause-extended c = c.keep_zero.ensures.extended c.args.journal.now.lines
+
+pub returns-clause-done : goal.returns-clause-done
+returns-clause-done c = done_noted c.args.rows.now c.note.new.rows c.args.row c.requires.combined.lower c.requires.combined.upper c.note.result c.requires.combined.from c.note.ensures.rows
+
+pub returns-clause-extended : goal.returns-clause-extended
+returns-clause-extended c =
+    extended_noted c.args.rows.now c.note.new.rows c.args.journal.now c.note.new.journal c.args.row c.note.result c.requires.combined
+    (unseen_there c.args.rows.now c.args.directions.now.keys c.args.row c.in_ok-direction.direction c.requires.indexed c.in_ok-direction.ensures (sym c.has_direction.ensures ∙ c.if-has_direction.false))
+    c.note.ensures.rows c.note.ensures.lines c.note.ensures.kept

@@ -1,0 +1,42 @@
+-- What kept rows come to: the rows that can't hold, the combinations that are 0, and the sums of assumed rows that both are.
+use Rattle.std.specs.Prelude.{ℕ, false, Some, List, [], ◌∷◌, ◌≡◌, take, slice_get}
+use Rattle.std.specs.List.{Contains}
+use Rattle.ae_num.specs.Forms.{meaning}
+use Rattle.ae_ineq.specs.declared.solving.Inequality.{Inequality}
+use Rattle.ae_ineq.specs.Sums.{IsZero, IsRefuted}
+use Rattle.ae_bounds.specs.declared.rows.Row.{Row}
+use Rattle.ae_bounds.specs.declared.rows.Origin.{Origin}
+use Rattle.ae_bounds.specs.declared.rows.Origin.TheVariants.{Assumed, Combined}
+use Rattle.ae_bounds.specs.Combinations.{IsCombined}
+
+-- the assumed rows
+abbrev pub with_assumed : Origin → Row → List Inequality → List Inequality
+with_assumed (Assumed tag) r given = record { lin = r.lin; strict = r.strict } ∷ given
+with_assumed (Combined lower upper) r given = given
+
+abbrev pub assumed_in : List Row → List Inequality
+assumed_in [] = []
+assumed_in (r ∷ rows) = with_assumed r.from r (assumed_in rows)
+
+-- each combination is one of two rows before it
+abbrev pub AreFounded : List Row → Type 0
+AreFounded rows = (k lower upper : ℕ) (r : Row) → slice_get rows k ≡ Some r → r.from ≡ Combined lower upper → IsCombined (take k rows) r
+
+-- the row of this number is a number that can't be
+pub record IsRefutedAt (rows : List Row) (k : ℕ) : Type 0 where
+  pub row : Row
+  pub at : slice_get rows k ≡ Some row
+  pub refuted : IsRefuted row.strict (meaning row.lin)
+
+-- the row of this number is a combination that is 0, though not strict
+pub record IsTightAt (rows : List Row) (k : ℕ) : Type 0 where
+  pub row : Row
+  pub at : slice_get rows k ≡ Some row
+  pub zero : IsZero (meaning row.lin)
+  pub loose : row.strict ≡ false
+  pub lower : ℕ
+  pub upper : ℕ
+  pub from : row.from ≡ Combined lower upper
+
+abbrev pub NoneIsRefuted : List Row → Type 0
+NoneIsRefuted rows = (r : Row) → Contains rows r → ¬ IsRefuted r.strict (meaning r.lin)

@@ -1,0 +1,3 @@
+-- What the functions of this crate need. A reader need not believe any of it.
+pub mod Directions
+pub mod Pairs

@@ -1,0 +1,48 @@
+-- Pairs of rows at places, and the last parts of their forms.
+use Rattle.std.specs.Prelude.{ℕ, ◌<◌, ◌≤◌, length, pos, ◌<ℤ◌, ◌≡◌, List, Some, slice_get}
+use Rattle.ae_rows.specs.Rows.{combination}
+use Rattle.ae_num.specs.declared.forms.Lin.{Lin}
+use Rattle.ae_num.specs.Forms.{meaning, SameMeaning, first_wide, combine_steps}
+use Rattle.ae_journal.specs.declared.answers.NumStep.TheVariants.{Combine}
+use Rattle.ae_journal.specs.declared.answers.WideAt.{WideAt}
+use Rattle.ae_ineq.specs.Inner.Sets.{last_part}
+use Rattle.ae_bounds.specs.declared.rows.Row.{Row}
+use Rattle.ae_bounds.specs.declared.directions.Direction.{Direction}
+use Rattle.ae_bounds.specs.Inner.Directions.{AreIndexed}
+use Rattle.ae_bounds.specs.declared.combining.Opposed.{Opposed}
+use Rattle.ae_bounds.specs.Combinations.{IsDone}
+use Rattle.ae_bounds.specs.Findings.{AreFounded}
+
+-- the name is the last one of both forms, with these factors
+pub record HaveLast (lower upper : Lin) (o : Opposed) : Type 0 where
+  pub first : last_part lower.parts ≡ Some (record { key = o.name; factor = o.rising })
+  pub second : last_part upper.parts ≡ Some (record { key = o.name; factor = o.falling })
+  pub positive : pos 0 <ℤ o.rising
+  pub negative : o.falling <ℤ pos 0
+
+-- the width is the first of the combination of these forms
+pub record IsCombineWide (lower upper : Lin) (name : ℕ) (w : WideAt) : Type 0 where
+  pub step : w.step ≡ Combine
+  pub left : w.left ≡ lower
+  pub key : w.key ≡ Some name
+  pub right : w.right ≡ upper
+  pub wide : first_wide (combine_steps lower name upper) ≡ Some w.wide
+
+-- the form is the combination of rows number i and j, where these can be combined
+pub record IsMadeOf (rows : List Row) (i j : ℕ) (l : Lin) : Type 0 where
+  pub each : (p q : Row) (o : Opposed) → slice_get rows i ≡ Some p → slice_get rows j ≡ Some q → HaveLast p.lin q.lin o → SameMeaning (meaning l) (combination o.name (meaning p.lin) (meaning q.lin))
+
+-- where rows number i and j can be combined, these rows have their combination
+abbrev pub IsPairThere : List Row → ℕ → ℕ → List Row → Type 0
+IsPairThere rows i j new = (p q : Row) (o : Opposed) → slice_get rows i ≡ Some p → slice_get rows j ≡ Some q → HaveLast p.lin q.lin o → IsDone new (combination o.name (meaning p.lin) (meaning q.lin))
+
+-- so it is with the first k rows
+abbrev pub AreClosedBelow : ℕ → List Row → Type 0
+AreClosedBelow k rows = (i j : ℕ) → i < k → j < k → IsPairThere rows i j rows
+
+-- the state of an object: rows with their directions, each combination one of rows before it, and how many of the first rows have all their combinations
+pub record IsKept (rows : List Row) (ds : List Direction) (closed : ℕ) : Type 0 where
+  pub indexed : AreIndexed rows ds
+  pub within : closed ≤ length rows
+  pub founded : AreFounded rows
+  pub pairs : AreClosedBelow closed rows

@@ -1,0 +1,305 @@
+//! The rows that were assumed, and the combinations that were noted.
+
+ghost use Rattle.std.specs.Prelude.{ℕ, ◌≡◌, ◌<◌, ◌≤◌, ◌+◌, ◌^◌, true, false, List, ◌||◌, ◌++◌, ◌∷◌, [], length, OnOk, OnErr, IfOk, IfSome, IfNone, Err};
+ghost use Rattle.std.specs.List.{AllByRecursion};
+ghost use Rattle.ae_num.specs.Forms.{IsNormal, meaning};
+ghost use Rattle.ae_journal.specs.Journals.{counted_in};
+ghost use Rattle.ae_journal.specs.declared.answers.WideAt.{WideAt};
+ghost use Rattle.ae_journal.specs.declared.lines.Line.{Line};
+ghost use Rattle.indexmap.specs.IndexSet.{contains};
+ghost use Rattle.ae_theory.specs.declared.theory.Fail.TheVariants.{Steps, Number};
+ghost use Rattle.ae_bounds.specs.declared.rows.Origin.TheVariants.{Assumed};
+ghost use Rattle.ae_bounds.specs.declared.finding.Found.TheVariants.{Open, Tight, Contradiction};
+ghost use Rattle.ae_ineq.specs.Sums.{HasTightSum, HasRefutedSum};
+ghost use Rattle.ae_bounds.specs.Findings.{assumed_in, IsRefutedAt, IsTightAt, NoneIsRefuted};
+ghost use Rattle.ae_bounds.specs.Combinations.{IsDone, IsCombined, IsExtended, AreClosed, HasZero, IsWideIn};
+ghost use Rattle.ae_bounds.specs.Inner.Directions.{AreIndexed, IsDirectionOf, is_same};
+ghost use Rattle.ae_bounds.specs.Inner.Pairs.{IsMadeOf, IsPairThere, IsKept};
+
+use crate::combining::{combined, opposed_at};
+use crate::directions::{Direction, direction_of, is_zero};
+use crate::finding::{Found, found_in};
+use crate::noting::{add, has_direction, note};
+use crate::rows::{Origin, Row};
+use ae_journal::journal::Journal;
+use ae_num::forms::Lin;
+use ae_theory::theory::Fail;
+use indexmap::IndexSet;
+use sqlite_items::Items;
+use std::alloc::{AllocError, Global};
+use std::marker::Model;
+
+/// Whether one of two rows is strict.
+fn one_strict(left: &Row, right: &Row) -> bool
+    ensures { result ≡ (left.now.strict || right.now.strict) }
+{
+    left.strict || right.strict
+}
+
+/// The combination of two rows, where the largest name of both has a positive factor in the first and a negative one in the second.
+fn made(alloc: Global, rows: &[Row], lower: usize, upper: usize) -> Result<Option<Row>, Fail>
+    requires normal { AllByRecursion (λ row. IsNormal row.lin) rows.now }
+    requires lower { lower < length rows.now }
+    requires upper { upper < length rows.now }
+    ensures some { IfOk result (λ found. IfSome found (λ row. IsCombined rows.now row)) }
+    ensures pair { IfOk result (λ found. IfSome found (λ row. IsMadeOf rows.now lower upper row.lin)) }
+    ensures none { IfOk result (λ found. IfNone found (IsPairThere rows.now lower upper rows.now)) }
+    ensures number { (wide : WideAt) → result ≡ Err (Number wide) → IsWideIn rows.now wide }
+    ensures steps { result ≡ Err Steps → ⊥ }
+{
+    let low = &rows[lower];
+    let high = &rows[upper];
+    match opposed_at(&low.lin, &high.lin) {
+        Some(at) => {
+            let strict = one_strict(low, high);
+            match combined(alloc, at, &low.lin, &high.lin) {
+                Ok(lin) => Ok(Some(Row {
+                    lin,
+                    strict,
+                    from: Origin::Combined { lower, upper },
+                })),
+                Err(failed) => Err(failed),
+            }
+        }
+        None => Ok(None),
+    }
+}
+
+/// Adds a combination that is a positive multiple of a row, without a line, where it is 0.
+fn keep_zero(
+    rows: &mut Items<Row>,
+    directions: &mut IndexSet<Direction>,
+    row: Row,
+    direction: Direction,
+) -> Result<(), Fail>
+    requires direction { IsDirectionOf row.lin direction.form }
+    requires seen { contains is_same directions.old direction ≡ true }
+    requires indexed { AreIndexed rows.old directions.old.keys }
+    requires combined { IsCombined rows.old row }
+    ensures done { OnOk result (IsDone rows.new (meaning row.lin)) }
+    ensures indexed { AreIndexed rows.new directions.new.keys }
+    ensures extended { (js : List Line) → IsExtended rows.old js rows.new js }
+    ensures steps { result ≡ Err Steps → ⊥ }
+    ensures number { (wide : WideAt) → result ≡ Err (Number wide) → ⊥ }
+{
+    if is_zero(&row.lin) {
+        add(rows, directions, row, direction)?;
+    }
+    Ok(())
+}
+
+/// Notes and adds a combination, unless it is a positive multiple of a row; one that is 0 is then added without a line.
+fn note_new(
+    alloc: Global,
+    rows: &mut Items<Row>,
+    directions: &mut IndexSet<Direction>,
+    journal: &mut Journal,
+    row: Row,
+) -> Result<(), Fail>
+    requires indexed { AreIndexed rows.old directions.old.keys }
+    requires combined { IsCombined rows.old row }
+    ensures done { OnOk result (IsDone rows.new (meaning row.lin)) }
+    ensures indexed { AreIndexed rows.new directions.new.keys }
+    ensures extended { IsExtended rows.old journal.old.lines rows.new journal.new.lines }
+    ensures limit { journal.new.limit ≡ journal.old.limit }
+    ensures steps { result ≡ Err Steps → counted_in journal.new.lines ≡ journal.new.limit }
+    ensures number { (wide : WideAt) → result ≡ Err (Number wide) → ⊥ }
+{
+    let direction = direction_of(alloc, &row.lin)?;
+    if has_direction(directions, &direction) {
+        return keep_zero(rows, directions, row, direction);
+    }
+    note(alloc, rows, directions, journal, row, direction)
+}
+
+/// Notes and adds the combination of two rows, where they have one that is no positive multiple of a row.
+fn combine_rows(
+    alloc: Global,
+    rows: &mut Items<Row>,
+    directions: &mut IndexSet<Direction>,
+    journal: &mut Journal,
+    lower: usize,
+    upper: usize,
+) -> Result<(), Fail>
+    requires indexed { AreIndexed rows.old directions.old.keys }
+    requires lower { lower < length rows.old }
+    requires upper { upper < length rows.old }
+    ensures done { OnOk result (IsPairThere rows.old lower upper rows.new) }
+    ensures indexed { AreIndexed rows.new directions.new.keys }
+    ensures extended { IsExtended rows.old journal.old.lines rows.new journal.new.lines }
+    ensures limit { journal.new.limit ≡ journal.old.limit }
+    ensures steps { result ≡ Err Steps → counted_in journal.new.lines ≡ journal.new.limit }
+    ensures number { (wide : WideAt) → result ≡ Err (Number wide) → IsWideIn rows.new wide }
+{
+    match made(alloc, rows.as_slice(), lower, upper)? {
+        Some(row) => note_new(alloc, rows, directions, journal, row),
+        None => Ok(()),
+    }
+}
+
+/// Notes and adds the combinations of a row with those before it.
+fn combine_earlier(
+    alloc: Global,
+    rows: &mut Items<Row>,
+    directions: &mut IndexSet<Direction>,
+    journal: &mut Journal,
+    place: usize,
+) -> Result<(), Fail>
+    requires kept { IsKept rows.old directions.old.keys place }
+    requires place { place < length rows.old }
+    ensures closed { OnOk result (IsKept rows.new directions.new.keys (place + 1)) }
+    ensures kept { IsKept rows.new directions.new.keys place }
+    ensures extended { IsExtended rows.old journal.old.lines rows.new journal.new.lines }
+    ensures limit { journal.new.limit ≡ journal.old.limit }
+    ensures steps { result ≡ Err Steps → counted_in journal.new.lines ≡ journal.new.limit }
+    ensures number { (wide : WideAt) → result ≡ Err (Number wide) → IsWideIn rows.new wide }
+{
+    for other in 0..place {
+        combine_rows(alloc, rows, directions, journal, place, other)?;
+        combine_rows(alloc, rows, directions, journal, other, place)?;
+    }
+    Ok(())
+}
+
+/// Whether all rows are before a place.
+fn is_past(rows: &Items<Row>, place: usize) -> bool
+    ensures past { result ≡ true → length rows.now ≤ place }
+    ensures before { result ≡ false → place < length rows.now }
+{
+    place >= rows.len()
+}
+
+/// The number of rows is within that of places.
+fn count_rows(rows: &Items<Row>)
+    ensures { length rows.now < 2 ^ 64 }
+{
+    let _count = rows.len();
+}
+
+/// Notes and adds the combinations of each row with those before it, until all rows have them.
+fn close_rows(
+    alloc: Global,
+    rows: &mut Items<Row>,
+    directions: &mut IndexSet<Direction>,
+    closed: &mut usize,
+    journal: &mut Journal,
+) -> Result<(), Fail>
+    requires kept { IsKept rows.old directions.old.keys closed.old }
+    ensures closed { OnOk result (AreClosed rows.new) }
+    ensures kept { IsKept rows.new directions.new.keys closed.new }
+    ensures extended { IsExtended rows.old journal.old.lines rows.new journal.new.lines }
+    ensures limit { journal.new.limit ≡ journal.old.limit }
+    ensures steps { result ≡ Err Steps → counted_in journal.new.lines ≡ journal.new.limit }
+    ensures number { (wide : WideAt) → result ≡ Err (Number wide) → IsWideIn rows.new wide }
+{
+    for place in *closed..usize::MAX {
+        if is_past(rows, place) {
+            return Ok(());
+        }
+        combine_earlier(alloc, rows, directions, journal, place)?;
+        *closed = place + 1;
+    }
+    count_rows(rows);
+    Ok(())
+}
+
+/// The rows that were assumed, and the combinations that were noted, in the order of entry. Contracts see the list of them.
+#[derive(Drop)]
+pub struct Bounds {
+    rows: Items<Row>,
+    directions: IndexSet<Direction>,
+    /// How many of the first rows have all their combinations.
+    closed: usize,
+}
+
+impl Model for Bounds {
+    ghost use Rattle.std.specs.Prelude.{List};
+    ghost use Rattle.std.specs.Coded.{coded_list};
+    ghost use Rattle.ae_bounds.specs.declared.rows.Row.{Row};
+    ghost use Rattle.ae_bounds.specs.contracts.rows.Row as row_contract;
+
+    ghost Value = { List Row };
+
+    ghost coded = { coded_list row_contract.the_row.coded };
+
+    ghost use Rattle.ae_bounds.specs.Inner.Pairs.{IsKept};
+
+    ghost view = { λ b. b.rows };
+
+    ghost invariant = { λ b. IsKept b.rows b.directions.keys b.closed };
+}
+
+impl Bounds {
+    /// No rows. It takes no memory.
+    pub fn new(alloc: Global) -> Bounds
+        ensures { result ≡ [] }
+    {
+        Bounds {
+            rows: Items::new(alloc),
+            directions: IndexSet::new(alloc),
+            closed: 0,
+        }
+    }
+
+    /// The rows.
+    pub fn rows(&self) -> &[Row]
+        ensures { result.now ≡ self.now }
+    {
+        self.rows.as_slice()
+    }
+
+    /// Adds a row: `lin >= 0`, or `lin > 0` where `strict`.
+    pub fn assume(
+        &mut self,
+        alloc: Global,
+        lin: Lin,
+        strict: bool,
+        tag: usize,
+    ) -> Result<(), AllocError>
+        requires normal { IsNormal lin }
+        ensures added { OnOk result (self.new ≡ self.old ++ record { lin = lin; strict = strict; from = Assumed tag } ∷ []) }
+        ensures kept { OnErr result (self.new ≡ self.old) }
+    {
+        let direction = direction_of(alloc, &lin)?;
+        let row = Row {
+            lin,
+            strict,
+            from: Origin::Assumed(tag),
+        };
+        add(&mut self.rows, &mut self.directions, row, direction)
+    }
+
+    /// Notes and adds the combinations of two rows on the largest name of both that are no positive multiples of a row, until there are none. One that is 0
+    /// is added without a line where a row is 0 already.
+    ///
+    /// `Steps` comes only where the journal is full, and `Number` only where a stated product or sum of the combination of two rows leaves the limits.
+    /// After either of them the rows that were there still are, and the combinations that were noted till then.
+    pub fn close(&mut self, alloc: Global, journal: &mut Journal) -> Result<(), Fail>
+        ensures closed { OnOk result (AreClosed self.new) }
+        ensures extended { IsExtended self.old journal.old.lines self.new journal.new.lines }
+        ensures limit { journal.new.limit ≡ journal.old.limit }
+        ensures steps { result ≡ Err Steps → counted_in journal.new.lines ≡ journal.new.limit }
+        ensures number { (wide : WideAt) → result ≡ Err (Number wide) → IsWideIn self.new wide }
+    {
+        close_rows(
+            alloc,
+            &mut self.rows,
+            &mut self.directions,
+            &mut self.closed,
+            journal,
+        )
+    }
+
+    /// What the rows come to. A contradiction comes before a tight sum.
+    pub fn found(&self) -> Found
+        ensures refuted { (place : ℕ) → result ≡ Contradiction place → IsRefutedAt self.now place }
+        ensures refuted_sum { (place : ℕ) → result ≡ Contradiction place → HasRefutedSum (assumed_in self.now) }
+        ensures tight { (place : ℕ) → result ≡ Tight place → IsTightAt self.now place }
+        ensures tight_sum { (place : ℕ) → result ≡ Tight place → HasTightSum (assumed_in self.now) }
+        ensures tight_last { (place : ℕ) → result ≡ Tight place → NoneIsRefuted self.now }
+        ensures open { result ≡ Open → NoneIsRefuted self.now }
+        ensures open_loose { result ≡ Open → HasZero self.now → ⊥ }
+    {
+        found_in(self.rows.as_slice())
+    }
+}

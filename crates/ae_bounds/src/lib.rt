@@ -1,0 +1,9 @@
+//! Inequalities that are kept, and their combinations, which a journal gets.
+#![tactic(auto)]
+
+pub mod bounds;
+mod combining;
+mod directions;
+pub mod finding;
+mod noting;
+pub mod rows;

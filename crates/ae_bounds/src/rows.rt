@@ -1,0 +1,20 @@
+//! Rows.
+use ae_num::forms::Lin;
+
+/// Where a row comes from.
+#[derive(Clone, Copy, Debug, PartialEq, Eq)]
+pub enum Origin {
+    /// It was assumed under this tag.
+    Assumed(usize),
+    /// It is the combination of the rows of these numbers, from 0 in the order of entry: the name that it cancels has a
+    /// positive factor in the first and a negative one in the second.
+    Combined { lower: usize, upper: usize },
+}
+
+/// `lin >= 0`, or `lin > 0` where `strict`.
+#[derive(Debug, Drop)]
+pub struct Row {
+    pub lin: Lin,
+    pub strict: bool,
+    pub from: Origin,
+}
