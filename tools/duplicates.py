@@ -8,6 +8,7 @@ from ae_base: a statement that cites anything else of the repository is about it
 Two statements are the same where they are the same after this: `X as Y` is read as X, a few library names with two spellings as one,
 binders `(x y : A)` one by one, braces as parentheses, premises in their order with the variables numbered as they are first used, and
 the variables' own types beside them in any order. An item that states no relation (a definition) is compared with its clauses too.
+A short name of a type that is made of others (`Row = List A × B`) states nothing, and isn't counted.
 
     tools/duplicates.py             the groups of statements that stand twice or more; exit status 1 if there is one
     tools/duplicates.py --all       every statement over library types alone, by crate and file: what may go to ae_base
@@ -225,7 +226,8 @@ def names_in(nest, out):
 
 def simplified(parts):
     """The parts without `{A = ..}`, with prefix operators written between, and without parentheses that change nothing."""
-    parts = [p for p in parts if not (isinstance(p, list) and p and p[0] == "{" and "=" in p)]
+    if "record" not in parts:
+        parts = [p for p in parts if not (isinstance(p, list) and p and p[0] == "{" and "=" in p)]
     if len(parts) >= 3 and isinstance(parts[0], str) and re.match(r"^◌[^◌]+◌$", parts[0]):
         parts = [parts[1], parts[0].strip("◌"), parts[2]] + parts[3:]
     out = []
@@ -277,7 +279,7 @@ class Canon:
             if not is_library(self.modules[head]):
                 self.generic = False
             return tail
-        if token in self.local or any(token in operator_parts(name) for name in self.local if "◌" in name):
+        if token in self.local or (dot and head in self.local) or any(token in operator_parts(name) for name in self.local if "◌" in name):
             self.generic = False
             return token
         return SPELLINGS.get(token, token)
@@ -402,6 +404,8 @@ def statements_of(path, prefix):
     found = list(items_of(text))
     local = {item[2] for item in found} | set(re.findall(r"^ *(?:pub )?(?:data|record) +(\S+)", text, re.M))
     for line, outer, name, binders, kind, clauses, marks in found:
+        if "abbrev" in marks and re.match(r"^Type \d+$", kind) and not any(w in RELATIONS for w in names_in([groups(tokens_of(" ".join(clauses)))], set())):
+            continue
         canon = Canon(uses, modules, set() if prefix else local - {name})
         statement = canon.statement(outer, binders, kind, clauses, marks, name)
         yield path, line, name, statement, canon.generic, "pub" in marks

@@ -6,6 +6,7 @@ use Rattle.std.proofs.lemmas.List.{append-nil}
 use Rattle.std.proofs.lemmas.List.Elements.{Contains-append_left}
 use borrow.Author.Differences.{ints}
 use native.Mathlib.Decide.{dec_lt}
+use Rattle.ae_base.proofs.ListFacts.{get_append}
 use Rattle.ae_math.specs.Forms.{Form}
 use Rattle.ae_num.specs.declared.forms.Part.{Part}
 use Rattle.ae_num.specs.declared.forms.Lin.{Lin}
@@ -47,11 +48,6 @@ never_itself p o a = signs o.rising (subst (λ (z : ℤ). z <ℤ pos 0) (ap fact
     signs (negsuc n) h k = absurd (omega (arith, ints, k))
 
 -- ---- places
-pub place_more : (rows more : List Row) (i : ℕ) (p : Row) → slice_get rows i ≡ Some p → slice_get (rows ++ more) i ≡ Some p
-place_more [] more i p e = cc
-place_more (r ∷ rows) more zero p e = e
-place_more (r ∷ rows) more (suc i) p e = place_more rows more i p e
-
 pub place_less : (rows more : List Row) (i : ℕ) (p : Row) → i < length rows → slice_get (rows ++ more) i ≡ Some p → slice_get rows i ≡ Some p
 place_less [] more i p l e = absurd (omega (arith, l))
 place_less (r ∷ rows) more zero p l e = e
@@ -98,7 +94,7 @@ pair_up rows rs js ks i j new e l m h p q o a b c =
 pub pair_down : (rows rs : List Row) (js ks : List Line) (i j : ℕ) (new : List Row) → IsExtended rows js rs ks → IsPairThere rs i j new → IsPairThere rows i j new
 pair_down rows rs js ks i j new e h p q o a b c =
     let g = grown rows js rs ks e in
-    h p q o (ap (λ (w : List Row). slice_get w i) g.1 ∙ place_more rows g.0 i p a) (ap (λ (w : List Row). slice_get w j) g.1 ∙ place_more rows g.0 j q b) c
+    h p q o (ap (λ (w : List Row). slice_get w i) g.1 ∙ get_append rows g.0 i p a) (ap (λ (w : List Row). slice_get w j) g.1 ∙ get_append rows g.0 j q b) c
 
 pub longer : (rows rs : List Row) (js ks : List Line) → IsExtended rows js rs ks → length rows ≤ length rs
 longer rows rs js ks e = let g = grown rows js rs ks e in let l = length-append rows g.0 in let h : length rs ≡ length (rows ++ g.0) = ap (λ (w : List Row). length w) g.1 in omega (arith, l, h)

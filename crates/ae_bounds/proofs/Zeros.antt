@@ -44,9 +44,6 @@ zero_is_nothing l e z = record {
   constant = ap (λ c. ratio c l.den) z ∙ ratio_of_zero l.den;
 }
 
-not_two : 2 ∣ 1 → ⊥
-not_two h = let e : 2 ≡ 1 = dvd-one.0 h in absurd (omega (arith, e))
-
 -- a form of whole numbers without a common divisor isn't 0
 primitive_is_some : (d : Lin) → IsNormal d → IsPrimitive d → IsNothing (meaning d) → ⊥
 primitive_is_some d n p z = by_parts d.parts refl
@@ -58,7 +55,9 @@ primitive_is_some d n p z = by_parts d.parts refl
         nonzero.0 (sym at ∙ ratio_is_zero (factor_of d.parts q.key) d.den n.positive (sym (factor_meaning d q.key n.rising) ∙ z.factors q.key))
     by_parts [] e =
         let c : d.constant ≡ pos 0 = ratio_is_zero d.constant d.den n.positive z.constant in
-        not_two (p.lowest 2 (subst (λ (k : ℤ). 2 ∣ unsigned_abs k) (sym c) (dvd-zero 2), subst (λ (ps : List Part). DividesAll 2 (map (λ x. unsigned_abs x.factor) ps)) (sym e) tt))
+        let one : 2 ∣ 1 = p.lowest 2 (subst (λ (k : ℤ). 2 ∣ unsigned_abs k) (sym c) (dvd-zero 2), subst (λ (ps : List Part). DividesAll 2 (map (λ x. unsigned_abs x.factor) ps)) (sym e) tt) in
+        let same : 2 ≡ 1 = dvd-one.0 one in
+        absurd (omega (arith, same))
 
 pub form_is_some : (l d : Lin) → IsOfSome l d → IsNothing (meaning l) → ⊥
 form_is_some l d i z = primitive_is_some d i.direction_normal i.primitive (nothing_times (meaning l) (meaning d) i.directed z)

@@ -3,6 +3,8 @@ use Rattle.std.specs.Prelude.{ℕ, zero, suc, ◌+◌, ◌<◌, ◌≤◌, Bool,
 use Rattle.std.specs.List.{list_any, list_all}
 use Rattle.std.proofs.Common.{refl, sym, ap, ◌∙◌, subst, arith, inl, inr, append_assoc, append-nil, get_or-set_same, get_or-set_other, length-set}
 use Rattle.std.proofs.lemmas.Bool.{and_parts, and_from, cases_eq, cases_lt, eqb-true, eq-eqb, ne_eqb}
+use Rattle.std.proofs.Math.Bool.{or-true, or-false}
+use Rattle.std.proofs.lemmas.List.{set_past}
 use Rattle.std.proofs.lemmas.List.Folds.{list_any-append}
 use Rattle.std.proofs.lemmas.Option.{same_Some}
 use Rattle.ae_base.specs.Decided.{decided}
@@ -36,20 +38,12 @@ sign_same true false e = sym e
 sign_same false true e = e
 sign_same false false e = refl
 
-or_true : (b : Bool) → (b || true) ≡ true
-or_true true = refl
-or_true false = refl
-
-or_false : (b : Bool) → (b || false) ≡ b
-or_false true = refl
-or_false false = refl
-
 -- ---- one literal falls
 sides : (now : ℕ) (a b : Bool) (s : Stamp) → nat_eq (side b (with_side a now s)) now ≡ (nat_eq (side b s) now || cond a b (not b))
-sides now true true s = nat_eq_itself now ∙ sym (or_true (nat_eq s.positive now))
-sides now true false s = sym (or_false (nat_eq s.negative now))
-sides now false true s = sym (or_false (nat_eq s.positive now))
-sides now false false s = nat_eq_itself now ∙ sym (or_true (nat_eq s.negative now))
+sides now true true s = nat_eq_itself now ∙ sym (or-true (nat_eq s.positive now))
+sides now true false s = sym (or-false (nat_eq s.negative now))
+sides now false true s = sym (or-false (nat_eq s.positive now))
+sides now false false s = nat_eq_itself now ∙ sym (or-true (nat_eq s.negative now))
 
 false_there : (now : ℕ) (stamps : List Stamp) (k j : Code) → k.number < length stamps → j.number ≡ k.number → is_false now (stamped now stamps k) j ≡ (is_false now stamps j || same_code k j)
 false_there now stamps k j b e =
@@ -64,7 +58,7 @@ false_elsewhere : (now : ℕ) (stamps : List Stamp) (k j : Code) → (j.number �
 false_elsewhere now stamps k j d =
     let new : stamp_at (stamped now stamps k) j.number ≡ stamp_at stamps j.number = get_or-set_other stamps k.number j.number (with_side k.positive now (stamp_at stamps k.number)) unstamped d in
     let other : same_code k j ≡ false = ap (λ b. b && cond k.positive j.positive (not j.positive)) (ne_eqb k.number j.number (λ q. d (sym q))) in
-    ap (λ s. nat_eq (side j.positive s) now) new ∙ sym (ap (λ b. is_false now stamps j || b) other ∙ or_false (is_false now stamps j))
+    ap (λ s. nat_eq (side j.positive s) now) new ∙ sym (ap (λ b. is_false now stamps j || b) other ∙ or-false (is_false now stamps j))
 
 -- a literal that is false then was false, or is the one that fell
 false_stamped : (now : ℕ) (stamps : List Stamp) (k j : Code) → k.number < length stamps → is_false now (stamped now stamps k) j ≡ (is_false now stamps j || same_code k j)
@@ -89,11 +83,6 @@ side_below true true now m s l h = l
 side_below true false now m s l h = h
 side_below false true now m s l h = h
 side_below false false now m s l h = l
-
-set_past : {X : Type 0} (xs : List X) (n : ℕ) (x : X) → length xs ≤ n → set xs n x ≡ xs
-set_past [] n x l = refl
-set_past (y ∷ xs) zero x l = absurd (omega (arith, l))
-set_past (y ∷ xs) (suc n) x l = ap (λ zs. y ∷ zs) (set_past xs n x (omega (arith, l)))
 
 pub before_stamped : (now m : ℕ) (stamps : List Stamp) (k : Code) → now < m → AreBefore m stamps → AreBefore m (stamped now stamps k)
 before_stamped now m stamps k l a = record { each = each }
@@ -166,7 +155,7 @@ more_false numbers now stamps fs t a l k c = record {
   each = λ m j e.
       false_stamped now stamps k j (t.within l.formula k.number c.0)
       ∙ (λ i. a.each m j e i || same_lits numbers stamps t l m k j c e i)
-      ∙ sym (list_any-append (λ x. decided (Lit_discrete x m)) fs (l ∷ []) ∙ ap (λ b. stands fs m || b) (or_false (decided (Lit_discrete l m))));
+      ∙ sym (list_any-append (λ x. decided (Lit_discrete x m)) fs (l ∷ []) ∙ ap (λ b. stands fs m || b) (or-false (decided (Lit_discrete l m))));
 }
 
 pub all_fall : (numbers : Formula → Option ℕ) (now : ℕ) (stamps : List Stamp) (fs : List Lit) (c : Clause) (ks : List Code) → IsTable numbers stamps → AreFalse numbers now stamps fs → AreCodes numbers c ks → AreFalse numbers now (all_stamped now stamps ks) (fs ++ c)

@@ -1,16 +1,13 @@
 -- One step of unit propagation by codes.
 use Rattle.std.specs.Prelude.{ℕ, zero, suc, ◌+◌, ◌<◌, ◌≤◌, Bool, true, false, cond, List, [], ◌∷◌, ◌++◌, ◌≡◌, length, drop, get_or, slice_get, Option, Some, None}
 use Rattle.std.specs.List.{list_all}
-use Rattle.std.proofs.Common.{refl, sym, ap, ◌∙◌, subst, arith}
+use Rattle.std.proofs.Common.{add-one, refl, sym, ap, ◌∙◌, subst, arith}
 use Rattle.std.proofs.lemmas.Option.{none-some, same_Some}
 use Rattle.ae_base.specs.Options.{when, or_else, ◌>>=◌}
 use Rattle.ae_check.specs.declared.codes.Code.{Code}
 use Rattle.ae_check.specs.declared.codes.Stamp.{Stamp}
 use Rattle.ae_check.specs.Inner.Coding.{turned, is_false, stamped, AreBefore, has_true, is_settled, next_false, all_stamped, advanced, ends_false, refutes}
 use Rattle.ae_check.proofs.Coding.{before_stamped}
-
-one_more : (i : ℕ) → suc i ≡ i + 1
-one_more i = omega arith
 
 module _ (now : ℕ) where
   -- ---- what becomes false with a clause
@@ -23,15 +20,15 @@ module _ (now : ℕ) where
   next_go fs (x ∷ c) (suc i) d b = next_go fs c i d (omega (arith, b))
 
 pub next_skip : (now : ℕ) (fs : List Stamp) (c : List Code) (i : ℕ) (d : Code) → i < length c → is_false now fs (get_or c i d) ≡ true → next_false now fs (drop i c) ≡ next_false now fs (drop (i + 1) c)
-next_skip now fs c i d b t = next_go now fs c i d b ∙ (λ j. here now fs c i d (one_more i j) (t j))
+next_skip now fs c i d b t = next_go now fs c i d b ∙ (λ j. here now fs c i d (sym (add-one i) j) (t j))
 
 pub next_open : (now : ℕ) (fs : List Stamp) (c : List Code) (i : ℕ) (d : Code) → i < length c → is_false now fs (get_or c i d) ≡ false → list_all (is_settled now fs (get_or c i d)) (drop (i + 1) c) ≡ true
     → next_false now fs (drop i c) ≡ Some (turned (get_or c i d))
-next_open now fs c i d b t a = next_go now fs c i d b ∙ (λ j. here now fs c i d (one_more i j) (t j)) ∙ ap (λ h. when h (turned (get_or c i d))) a
+next_open now fs c i d b t a = next_go now fs c i d b ∙ (λ j. here now fs c i d (sym (add-one i) j) (t j)) ∙ ap (λ h. when h (turned (get_or c i d))) a
 
 pub next_two : (now : ℕ) (fs : List Stamp) (c : List Code) (i : ℕ) (d : Code) → i < length c → is_false now fs (get_or c i d) ≡ false → list_all (is_settled now fs (get_or c i d)) (drop (i + 1) c) ≡ false
     → next_false now fs (drop i c) ≡ None
-next_two now fs c i d b t a = next_go now fs c i d b ∙ (λ j. here now fs c i d (one_more i j) (t j)) ∙ ap (λ h. when h (turned (get_or c i d))) a
+next_two now fs c i d b t a = next_go now fs c i d b ∙ (λ j. here now fs c i d (sym (add-one i) j) (t j)) ∙ ap (λ h. when h (turned (get_or c i d))) a
 
 pub next_end : (now : ℕ) (fs : List Stamp) (c : List Code) (i : ℕ) → length c ≤ i → next_false now fs (drop i c) ≡ None
 next_end now fs [] zero b = refl
@@ -46,7 +43,7 @@ fall_go now stamps (x ∷ c) zero d b = refl
 fall_go now stamps (x ∷ c) (suc i) d b = fall_go now stamps c i d (omega (arith, b))
 
 pub fall_more : (now : ℕ) (stamps : List Stamp) (c : List Code) (i : ℕ) (d : Code) → i < length c → all_stamped now stamps (drop i c) ≡ all_stamped now (stamped now stamps (get_or c i d)) (drop (i + 1) c)
-fall_more now stamps c i d b = fall_go now stamps c i d b ∙ (λ j. all_stamped now (stamped now stamps (get_or c i d)) (drop (one_more i j) c))
+fall_more now stamps c i d b = fall_go now stamps c i d b ∙ (λ j. all_stamped now (stamped now stamps (get_or c i d)) (drop (sym (add-one i) j) c))
 
 pub fall_end : (now : ℕ) (stamps : List Stamp) (c : List Code) (i : ℕ) → length c ≤ i → all_stamped now stamps (drop i c) ≡ stamps
 fall_end now stamps [] zero b = refl
@@ -64,7 +61,7 @@ module _ (now : ℕ) (clauses : List (List Code)) where
 
 pub refutes_on : (now : ℕ) (clauses : List (List Code)) (stamps s : List Stamp) (hs : List ℕ) (i d : ℕ) → i + 1 < length hs → advanced now stamps clauses (get_or hs i d) ≡ Some s → refutes now stamps clauses (drop i hs) ≡ refutes now s clauses (drop (i + 1) hs)
 refutes_on now clauses stamps s hs i d b e =
-    refutes_go now clauses stamps hs i d b ∙ ap (λ o. or_else (o >>= λ s. Some (refutes now s clauses (drop (suc i) hs))) false) e ∙ (λ j. refutes now s clauses (drop (one_more i j) hs))
+    refutes_go now clauses stamps hs i d b ∙ ap (λ o. or_else (o >>= λ s. Some (refutes now s clauses (drop (suc i) hs))) false) e ∙ (λ j. refutes now s clauses (drop (sym (add-one i) j) hs))
 
 pub refutes_stop : (now : ℕ) (clauses : List (List Code)) (stamps : List Stamp) (hs : List ℕ) (i d : ℕ) → i + 1 < length hs → advanced now stamps clauses (get_or hs i d) ≡ None → refutes now stamps clauses (drop i hs) ≡ false
 refutes_stop now clauses stamps hs i d b e = refutes_go now clauses stamps hs i d b ∙ ap (λ o. or_else (o >>= λ s. Some (refutes now s clauses (drop (suc i) hs))) false) e

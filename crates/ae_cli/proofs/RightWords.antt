@@ -5,7 +5,7 @@ use Rattle.std.specs.List.{AllByRecursion}
 use Rattle.std.specs.Option.{option_map_or}
 use Rattle.std.specs.Str.{bytes_eq}
 use Rattle.std.specs.Str.Parse.{IsNumeral, digits_value, without_leading_plus}
-use Rattle.std.proofs.lemmas.Bool.{ne_eqb, and_parts, lt-ltb}
+use Rattle.std.proofs.lemmas.Bool.{ne_eqb, and_parts, or_parts, lt-ltb}
 use Rattle.std.proofs.lemmas.List.{map-append}
 use Rattle.std.proofs.lemmas.List.Sums.{fold-append}
 use Rattle.std.proofs.lemmas.Str.Parse.{digit_from_value}
@@ -67,14 +67,10 @@ abbrev row_for : Use → Row
 row_for u = made_row (name_of u) AsWritten (shown u)
 
 -- ---- rows
-or_false : (a b : Bool) → a || b ≡ false → (a ≡ false) × (b ≡ false)
-or_false true b h = let bad : true ≡ false = h in cc
-or_false false b h = (refl, h)
-
 absent : (id : Text) (change : Row → List Row) (missing rs : List Row) → has_row id rs ≡ false → at_row id change missing rs ≡ rs ++ missing
 absent id change missing [] h = refl
 absent id change missing (r ∷ rs) h =
-    let p = or_false (bytes_eq r.id id) (has_row id rs) h in
+    let p = or_parts (bytes_eq r.id id) (has_row id rs) h in
     ap (λ b. if b then change r ++ rs else r ∷ at_row id change missing rs) p.0 ∙ ap (λ z. r ∷ z) (absent id change missing rs p.1)
 
 new_row : (id : Text) (how : Reading) (values : List Text) (rs : List Row) → has_row id rs ≡ false
@@ -356,7 +352,7 @@ names_apart (demo a) (demo b) d = absurd (d refl)
 
 still_new : (us : List Use) (u v : Use) → IsNew us v → topic_of u ≢ topic_of v → IsNew (us ++ u ∷ []) v
 still_new [] u v n d = ap (λ b. b || false) (names_apart u v d)
-still_new (w ∷ us) u v n d = let p = or_false _ _ n in ap₂ (λ a b. a || b) p.0 (still_new us u v p.1 d)
+still_new (w ∷ us) u v n d = let p = or_parts _ _ n in ap₂ (λ a b. a || b) p.0 (still_new us u v p.1 d)
 
 all_still_new : (us : List Use) (u : Use) (vs : List Use) → AllByRecursion (IsNew us) vs → AllByRecursion (λ v. topic_of u ≢ topic_of v) vs → AllByRecursion (IsNew (us ++ u ∷ [])) vs
 all_still_new us u [] n d = tt
@@ -462,7 +458,7 @@ row_at id rows = find (λ r. bytes_eq r.id id) rows
 behind_absent : (id : Text) (rs xs : List Row) → has_row id rs ≡ false → row_at id (rs ++ xs) ≡ row_at id xs
 behind_absent id [] xs h = refl
 behind_absent id (r ∷ rs) xs h =
-    let p = or_false (bytes_eq r.id id) (has_row id rs) h in
+    let p = or_parts (bytes_eq r.id id) (has_row id rs) h in
     ap (λ b. cond b (Some r) (row_at id (rs ++ xs))) p.0 ∙ behind_absent id rs xs p.1
 
 before_other : (id : Text) (rs : List Row) (x : Row) → bytes_eq x.id id ≡ false → row_at id (rs ++ x ∷ []) ≡ row_at id rs

@@ -3,9 +3,9 @@ use Rattle.std.specs.Prelude.{ℕ, zero, suc, ◌+◌, ◌-◌, ◌<◌, ◌≤�
 use Rattle.std.specs.List.{list_all}
 use Rattle.std.specs.List.Sorted.{IsNonDecreasing}
 use Rattle.std.proofs.Common.{inl, inr}
-use Rattle.std.proofs.lemmas.Bool.{and_parts, and_from, cases_eq}
+use Rattle.std.proofs.lemmas.Bool.{and_parts, and_from, cases_eq, not-true}
 use Rattle.std.proofs.lemmas.List.Sorted.{IsNonDecreasingBy-short}
-use Rattle.std.proofs.lemmas.Option.{same_Some}
+use Rattle.std.proofs.lemmas.Option.{same_Some, slice_get_within}
 use mathlib.Core.List.{List-discrete}
 use mathlib.Core.Path.{refl, sym, ap, subst, ◌∙◌}
 use native.Mathlib.Decide.{ℕ_discrete}
@@ -46,10 +46,6 @@ use Rattle.ae_decide.proofs.RuleTests.{ac_by, by_ac, has_told, by_has}
 use Rattle.ae_decide.proofs.ValueTests.{implied, by_implied, of_written, written_of}
 use Rattle.ae_completed.specs.Joins.{least_from, representative_at, representative_of, is_product, is_join, reduces_to, joins_by, name_joins, all_names_join}
 
-untrue : (b : Bool) → not b ≡ true → b ≡ false
-untrue true e = absurd (cc)
-untrue false e = refl
-
 -- ---- numbers
 pub is_known : (b : Bool) (x y : ℚ) → Some y ≡ cond b (Some x) None → true ≡ b
 is_known true x y e = refl
@@ -62,8 +58,8 @@ is_unknown false x e = refl
 -- ---- joins
 join_by : (sig : Signature) (h : Head) (a b : Term) → is_join sig h a b ≡ true → IsJoin sig h a b
 join_by sig (head.Symbol n) a b e = ac_by sig (head.Symbol n) e
-join_by sig (head.Int op.Mul) a b e = let p = and_parts (not (is_number (form a))) (not (is_number (form b))) e in (untrue _ p.0, untrue _ p.1)
-join_by sig (head.Real op.Mul) a b e = let p = and_parts (not (is_number (form a))) (not (is_number (form b))) e in (untrue _ p.0, untrue _ p.1)
+join_by sig (head.Int op.Mul) a b e = let p = and_parts (not (is_number (form a))) (not (is_number (form b))) e in (not-true _ p.0, not-true _ p.1)
+join_by sig (head.Real op.Mul) a b e = let p = and_parts (not (is_number (form a))) (not (is_number (form b))) e in (not-true _ p.0, not-true _ p.1)
 join_by sig (head.Int op.Add) a b e = absurd (cc)
 join_by sig (head.Int op.Sub) a b e = absurd (cc)
 join_by sig (head.Int op.Neg) a b e = absurd (cc)
@@ -104,15 +100,6 @@ no_part : (n : ℕ) (l : List ℕ) → 2 ≤ length l → IsPart l (n ∷ []) �
 no_part n [] h p = omega (arith, h)
 no_part n (x ∷ []) h p = omega (arith, h)
 no_part n (x ∷ z ∷ l) h p = two_parts n x z l p
-
-rises_one : (n : ℕ) → IsNonDecreasing (n ∷ [])
-rises_one n = IsNonDecreasingBy-short (λ x. x) (n ∷ []) (omega arith)
-
--- a name is below the number of names
-below_length : {A : Type 0} (xs : List A) (n : ℕ) (x : A) → slice_get xs n ≡ Some x → n < length xs
-below_length [] n x e = absurd (cc)
-below_length (z ∷ xs) zero x e = omega arith
-below_length (z ∷ xs) (suc n) x e = let h = below_length xs n x e in omega (arith, h)
 
 module _ (sig : Signature) (y : System) where
   -- ---- the step of the loop
@@ -194,7 +181,7 @@ module _ (sig : Signature) (y : System) where
         let (k, g, i) = bind_some (place_from 0 y.names t) (λ m. slice_get y.values m) w a in
         let r : Represents sig y st.sort (meaning w) p = subst (λ z. Represents sig y st.sort z p) (sym m) st.represents in
         let here = by_has sig y leaves st.sort w k p i r.has in
-        let (q, f) = least_finds st.sort (Some w) 0 (length y.names) p (omega arith) (let b = below_length y.names p r.has.term r.has.is in omega (arith, b)) here in
+        let (q, f) = least_finds st.sort (Some w) 0 (length y.names) p (omega arith) (let b = slice_get_within y.names p r.has.term r.has.is in omega (arith, b)) here in
         let l = least_tells st.sort (Some w) 0 (length y.names) q f in
         let low = r.least q (has_told sig y leaves st.sort w q l.is) in
         (λ j. representative_at sig y (a j) (st.sorted j)) ∙ f ∙ ap (λ (x : ℕ). Some x) (same p q low (λ h. l.none p (omega arith) h here))
@@ -232,7 +219,7 @@ module _ (sig : Signature) (y : System) where
               decided_of (List-discrete ℕ_discrete (nf y.rules (record { head = h; sorts = ss }) (p ∷ q ∷ [])) (r ∷ []))
               (nf_only (IsRule y h ss) (decreases h ss) (o h ss) (nf y.rules (record { head = h; sorts = ss })) (normal_forms y h ss falls) (p ∷ q ∷ []) (r ∷ [])
               (linked_from (IsRule y h ss) (g n h ss a b p q r i j (stands_by a p e) (stands_by b q f) (subst (λ u. StandsFor sig y u r) z (stands_by t r k))))
-              (λ l m x part. no_part r l (fit x.0 (record { symbol = record { head = h; sorts = ss }; left = l; right = m }) x.1).two part) (rises_one r))
+              (λ l m x part. no_part r l (fit x.0 (record { symbol = record { head = h; sorts = ss }; left = l; right = m }) x.1).two part) (IsNonDecreasingBy-short (λ x. x) (r ∷ []) (omega arith)))
           reduced n t h ss a b i z j (Some p) (Some q) None e f k = refl
           reduced n t h ss a b i z j (Some p) None r e f k = refl
           reduced n t h ss a b i z j None q r e f k = refl

@@ -27,10 +27,6 @@ use Rattle.ae_computing.specs.declared.operations.Operation.{Operation}
 use Rattle.ae_computing.specs.declared.operations.Operation.TheVariants.{Sum, Difference, Negation, Product, Quotient, Opaque}
 use Rattle.ae_computing.proofs.OperationLaws.{rule_is, over_if, over_is}
 
-pub list_all_map : {A B : Type 0} (p : B → Bool) (f : A → B) (xs : List A) → list_all p (map f xs) ≡ list_all (λ x. p (f x)) xs
-list_all_map p f [] = refl
-list_all_map p f (x ∷ xs) = ap (λ b. p (f x) && b) (list_all_map p f xs)
-
 -- ---- multiples put behind others
 pub added_step : (x : ℚ) (ps : List Multiple) (m : Multiple) (ms : List Multiple) (i : ℕ) (d : Multiple) → i < length ms
     → multiple m ≡ ((get_or ms i d).term.now, x *ℚ value_of (get_or ms i d).factor)

@@ -16,7 +16,7 @@ use Rattle.ae_computing.specs.Inner.Totals.{summand, coefficient, total, is_numb
 use Rattle.ae_computing.specs.declared.values.Place.{Place}
 use Rattle.ae_computing.specs.declared.values.Place.TheVariants.{Constant}
 use Rattle.ae_computing.specs.declared.values.Summand.{Summand}
-use Rattle.ae_computing.proofs.ExactLaws.{list_all_map}
+use Rattle.std.proofs.lemmas.List.Folds.{list_all-map}
 
 abbrev pub parts_over : ℤ → List Part → List (ℕ × ℚ)
 parts_over den ps = map (λ p. (p.key, ratio p.factor den)) ps
@@ -58,5 +58,5 @@ pub by_tests : (v : Value) (ss : List Summand) → is_number v ≡ true → agre
     → list_all (agrees_on_summand v (map summand ss)) ss ≡ is_total v (map summand ss)
 by_tests v ss a b c =
     let ts = map summand ss in
-    sym (list_all_map (λ s. agrees_on v ts s.1) summand ss)
+    sym (list_all-map (λ s. agrees_on v ts s.1) summand ss)
     ∙ (λ i. sym a i && (sym b i && (sym c i && agrees_on_each v ts ts)))

@@ -4,7 +4,8 @@ use Rattle.std.proofs.lemmas.List.{drop_more}
 use Rattle.std.specs.Prelude.{ℕ, suc, ℤ, pos, ◌+◌, ◌<◌, ◌<ℤ◌, ◌^◌, Bool, true, false, cond, not, ◌&&◌, ◌||◌, nat_eq, int_lt, ◌≡◌, ◌≢◌, ◌↔◌, List, [], ◌∷◌, length, map, slice_get, unsigned_abs, Option, Some, None}
 use Rattle.std.specs.List.{AllByRecursion, list_all, flat_map}
 use Rattle.std.proofs.Common.{inl, inr}
-use Rattle.std.proofs.lemmas.Bool.{and_parts, and_from, or_cases, or_left, eqb-true, eq-eqb, ltb-true, lt-ltb}
+use Rattle.std.proofs.lemmas.Bool.{and_parts, and_from, or_cases, or_left, not-true, eqb-true, eq-eqb, ltb-true, lt-ltb}
+use Rattle.std.proofs.lemmas.List.Folds.{list_all-map}
 use Rattle.std.proofs.lemmas.Option.{same_Some}
 use Rattle.std.proofs.Math.Nat.{eq-one_of_dvd-one}
 use mathlib.Core.Path.{refl, sym, ap, subst, ◌∙◌}
@@ -13,6 +14,7 @@ use lib.IntN.{ℤ_discrete}
 use Rattle.ae_base.specs.Options.{◌>>=◌, known}
 use Rattle.ae_base.proofs.AllOf.{all_of_test, test_of_all, all_append, all_front, all_back, all_from_places, all_of_map}
 use Rattle.ae_base.proofs.Decided.{decided_of, decided_yes, decided_no, decided_not}
+use Rattle.ae_base.proofs.Integers.{positive_is, positive_of}
 use Rattle.ae_base.proofs.ListFacts.{list_all_at}
 use Rattle.ae_base.proofs.Options.{bind_some, never_some}
 use Rattle.ae_core.specs.Decided.{Sort_discrete}
@@ -73,12 +75,8 @@ normal-Leaf n = ap is_normal_value (sym (rolls-Leaf n)) ∙ normal-roll (layer.L
 pub normal-Number : (f : Lin) → is_normal_value (Number f) ≡ is_normal f
 normal-Number f = ap is_normal_value (sym (rolls-Number f)) ∙ normal-roll (layer.Number f)
 
-all_itself : {A : Type 0} (f : A → Bool) (xs : List A) → list_all (λ b. b) (map f xs) ≡ list_all f xs
-all_itself f [] = refl
-all_itself f (x ∷ xs) = ap (λ b. f x && b) (all_itself f xs)
-
 pub normal-Fields : (vs : List Value) → is_normal_value (Fields vs) ≡ list_all is_normal_value vs
-normal-Fields vs = ap is_normal_value (sym (rolls-Fields vs)) ∙ normal-roll (layer.Fields vs) ∙ all_itself is_normal_value vs
+normal-Fields vs = ap is_normal_value (sym (rolls-Fields vs)) ∙ normal-roll (layer.Fields vs) ∙ list_all-map (λ b. b) is_normal_value vs
 
 pub ruleset normal_rules = (normal-Leaf, normal-Number, normal-Fields)
 
@@ -110,10 +108,6 @@ is_within z e = ltb-true (unsigned_abs z) (2 ^ 127) e
 of_within : (z : ℤ) → unsigned_abs z < 2 ^ 127 → within z ≡ true
 of_within z h = lt-ltb (unsigned_abs z) (2 ^ 127) h
 
-untrue : (b : Bool) → not b ≡ true → b ≡ false
-untrue true e = absurd (cc)
-untrue false e = refl
-
 rises_by : (ps : List Part) → are_rising ps ≡ true → IsRising ps
 rises_by [] e = tt
 rises_by (p ∷ ps) e =
@@ -124,12 +118,6 @@ by_rising : (ps : List Part) → IsRising ps → are_rising ps ≡ true
 by_rising [] r = refl
 by_rising (p ∷ ps) r =
     and_from _ _ (test_of_all (λ q. p.key < q.key) (is_after p.key) (λ q h. lt-ltb p.key q.key h) ps r.0) (by_rising ps r.1)
-
-positive_by : (z : ℤ) → int_lt (pos 0) z ≡ true → pos 0 <ℤ z
-positive_by z e = grind (arith, e)
-
-by_positive : (z : ℤ) → pos 0 <ℤ z → int_lt (pos 0) z ≡ true
-by_positive z h = grind (arith, h)
 
 proper_of : (f : Lin) → is_proper f ≡ true → Proper f
 proper_of f e =
@@ -142,9 +130,9 @@ proper_of f e =
     let r = and_parts (a && b) c q.0 in
     let t = and_parts a b r.0 in
     record {
-      positive = positive_by f.den t.0;
+      positive = positive_is f.den t.0;
       rising = rises_by f.parts p.1;
-      nonzero = all_of_test has_factor (λ x. x.factor ≢ pos 0) (λ x h. decided_no (ℤ_discrete x.factor (pos 0)) (untrue _ (and_parts (within x.factor) _ h).1)) f.parts q.1;
+      nonzero = all_of_test has_factor (λ x. x.factor ≢ pos 0) (λ x h. decided_no (ℤ_discrete x.factor (pos 0)) (not-true _ (and_parts (within x.factor) _ h).1)) f.parts q.1;
       within_limits = (
         is_within f.den t.1,
         (
@@ -157,7 +145,7 @@ proper_of f e =
 
 by_proper : (f : Lin) → IsNormal f → is_proper f ≡ true
 by_proper f n =
-    and_from _ _ (and_from _ _ (and_from _ _ (and_from _ _ (by_positive f.den n.positive) (of_within f.den n.within.0)) (of_within f.constant n.within.1.0))
+    and_from _ _ (and_from _ _ (and_from _ _ (and_from _ _ (positive_of f.den n.positive) (of_within f.den n.within.0)) (of_within f.constant n.within.1.0))
     (factors f.parts n.nonzero n.within.1.1)) (by_rising f.parts n.rising)
   where
     factors : (ps : List Part) → AllByRecursion (λ (p : Part). p.factor ≢ pos 0) ps → AllByRecursion (λ n. n < 2 ^ 127) (map (λ (p : Part). unsigned_abs p.factor) ps) → list_all has_factor ps ≡ true
@@ -327,7 +315,7 @@ module _ (sig : Signature) (y : System) where
         let c = not (known (record_fields sig s)) in (
           λ e. let p = and_parts (b && c) (is_leaf sig y s n) e in
               let q = and_parts b c p.0 in
-              (untrue (is_numeric s) q.0, absent (record_fields sig s) q.1, leaf_by s n p.1),
+              (not-true (is_numeric s) q.0, absent (record_fields sig s) q.1, leaf_by s n p.1),
           λ (d, e, l). and_from (b && c) (is_leaf sig y s n) (and_from b c (ap not d) (ap (λ o. not (known o)) e)) (by_leaf normal s n l),
         )
 

@@ -4,7 +4,7 @@ use Rattle.std.proofs.lemmas.List.{drop_more}
 use Rattle.std.specs.Prelude.{ℕ, zero, suc, ◌+◌, ◌-◌, ◌<◌, Bool, true, false, not, ◌&&◌, ◌||◌, ◌≡◌, ◌⊎◌, List, [], ◌∷◌, ◌++◌, length, slice_get, Option, Some, None}
 use Rattle.std.specs.List.{AllByRecursion, list_all}
 use Rattle.std.proofs.Common.{inl, inr}
-use Rattle.std.proofs.lemmas.Bool.{and_parts, and_from, or_cases, or_left}
+use Rattle.std.proofs.lemmas.Bool.{and_parts, and_from, or_cases, or_left, or_right}
 use Rattle.std.proofs.lemmas.Option.{same_Some}
 use mathlib.Core.Path.{refl, sym, ap, ◌∙◌}
 use native.Mathlib.Omega.{arith}
@@ -37,17 +37,13 @@ named_of (u ∷ us) t e = elim (or_cases (decided (Term_discrete u t)) (stands_i
   | inr r ↦ let w = named_of us t r in (suc w.0, w.1)
 ]
 
-or_right : (b c : Bool) → c ≡ true → b || c ≡ true
-or_right true c e = refl
-or_right false c e = e
-
 pub of_named : (names : List Term) (t : Term) (n : ℕ) → slice_get names n ≡ Some t → stands_in names t ≡ true
 of_named [] t n e = absurd (cc)
 of_named (u ∷ us) t zero e = or_left (decided (Term_discrete u t)) (stands_in us t) (decided_of (Term_discrete u t) (same_Some u t e))
 of_named (u ∷ us) t (suc n) e = or_right (decided (Term_discrete u t)) (stands_in us t) (of_named us t n e)
 
 -- ---- no term stands twice
-denied : (b : Bool) → not b ≡ true → b ≡ true → ⊥
+pub denied : (b : Bool) → not b ≡ true → b ≡ true → ⊥
 denied true e f = cc
 denied false e f = cc
 

@@ -11,6 +11,7 @@ use Rattle.ae_base.specs.Decided.{decided}
 use Rattle.ae_base.proofs.AllOf.{all_from_places, test_of_all}
 use Rattle.ae_base.proofs.Decided.{decided_of, decided_yes}
 use Rattle.ae_base.proofs.ListFacts.{list_all_at}
+use Rattle.ae_base.proofs.Tests.{not_where}
 use Rattle.ae_core.specs.Decided.{Head_discrete, Sorts_discrete}
 use Rattle.ae_core.specs.Sorts.{same_sorts}
 use Rattle.ae_core.specs.declared.problems.AcSymbol.{AcSymbol}
@@ -22,6 +23,7 @@ use Rattle.ae_journal.specs.declared.systems.RuleEntry.{RuleEntry}
 use Rattle.ae_journal.specs.declared.systems.System.{System}
 use Rattle.ae_decide.specs.Reduction.{is_empty, is_part, same_symbol, reduces, are_irreducible, left_sides_stay, leaves_right}
 use Rattle.ae_decide.specs.Clauses.{AreReduced}
+use Rattle.ae_decide.proofs.NameTests.{denied}
 
 -- ---- parts
 pub part_of_test : (a b : List ℕ) → is_part a b ≡ true → IsPart a b
@@ -52,21 +54,13 @@ test_of_symbol c d e =
     (decided_of (Sorts_discrete c.sorts d.sorts) (ap (λ (s : AcSymbol). s.sorts) e))
 
 -- ---- a rule that doesn't reduce
-denied : (b : Bool) → not b ≡ true → b ≡ true → ⊥
-denied true e f = cc
-denied false e f = cc
-
-untrue : (b : Bool) → (b ≡ true → ⊥) → not b ≡ true
-untrue true f = absurd (f refl)
-untrue false f = refl
-
 no_part : (d : RuleEntry) (c : AcSymbol) (side : List ℕ) → not (reduces d c side) ≡ true → d.symbol ≡ c → ¬ IsPart d.left side
 no_part d c side e s p =
     denied (reduces d c side) e (and_from (same_symbol d.symbol c) (is_part d.left side) (test_of_symbol d.symbol c s) (test_of_part d.left side p))
 
 not_reduced : (d : RuleEntry) (c : AcSymbol) (side : List ℕ) → (d.symbol ≡ c → ¬ IsPart d.left side) → not (reduces d c side) ≡ true
 not_reduced d c side f =
-    untrue (reduces d c side) (λ e. let p = and_parts (same_symbol d.symbol c) (is_part d.left side) e in
+    not_where (reduces d c side) (λ e. let p = and_parts (same_symbol d.symbol c) (is_part d.left side) e in
     f (symbol_of_test d.symbol c p.0) (part_of_test d.left side p.1))
 
 -- ---- left sides

@@ -11,6 +11,7 @@ use Rattle.ae_base.proofs.AllOf.{all_of_test, test_of_all, all_from_places}
 use Rattle.ae_base.proofs.Decided.{decided_of, decided_yes, decided_not}
 use Rattle.ae_base.proofs.ListFacts.{list_all_at}
 use Rattle.ae_base.proofs.Options.{bind_some}
+use Rattle.ae_base.proofs.Tests.{false_true}
 use Rattle.ae_core.specs.declared.problems.Nature.{Nature}
 use Rattle.ae_core.specs.declared.problems.Nature.TheVariants.{Free, Ac, Choice}
 use Rattle.ae_core.specs.declared.problems.Signature.{Signature}
@@ -104,9 +105,6 @@ by_ac sig (head.Field n i) a = absurd a
 by_ac sig head.True a = absurd a
 by_ac sig head.False a = absurd a
 by_ac sig head.Void a = absurd a
-
-differ : false ≡ true → ⊥
-differ e = cc
 
 module _ (sig : Signature) (y : System) where
   -- ---- no smaller name

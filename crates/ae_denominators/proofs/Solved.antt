@@ -4,6 +4,7 @@ use Rattle.std.proofs.Common.{arith, refl, sym, ap, ◌∙◌, subst}
 use native.Mathlib.Decide.{ℕ_discrete}
 use borrow.Author.Differences.{ints}
 use Rattle.ae_base.proofs.Decided.{pick_yes, pick_no}
+use Rattle.ae_base.proofs.Integers.{size_nonzero}
 use Rattle.ae_math.specs.Inner.Integers.{ring}
 use Rattle.ae_math.specs.Fractions.{ℚ, zero_ℚ, one_ℚ, neg_ℚ, ratio, ◌+ℚ◌, ◌*ℚ◌}
 use Rattle.ae_math.specs.Forms.{single, minus, scale, factor}
@@ -15,15 +16,6 @@ use Rattle.ae_num.specs.Forms.{meaning, SameMeaning, factor_of, IsNormal}
 use Rattle.ae_num.proofs.MeaningLaws.{factor_meaning, ratio_zero, ratio_scaled, ratio_times, product_positive}
 use Rattle.ae_denominators.specs.Denominators.{IsWholeOver, SolvedDenominator}
 use Rattle.ae_denominators.proofs.Least.{least}
-
--- a number other than 0 has a positive size
-size_some : (c : ℤ) → c ≢ pos 0 → (m : ℕ) × (unsigned_abs c ≡ suc m)
-size_some (pos zero) n = absurd (n refl)
-size_some (pos (suc m)) n = (m, refl)
-size_some (negsuc m) n = (m, refl)
-
-is_positive : (c : ℤ) (m : ℕ) → unsigned_abs c ≡ suc m → pos 0 <ℤ pos (unsigned_abs c)
-is_positive c m e = subst (λ (k : ℕ). pos 0 <ℤ pos k) (sym e) (omega (arith, ints))
 
 -- the number that times c is -a times the size of c
 abbrev turn : ℤ → ℤ → ℤ
@@ -40,7 +32,8 @@ turn_times a (negsuc m) = let e : negsuc m ≡ neg_ℤ (pos (suc m)) = refl in a
 -- a / e = c / e * -y gives y over the size of c
 solved_part : (c e a : ℤ) (y : ℚ) → pos 0 <ℤ e → c ≢ pos 0 → ratio c e ≢ zero_ℚ → ratio a e ≡ ratio c e *ℚ neg_ℚ y → y ≡ ratio (turn a c) (pos (unsigned_abs c))
 solved_part c e a y p n nonzero h =
-    let s = is_positive c (size_some c n).0 (size_some c n).1 in
+    let size = size_nonzero c n in
+    let s : pos 0 <ℤ pos (unsigned_abs c) = omega (arith, ints, size) in
     let swapped : e *ℤ pos (unsigned_abs c) ≡ pos (unsigned_abs c) *ℤ e = simp ring in
     let left : ratio c e *ℚ y ≡ ratio (neg_ℤ a) e = sym (neg_neg_q (ratio c e *ℚ y)) ∙ ap neg_ℚ (sym (mul_neg_q (ratio c e) y) ∙ sym h) ∙ ratio_neg a e in
     let right : ratio c e *ℚ ratio (turn a c) (pos (unsigned_abs c)) ≡ ratio (neg_ℤ a) e =
@@ -87,7 +80,7 @@ module _ (d v : Lin) (name : ℕ) (times : ℚ) (nd : IsNormal d) (nonzero : tim
   over = record { factors = λ k. part_over k (ℕ_discrete name k); constant = constant_over }
 
   pub positive_size : pos 0 <ℤ pos (unsigned_abs (factor_of d.parts name))
-  positive_size = let s = size_some (factor_of d.parts name) factor_nonzero in is_positive (factor_of d.parts name) s.0 s.1
+  positive_size = let size = size_nonzero (factor_of d.parts name) factor_nonzero in omega (arith, ints, size)
 
 pub solved_denominator : SolvedDenominator
 solved_denominator d v name times nd nv nonzero none same =

@@ -18,10 +18,6 @@ once_append seen (x ∷ xs) ys =
     by_test (list_any (same_sort x) seen) (once_more seen (xs ++ ys)) (once_more (seen ++ x ∷ []) (xs ++ ys)) (once_more seen xs) (once_more (seen ++ x ∷ []) xs) ys
     (once_append seen xs ys) (once_append (seen ++ x ∷ []) xs ys)
 
-pub flat_of_map : {A B : Type 0} (f : A → List B) (xs : List A) → flat_map (λ s. s) (map f xs) ≡ flat_map f xs
-flat_of_map f [] = refl
-flat_of_map f (x ∷ xs) = ap (λ ys. f x ++ ys) (flat_of_map f xs)
-
 pub flat_more : {A B : Type 0} (f : A → List B) (xs : List A) (i : ℕ) (x : A) → i < length xs → x ≡ get_or xs i x → flat_map f (take (i + 1) xs) ≡ flat_map f (take i xs) ++ f x
 flat_more f xs i x l e =
     ap (flat_map f) (take_more xs i x l ∙ ap (λ y. take i xs ++ y ∷ []) (sym e))

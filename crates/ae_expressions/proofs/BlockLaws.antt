@@ -4,6 +4,7 @@ use Rattle.std.specs.List.{list_any}
 use Rattle.std.specs.Str.{bytes_eq}
 use Rattle.std.proofs.lemmas.List.{append_assoc, append-nil, map-append, reverse-append, take_more, take_all, drop_more, drop_all}
 use Rattle.std.proofs.lemmas.Option.{same_Some, slice_get-get_or}
+use Rattle.std.proofs.lemmas.List.Folds.{list_any-append}
 use Rattle.ae_core.specs.declared.terms.Sort.{Sort, Unit as UnitSort}
 use Rattle.ae_syntax.specs.declared.exprs.Group.{Group}
 use Rattle.ae_syntax.specs.declared.spans.Span.{Span}
@@ -25,14 +26,6 @@ use Rattle.ae_elab.proofs.WalkLaws.{give_walked, then_walked, then_stops, then_s
 abbrev pub AreSame : List (List ℕ) → List (List ℕ) → Type 0
 AreSame xs ys = (n : List ℕ) → is_among n xs ≡ is_among n ys
 
-pub any_append : {A : Type 0} (p : A → Bool) (xs ys : List A) → list_any p (xs ++ ys) ≡ (list_any p xs || list_any p ys)
-any_append p [] ys = refl
-any_append p (x ∷ xs) ys = ap (λ b. p x || b) (any_append p xs ys) ∙ grouped (p x) (list_any p xs) (list_any p ys)
-  where
-    grouped : (a b c : Bool) → (a || (b || c)) ≡ ((a || b) || c)
-    grouped true b c = refl
-    grouped false b c = refl
-
 swapped : (a b : Bool) → (a || b) ≡ (b || a)
 swapped true true = refl
 swapped true false = refl
@@ -42,7 +35,7 @@ swapped false false = refl
 any_reversed : {A : Type 0} (p : A → Bool) (xs : List A) → list_any p (reverse xs) ≡ list_any p xs
 any_reversed p [] = refl
 any_reversed p (x ∷ xs) =
-    ap (list_any p) (reverse-append (x ∷ []) xs) ∙ any_append p (reverse xs) (x ∷ []) ∙ ap (λ b. b || list_any p (x ∷ [])) (any_reversed p xs)
+    ap (list_any p) (reverse-append (x ∷ []) xs) ∙ list_any-append p (reverse xs) (x ∷ []) ∙ ap (λ b. b || list_any p (x ∷ [])) (any_reversed p xs)
     ∙ swapped (list_any p xs) (list_any p (x ∷ [])) ∙ ap (λ b. b || list_any p xs) (alone (p x))
   where
     alone : (b : Bool) → (b || false) ≡ b
@@ -52,8 +45,8 @@ any_reversed p (x ∷ xs) =
 -- the names that were seen, and those of a group
 more_seen : (ns ms : List (List ℕ)) → AreSame (ms ++ reverse ns) (reverse (ns ++ ms))
 more_seen ns ms n =
-    any_append (bytes_eq n) ms (reverse ns) ∙ ap (λ b. b || list_any (bytes_eq n) (reverse ns)) (sym (any_reversed (bytes_eq n) ms))
-    ∙ sym (any_append (bytes_eq n) (reverse ms) (reverse ns)) ∙ ap (list_any (bytes_eq n)) (sym (reverse-append ns ms))
+    list_any-append (bytes_eq n) ms (reverse ns) ∙ ap (λ b. b || list_any (bytes_eq n) (reverse ns)) (sym (any_reversed (bytes_eq n) ms))
+    ∙ sym (list_any-append (bytes_eq n) (reverse ms) (reverse ns)) ∙ ap (list_any (bytes_eq n)) (sym (reverse-append ns ms))
 
 -- ---- the conditions on a group's names
 module _ (sc : Scope) where
@@ -73,7 +66,7 @@ module _ (sc : Scope) where
       ap (λ cs. all_of cs (type_rule g.sort Free sc) >> λ z. each (variable_of sc z) g.names >> λ bs. groups_rule (map (name_at sc) g.names ++ s) gs sc >> λ ds. give (bs ++ ds)) (new_same s t g.names h)
       ∙ ap (λ (r : Rule (List Bound)). all_of (all_new t g.names sc) (type_rule g.sort Free sc) >> λ z. each (variable_of sc z) g.names >> λ bs. r >> λ ds. give (bs ++ ds))
       (groups_same (map (name_at sc) g.names ++ s) (map (name_at sc) g.names ++ t) gs
-      (λ n. any_append (bytes_eq n) (map (name_at sc) g.names) s ∙ ap (λ b. is_among n (map (name_at sc) g.names) || b) (h n) ∙ sym (any_append (bytes_eq n) (map (name_at sc) g.names) t)))
+      (λ n. list_any-append (bytes_eq n) (map (name_at sc) g.names) s ∙ ap (λ b. is_among n (map (name_at sc) g.names) || b) (h n) ∙ sym (list_any-append (bytes_eq n) (map (name_at sc) g.names) t)))
 
 -- ---- along the groups: what the rest comes to, the whole comes to with what is done
 pub record Groups (sc : Scope) (gs : List Group) (m : ℕ → Sort) (start now : Passed) (done : List Bound) (seen : List (List ℕ)) (rest : List Group) : Type 0 where

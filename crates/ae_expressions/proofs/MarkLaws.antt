@@ -14,7 +14,7 @@ use Rattle.ae_elab.specs.Nodes.{Entry, a_tree, a_claim, tree_in, tree_at, trees_
 use Rattle.ae_elab.specs.Rules.{no_tree}
 use Rattle.ae_elab.specs.Trees as tree
 use Rattle.ae_elab.specs.Trees.{Tree, Trees, Claim, more, is_application, variables_in, variables_among}
-use Rattle.ae_expressions.proofs.BlockLaws.{any_append}
+use Rattle.std.proofs.lemmas.List.Folds.{list_any-append}
 use Rattle.ae_elab.proofs.NodeLaws.{entries_more}
 
 -- ---- what stands in several terms stands in one of them
@@ -23,7 +23,7 @@ mark_none (Variable x) = refl
 mark_none Choice = refl
 
 pub mark_more : (s : Sought) (t : Tree) (us : Trees) → has_mark s (more t us) ≡ (found_in s t || has_mark s us)
-mark_more (Variable x) t us = any_append (nat_eq x) (variables_in t) (variables_among us)
+mark_more (Variable x) t us = list_any-append (nat_eq x) (variables_in t) (variables_among us)
 mark_more Choice t us = refl
 
 -- ---- what stands in a term
@@ -43,11 +43,11 @@ module _ (k : ℕ) (ss : List Sort) (n : ℕ) (ps : List ℕ) (us : Trees) where
   found_build Choice = refl
 
   pub found_update : (b : Tree) (s : Sought) → found_in s (tree.update k ss n b ps us) ≡ (found_in s b || has_mark s us)
-  found_update b (Variable x) = any_append (nat_eq x) (variables_in b) (variables_among us)
+  found_update b (Variable x) = list_any-append (nat_eq x) (variables_in b) (variables_among us)
   found_update b Choice = refl
 
 pub found_choice : (c : Claim) (a b : Tree) (s : Sought) → found_in s (tree.choice c a b) ≡ choice_mark s (found_in s a) (found_in s b)
-found_choice c a b (Variable x) = any_append (nat_eq x) (variables_in a) (variables_in b)
+found_choice c a b (Variable x) = list_any-append (nat_eq x) (variables_in a) (variables_in b)
 found_choice c a b Choice = refl
 
 -- ---- the marks of entries

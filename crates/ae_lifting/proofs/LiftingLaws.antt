@@ -22,10 +22,6 @@ cases_branch c a b = ap cases_of (sym (rolls-Branch c a b)) ∙ fold-roll-Cases 
 
 pub ruleset held_cases = (cases_leaf, cases_branch)
 
--- ---- what is known of a value that was answered
-pub of_value : {A E : Type 0} (P : A → Type 0) (r : Result A E) (x : A) → r ≡ Ok x → IfOk r P → P x
-of_value P r x e h = subst (λ (z : Result _ _). IfOk z P) e h
-
 -- ---- what goes on with the terms of each case
 module _ {B : Type 0} (next : List Term → Cases B) (whole : held.Cases) where
   pub at_leaf : (us : List Term) (w : Cases B) → whole ≡ Leaf us → w ≡ next us → w ≡ (cases_of whole |> next)

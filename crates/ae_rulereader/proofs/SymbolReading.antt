@@ -2,6 +2,7 @@
 use Rattle.std.proofs.Common.{ℕ, ◌⊎◌, Bool, true, false, ◌&&◌, cond, nat_eq, nat_lt, List, [], ◌∷◌, ◌≡◌, get_or, refl, sym, ap, ◌∙◌}
 use mathlib.Core.Logic.{inl, inr}
 use Rattle.std.proofs.lemmas.Bool.{eqb-true}
+use Rattle.ae_base.specs.Decided.{decided}
 use Rattle.ae_codes.specs.Closers.{by_blank, closers, square}
 use Rattle.ae_codes.specs.Codes.{Read, got, stops, wide, Code, Begins, both, one}
 use Rattle.ae_codes.specs.Listings.{listing_code, no_shape, no_sure, no_codes, no_inner, one_item, one_shaped, one_begins}
@@ -14,7 +15,7 @@ use Rattle.ae_core.specs.declared.terms.Head.TheVariants as head
 use Rattle.ae_core.specs.declared.terms.Op.TheVariants as op
 use Rattle.ae_core.specs.declared.terms.Sort.{Sort, Int}
 use Rattle.ae_prooftext.specs.Clauses.{sorts}
-use Rattle.ae_prooftext.specs.SortTexts.{SomeType, some_type, sort_is_spelled, fine, blank, blank_end}
+use Rattle.ae_prooftext.specs.SortTexts.{SomeType, some_type, sort_is_spelled, fine, blank, blank_end, is_bracket}
 use Rattle.ae_prooftext.specs.TermTexts.{above_square, sort_in, sorts_begin, sorts_shaped}
 use Rattle.ae_prooftext.specs.Texts.{sort_text}
 use Rattle.ae_prooftext.specs.Words.{symbol_name, type_names}
@@ -27,7 +28,7 @@ use Rattle.ae_rulereader.specs.Symbols.{product_by, product_read, star_read, pla
 use Rattle.ae_stategrammar.specs.Choices.{if_some, right_of}
 use Rattle.ae_stategrammar.specs.Multisets.{multiset}
 use Rattle.ae_stategrammar.specs.Sides as sides
-use Rattle.ae_stategrammar.specs.Sides.{plain_symbols, plain_table, sorted_symbols, sorted_table, plain_of, sorted_of, is_letter, is_bracket, is_i, Star, star, int_begins, real_begins, star_begins, Plain, Sorted}
+use Rattle.ae_stategrammar.specs.Sides.{plain_symbols, plain_table, sorted_symbols, sorted_table, plain_of, sorted_of, is_letter, is_i, Star, star, int_begins, real_begins, star_begins, Plain, Sorted}
 use Rattle.ae_stategrammar.specs.Sides.{WithSorts, with_sorts, plain_begins, sorted_begins, others, others_begin, RawSymbol, raw_symbol, symbol_to, from_symbol, symbol_back, symbol, SidesOf, raw_sides, sides_to, sides_from}
 use Rattle.ae_stategrammar.specs.States.{raw_rule, rule_to, rule_from, rule}
 use Rattle.ae_termreader.proofs.SortReading.{both_then, mapped_then, byte_then, blank_is, some_has, none_has}
@@ -38,14 +39,10 @@ use Rattle.ae_termreader.specs.Sorts.{has_name, sorts_read, square_sorts}
 word_then : {C : Type 0} (w bytes : List ℕ) (F : Unit {0} → List ℕ → Read C) → after_read ((alone {A = Unit {0}} tt w).read bytes) F ≡ after_read (fixed_read w bytes) (λ u r. F tt r)
 word_then w bytes F = ap (λ r. after_read r F) (alone_is tt w bytes) ∙ after_after (fixed_read w bytes) (λ u rest. got tt rest) F
 
-abbrev is_some : {A : Type 0} → Dec A → Bool
-is_some (yes a) = true
-is_some (no n) = false
-
 -- ---- one of two codes, where the first may be missing
 module _ {S A B C : Type 0} (test : ℕ → Bool) (p : S → Code A) (q : Code B) (ps : (s : S) → Begins (p s) test true) (qs : Begins q test false) (F : A ⊎ B → List ℕ → Read C) where
   some_side : (d : Dec S) (x : ℕ) (xs : List ℕ) (r : Read C) → ((s : S) → test x ≡ true → after_read ((p s).read (x ∷ xs)) (λ a rest. F (inl a) rest) ≡ r)
-      → after_read ((if_some test p q ps qs d).read (x ∷ xs)) F ≡ cond (is_some d && test x) r (after_read (q.read (x ∷ xs)) (λ b rest. F (inr b) rest))
+      → after_read ((if_some test p q ps qs d).read (x ∷ xs)) F ≡ cond (decided d && test x) r (after_read (q.read (x ∷ xs)) (λ b rest. F (inr b) rest))
   unfolding if_some
   some_side (yes s) x xs r h = ap (λ z. after_read z F) (one_is test (p s) q (ps s) qs x xs) ∙ go (test x) refl
     where
@@ -187,7 +184,7 @@ module _ (sig : Signature) where
     other_made (inl v) rest = with_all (sorted_of sig v.1.0.0) v.1.1.1.0 rest
     other_made (inr v) rest = star_made F v rest
 
-    same_some : (table : List (List ℕ)) (d : Dec (SomeType table)) → is_some d ≡ has_name table
+    same_some : (table : List (List ℕ)) (d : Dec (SomeType table)) → decided d ≡ has_name table
     same_some table (yes s) = sym (some_has table s)
     same_some table (no n) = sym (none_has table n)
 

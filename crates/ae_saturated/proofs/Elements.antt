@@ -48,18 +48,3 @@ stands_tells ls l e =
 
 pub by_stands : (ls : List Lit) (l : Lit) → Contains ls l → stands ls l ≡ true
 by_stands ls l i = by_any (λ m. decided (Lit_discrete m l)) ls l i (decided_of (Lit_discrete l l) refl)
-
-pub untrue : (b : Bool) → not b ≡ true → b ≡ true → ⊥
-untrue true e f = cc
-untrue false e f = cc
-
-pub not_by : (b : Bool) → (b ≡ true → ⊥) → not b ≡ true
-not_by true f = absurd (f refl)
-not_by false f = refl
-
-pub falls : (b : Bool) → (b ≡ true → ⊥) → b ≡ false
-falls true f = absurd (f refl)
-falls false f = refl
-
-pub differ : false ≡ true → ⊥
-differ e = cc

@@ -2,7 +2,7 @@
 use Rattle.std.proofs.Common.{inl, inr}
 use Rattle.std.specs.Prelude.{ℕ, zero, suc, ◌<◌, Bool, true, false, not, ◌&&◌, ◌||◌, nat_lt, ◌≡◌, ◌≢◌, List, [], ◌∷◌, length, slice_get, Option, Some, None}
 use Rattle.std.specs.List.{Contains, list_all}
-use Rattle.std.proofs.lemmas.Bool.{and_parts, and_from, cases_eq}
+use Rattle.std.proofs.lemmas.Bool.{and_parts, and_from, cases_eq, false_from_ne_true}
 use Rattle.std.proofs.lemmas.Option.{slice_get_within}
 use mathlib.Core.Path.{refl, sym, ap, subst, ◌∙◌}
 use native.Mathlib.Omega.{arith}
@@ -24,7 +24,9 @@ use Rattle.ae_saturated.specs.Firsts.{yes_stands, no_stands, hypotheses_stand, f
 use Rattle.ae_saturated.specs.Literals.{is_closed_by, is_closed}
 use Rattle.ae_saturated.specs.Open.{IsOpen}
 use Rattle.ae_saturated.specs.Open.IsOpen.{quantified, generic}
-use Rattle.ae_saturated.proofs.Elements.{all_tells, by_all, stands_tells, by_stands, untrue, not_by, falls, differ}
+use Rattle.ae_decide.proofs.NameTests.{denied}
+use Rattle.ae_base.proofs.Tests.{false_true, not_where}
+use Rattle.ae_saturated.proofs.Elements.{all_tells, by_all, stands_tells, by_stands}
 
 -- ---- hypotheses
 hypothesis_tells : (p : Problem) (g : ℕ) (ls : List Lit) (n k : ℕ) → hypotheses_stand p g ls n ≡ true → k < n → yes_stands ls (hypothesis p g k []) ≡ true
@@ -42,7 +44,7 @@ by_hypotheses p g ls (suc n) f =
     and_from (yes_stands ls (hypothesis p g n [])) (hypotheses_stand p g ls n) (f n) (by_hypotheses p g ls n f)
 
 pub one_hypothesis : (p : Problem) (g : ℕ) (ls : List Lit) (n k : ℕ) → k < n → yes_stands ls (hypothesis p g k []) ≡ false → hypotheses_stand p g ls n ≡ false
-one_hypothesis p g ls n k h e = falls (hypotheses_stand p g ls n) (λ t. differ (sym e ∙ hypothesis_tells p g ls n k t h))
+one_hypothesis p g ls n k h e = false_from_ne_true (hypotheses_stand p g ls n) (λ t. false_true (sym e ∙ hypothesis_tells p g ls n k t h))
 
 module _ (p : Problem) (g : ℕ) (st : Saturated) where
   pub firsts_tell : firsts_stand p g st.literals ≡ true → (l : Lit) → IsFirst p g st l → Contains st.literals l
@@ -80,17 +82,17 @@ item_tells p g (suc n) k e h =
     ]
 
 pub one_item : (p : Problem) (g : ℕ) (n k : ℕ) → k < n → not (known (pattern_of p g (of_axiom k))) ≡ false → none_generic p g n ≡ false
-one_item p g n k h e = falls (none_generic p g n) (λ t. differ (sym e ∙ item_tells p g n k t h))
+one_item p g n k h e = false_from_ne_true (none_generic p g n) (λ t. false_true (sym e ∙ item_tells p g n k t h))
 
 pub generic_denied : (p : Problem) (g : ℕ) → none_generic p g (length p.items) ≡ true → (k : ℕ) (q : Pattern) → pattern_of p g (of_axiom k) ≡ Some q → ⊥
 generic_denied p g e k q i =
     let x = bind_some (only (nat_lt k g) (slice_get p.items k)) _ q i in
     let o = only_some (nat_lt k g) (slice_get p.items k) x.0 x.1 in
-    untrue (known (pattern_of p g (of_axiom k))) (item_tells p g (length p.items) k e (slice_get_within p.items k x.0 o.1)) (ap known i)
+    denied (known (pattern_of p g (of_axiom k))) (item_tells p g (length p.items) k e (slice_get_within p.items k x.0 o.1)) (ap known i)
 
 -- some axiom has type variables where the test says `false`
 generic_found : (p : Problem) (g : ℕ) (st : Saturated) (n : ℕ) → none_generic p g n ≡ false → IsOpen p g st
-generic_found p g st zero e = absurd (differ (sym e))
+generic_found p g st zero e = absurd (false_true (sym e))
 generic_found p g st (suc n) e = go (pattern_of p g (of_axiom n)) refl (generic_found p g st n) e
   where
     go : (o : Option Pattern) → pattern_of p g (of_axiom n) ≡ o → (none_generic p g n ≡ false → IsOpen p g st)
@@ -130,20 +132,20 @@ module _ (p : Problem) (g : ℕ) (st : Saturated) where
       → IsOpen p g st
   open_by l i b n (layer.All q) d e = quantified l q i (ap quant_of d)
   open_by l i b n (layer.Ex q) d e = quantified l q i (ap quant_of d)
-  open_by l i b n (layer.Lt s t) d e = absurd (differ (sym e))
-  open_by l i b n (layer.Le s t) d e = absurd (differ (sym e))
-  open_by l i b n layer.True d e = absurd (differ (sym e))
-  open_by l i b n layer.False d e = absurd (differ (sym e))
-  open_by l i b n (layer.Eq s t) d e = absurd (differ (sym e))
-  open_by l i b n (layer.Pred r ss ts) d e = absurd (differ (sym e))
-  open_by l i b n (layer.Not a) d e = absurd (differ (sym e))
-  open_by l i b n (layer.And a c) d e = absurd (differ (sym e))
-  open_by l i b n (layer.Or a c) d e = absurd (differ (sym e))
-  open_by l i b n (layer.Xor a c) d e = absurd (differ (sym e))
-  open_by l i b n (layer.Iff a c) d e = absurd (differ (sym e))
+  open_by l i b n (layer.Lt s t) d e = absurd (false_true (sym e))
+  open_by l i b n (layer.Le s t) d e = absurd (false_true (sym e))
+  open_by l i b n layer.True d e = absurd (false_true (sym e))
+  open_by l i b n layer.False d e = absurd (false_true (sym e))
+  open_by l i b n (layer.Eq s t) d e = absurd (false_true (sym e))
+  open_by l i b n (layer.Pred r ss ts) d e = absurd (false_true (sym e))
+  open_by l i b n (layer.Not a) d e = absurd (false_true (sym e))
+  open_by l i b n (layer.And a c) d e = absurd (false_true (sym e))
+  open_by l i b n (layer.Or a c) d e = absurd (false_true (sym e))
+  open_by l i b n (layer.Xor a c) d e = absurd (false_true (sym e))
+  open_by l i b n (layer.Iff a c) d e = absurd (false_true (sym e))
 
   open_among : (ls : List Lit) → ((l : Lit) → Contains ls l → Contains st.literals l) → list_all is_closed ls ≡ false → IsOpen p g st
-  open_among [] f e = absurd (differ (sym e))
+  open_among [] f e = absurd (false_true (sym e))
   open_among (l ∷ ls) f e = first (is_closed l) refl (open_among ls (λ m i. f m (contains_later l ls m i))) e
     where
       first : (b : Bool) → is_closed l ≡ b → (list_all is_closed ls ≡ false → IsOpen p g st) → b && list_all is_closed ls ≡ false → IsOpen p g st

@@ -3,7 +3,7 @@ use Rattle.std.proofs.Common.{drop, get_or, inl, inr}
 use Rattle.std.proofs.lemmas.List.{drop_more}
 use Rattle.std.specs.Prelude.{ℕ, zero, suc, ◌+◌, ◌<◌, Bool, true, false, cond, not, ◌&&◌, ◌||◌, nat_eq, ◌≡◌, ◌≢◌, ◌⊎◌, List, [], ◌∷◌, length, Option, Some, None}
 use Rattle.std.specs.List.{AllByRecursion, Contains, list_all, list_any}
-use Rattle.std.proofs.lemmas.Bool.{and_parts, and_from, or_cases, or_left, eqb-true, eq-eqb, cases_eq}
+use Rattle.std.proofs.lemmas.Bool.{and_parts, and_from, or_cases, or_left, eqb-true, eq-eqb, cases_eq, false_from_ne_true}
 use mathlib.Core.Path.{refl, sym, ap, subst, ◌∙◌}
 use native.Mathlib.Omega.{arith}
 use Rattle.ae_base.specs.Decided.{decided}
@@ -34,7 +34,9 @@ use Rattle.ae_decide.specs.Values.{are_alike}
 use Rattle.ae_decide.proofs.NameTests.{named_of, of_named}
 use Rattle.ae_decide.proofs.ValueTests.{alike_of, of_alike, implied, by_implied}
 use Rattle.ae_saturated.specs.Literals.{is_consistent, are_named, some_stands, rows_stand, equation_by, equation_holds, are_same, all_same, denies_by, denies, predicate_by, predicate_holds}
-use Rattle.ae_saturated.proofs.Elements.{all_tells, by_all, any_tells, by_any, stands_tells, by_stands, untrue, not_by, falls}
+use Rattle.ae_decide.proofs.NameTests.{denied as untrue}
+use Rattle.ae_base.proofs.Tests.{not_where}
+use Rattle.ae_saturated.proofs.Elements.{all_tells, by_all, any_tells, by_any, stands_tells, by_stands}
 
 -- ---- the steps of the loops
 pub no_rows : (ls : List Lit) (f : Formula) → rows_stand ls f 0 ≡ true
@@ -59,7 +61,7 @@ by_rows ls f zero g = no_rows ls f
 by_rows ls f (suc n) g = more_rows ls f n ∙ and_from (some_stands ls (row n f)) (rows_stand ls f n) (g n) (by_rows ls f n g)
 
 pub one_row : (ls : List Lit) (f : Formula) (n r : ℕ) → r < n → some_stands ls (row r f) ≡ false → rows_stand ls f n ≡ false
-one_row ls f n r h e = falls (rows_stand ls f n) (λ t. differ (sym e ∙ rows_tell ls f n r t h))
+one_row ls f n r h e = false_from_ne_true (rows_stand ls f n) (λ t. differ (sym e ∙ rows_tell ls f n r t h))
   where
     differ : false ≡ true → ⊥
     differ d = cc
@@ -135,7 +137,7 @@ pub consistent_tells : (ls : List Lit) (l : Lit) → is_consistent ls l ≡ true
 consistent_tells ls l e i = untrue (stands ls (opposite l)) e (by_stands ls (opposite l) i)
 
 pub by_consistent : (ls : List Lit) (l : Lit) → (¬ Contains ls (opposite l)) → is_consistent ls l ≡ true
-by_consistent ls l n = not_by (stands ls (opposite l)) (λ t. n (stands_tells ls (opposite l) t))
+by_consistent ls l n = not_where (stands ls (opposite l)) (λ t. n (stands_tells ls (opposite l) t))
 
 pub named_tells : (y : System) (f : Formula) → are_named y.names f ≡ true → AllByRecursion (IsNamed y) (outside f)
 named_tells y f e = all_of_test (stands_in y.names) (IsNamed y) (λ t q. named_of y.names t q) (outside f) e
@@ -175,7 +177,7 @@ module _ (sig : Signature) (y : System) (terms : HasTerms sig y) (leaves : HasLe
           let (v, a, b) = f s t (subst (Contains ls) (lit_is l true (Eq s t) p (is_equation l.formula s t e)) i) in
           alike_of y terms.apart leaves.normal s t v a b
       go false p (layer.Eq s t) e =
-          not_by (are_alike y s t)
+          not_where (are_alike y s t)
           (λ h. let (v, a, b) = of_alike y terms.apart s t h in g s t v (subst (Contains ls) (lit_is l false (Eq s t) p (is_equation l.formula s t e)) i) a b)
       go b p layer.True e = refl
       go b p layer.False e = refl
@@ -268,7 +270,7 @@ module _ (sig : Signature) (y : System) (terms : HasTerms sig y) (leaves : HasLe
     where
       go : l.positive ≡ true → (k : Formula-F Formula Quant) → out-Formula l.formula ≡ k → predicate_by sig y ls k ≡ true
       go p (layer.Pred q ss ts) e =
-          not_by (list_any (denies sig y q ss ts) ls)
+          not_where (list_any (denies sig y q ss ts) ls)
           (λ t. let (m, j, d) = any_tells (denies sig y q ss ts) ls t in
           denied f q ss ts (subst (Contains ls) (lit_is l true (Pred q ss ts) p (is_predicate l.formula q ss ts e)) i) m j m.positive refl
           (out-Formula m.formula) refl d)

@@ -2,7 +2,7 @@
 use Rattle.std.proofs.Common.{inl, inr}
 use Rattle.std.specs.Prelude.{ℕ, Bool, true, false, not, ◌&&◌, ◌||◌, ◌≡◌, ◌↔◌, List, [], ◌∷◌, slice_get, Option, Some, None}
 use Rattle.std.specs.List.{AllByRecursion, Contains, list_all, list_any}
-use Rattle.std.proofs.lemmas.Bool.{and_parts, and_from, or_cases, or_left}
+use Rattle.std.proofs.lemmas.Bool.{and_parts, and_from, or_cases, or_left, or_right}
 use Rattle.std.proofs.lemmas.Option.{same_Some}
 use mathlib.Core.Path.{refl, sym, ap, subst, ◌∙◌}
 use Rattle.ae_base.specs.Decided.{decided}
@@ -40,7 +40,8 @@ use Rattle.ae_decide.proofs.ValueTests.{alike_of, of_alike, by_implied, implied,
 use Rattle.ae_system_checks.specs.Whole.{IsWhole}
 use Rattle.ae_system_checks.proofs.WholeValues.{decide_whole}
 use Rattle.ae_saturated.specs.Names.{is_choice, is_constructor, constructor_by, constructor_of, same_if_both, are_apart, is_one_of, choices_at, is_exhausted, is_int, is_whole_by, is_whole, has_whole}
-use Rattle.ae_saturated.proofs.Elements.{any_tells, by_any, differ}
+use Rattle.ae_base.proofs.Tests.{false_true}
+use Rattle.ae_saturated.proofs.Elements.{any_tells, by_any}
 
 -- the form of a value of a system is normal
 forms_number : (f : Lin) → forms_in (Number f) ≡ f ∷ []
@@ -56,7 +57,7 @@ normal_value sig y t v leaves e =
 -- a test that follows a property is its decision
 pub same_as : {P : Type 0} (d : Dec P) (b : Bool) → (b ≡ true) ↔ P → b ≡ decided d
 same_as d true e = sym (decided_of d (e.0 refl))
-same_as d false e = sym (decided_not d (λ p. differ (e.1 p)))
+same_as d false e = sym (decided_not d (λ p. false_true (e.1 p)))
 
 -- ---- constructors
 constructor_tells : (sig : Signature) (h : Head) → is_constructor sig h ≡ true → IsConstructor sig h
@@ -109,10 +110,6 @@ constructor_told sig t h e = go (out-Term t) refl e
     go (layer.Num a b r) d f = never_some h f
     go (layer.Fresh n s) d f = never_some h f
 
-or_right : (b : Bool) {c : Bool} → c ≡ true → b || c ≡ true
-or_right true h = refl
-or_right false h = h
-
 undone : (b c : Bool) → b || not c ≡ true → c ≡ true → b ≡ true
 undone true c e f = refl
 undone false true e f = absurd (cc)
@@ -139,7 +136,7 @@ module _ (sig : Signature) (y : System) (terms : HasTerms sig y) (leaves : HasLe
               let z = constructor_told sig u i b in
               let (v, m, n) = of_alike y terms.apart t u q in
               or_left _ _ (decided_of (Head_discrete h i) (f h i v x.1 z.1 (subst (λ w. ValueOf y w v) x.0 m) (subst (λ w. ValueOf y w v) z.0 n)))
-          by_alike false q = or_right (decided (Head_discrete h i)) refl
+          by_alike false q = or_right (decided (Head_discrete h i)) _ refl
       go (Some h) None a b = refl
       go None (Some i) a b = refl
       go None None a b = refl

@@ -1,7 +1,7 @@
 -- The tests of inequalities say `true` exactly where they hold at the point.
 use Rattle.std.proofs.Common.{drop, get_or, inl, inr}
 use Rattle.std.proofs.lemmas.List.{drop_more, drop_all}
-use Rattle.std.proofs.lemmas.Bool.{and_parts, and_from, or_cases, or_left}
+use Rattle.std.proofs.lemmas.Bool.{and_parts, and_from, or_cases, or_left, false_from_ne_true}
 use Rattle.std.specs.Prelude.{ℕ, ℤ, pos, ◌+◌, ◌<◌, ◌≤◌, Bool, true, false, cond, not, ◌&&◌, ◌||◌, nat_eq, ◌≡◌, ◌↔◌, ◌⊎◌, List, [], ◌∷◌, map, length, Option, Some, None}
 use mathlib.Core.Path.{refl, sym, ap, subst, ◌∙◌}
 use native.Mathlib.Decide.{ℕ_discrete}
@@ -30,7 +30,8 @@ use Rattle.ae_computing.specs.declared.values.Place.TheVariants.{Constant, Leaf}
 use Rattle.ae_computing.proofs.TotalLaws.{parts_over}
 use Rattle.ae_computing.proofs.TotalTests.{at_meaning, at_plus, at_scale, is_meaning, two_summands, total_tested}
 use Rattle.ae_saturated.specs.Order.{nothing, are_even, number_by, number_of, is_above, holds_at, holds_if, sides_hold, inequality_holds}
-use Rattle.ae_saturated.proofs.Elements.{untrue, not_by, falls, differ}
+use Rattle.ae_decide.proofs.NameTests.{denied}
+use Rattle.ae_base.proofs.Tests.{false_true, not_where}
 
 -- ---- the steps of the loops
 pub point_step : (ps : List PointAt) (i : ℕ) (d : PointAt) (n : ℕ) → i < length ps
@@ -118,7 +119,7 @@ by_even v w (a, b) = (even_tested v w).1 (zero_value ∙ (λ i. number (record {
 -- ---- two values
 holds_tells : (ps : List PointAt) (strict : Bool) (v w : Value) → holds_at ps strict v w ≡ true → HoldsAt ps strict (sum_in (difference v w))
 holds_tells ps strict v w e = elim (or_cases (not strict && are_even v w) (is_above ps v w) e) as (λ _. HoldsAt ps strict (sum_in (difference v w))) [
-  | inl q ↦ let a = and_parts (not strict) (are_even v w) q in inl (even_tells v w a.1, falls strict (untrue strict a.0))
+  | inl q ↦ let a = and_parts (not strict) (are_even v w) q in inl (even_tells v w a.1, false_from_ne_true strict (denied strict a.0))
   | inr r ↦ inr (ap is_positive (difference_at ps v w) ∙ r)
 ]
 

@@ -2,6 +2,7 @@
 use Rattle.std.specs.Prelude.{ℕ, Bool, true, false, ◌&&◌, ◌≡◌, List, [], ◌∷◌, ◌++◌}
 use Rattle.std.specs.List.{list_all}
 use mathlib.Core.Path.{refl, sym, ap, ◌∙◌}
+use Rattle.std.proofs.lemmas.List.Folds.{list_all-append}
 use Rattle.ae_core.proofs.Recursion.{fold_true, fold_false, fold_eq, fold_lt, fold_le, fold_pred, fold_not, fold_and, fold_or, fold_xor, fold_iff, fold_all, fold_ex}
 use Rattle.ae_core.specs.declared.formulas.Formula.{Formula, True, False, Eq, Lt, Le, Pred, Not, And, Or, Xor, Iff, All, Ex}
 use Rattle.ae_core.specs.declared.formulas.Quant.{Quant}
@@ -11,14 +12,6 @@ use Rattle.ae_core.specs.declared.terms.Term.{Term, Apply}
 use Rattle.ae_journal.specs.States.{outside, outside_step}
 use Rattle.ae_decide.specs.Names.{stands_in}
 use Rattle.ae_saturated.specs.Literals.{are_named}
-
-both_all : (t : Term → Bool) (xs ys : List Term) → list_all t (xs ++ ys) ≡ list_all t xs && list_all t ys
-both_all t [] ys = refl
-both_all t (x ∷ xs) ys = ap (λ b. t x && b) (both_all t xs ys) ∙ grouped (t x) (list_all t xs) (list_all t ys)
-  where
-    grouped : (a b c : Bool) → a && (b && c) ≡ a && b && c
-    grouped true b c = refl
-    grouped false b c = refl
 
 module _ (names : List Term) where
   of : (f : Formula) (ts : List Term) → outside f ≡ ts → are_named names f ≡ list_all (stands_in names) ts
@@ -67,25 +60,25 @@ module _ (names : List Term) where
   unfolding outside
   named-And a b =
       of (And a b) (outside a ++ outside b) (fold_and (List Term) (Unit {0}) outside_step (λ q. tt) a b)
-      ∙ both_all (stands_in names) (outside a) (outside b)
+      ∙ list_all-append (stands_in names) (outside a) (outside b)
 
   pub named-Or : (a b : Formula) → are_named names (Or a b) ≡ are_named names a && are_named names b
   unfolding outside
   named-Or a b =
       of (Or a b) (outside a ++ outside b) (fold_or (List Term) (Unit {0}) outside_step (λ q. tt) a b)
-      ∙ both_all (stands_in names) (outside a) (outside b)
+      ∙ list_all-append (stands_in names) (outside a) (outside b)
 
   pub named-Xor : (a b : Formula) → are_named names (Xor a b) ≡ are_named names a && are_named names b
   unfolding outside
   named-Xor a b =
       of (Xor a b) (outside a ++ outside b) (fold_xor (List Term) (Unit {0}) outside_step (λ q. tt) a b)
-      ∙ both_all (stands_in names) (outside a) (outside b)
+      ∙ list_all-append (stands_in names) (outside a) (outside b)
 
   pub named-Iff : (a b : Formula) → are_named names (Iff a b) ≡ are_named names a && are_named names b
   unfolding outside
   named-Iff a b =
       of (Iff a b) (outside a ++ outside b) (fold_iff (List Term) (Unit {0}) outside_step (λ q. tt) a b)
-      ∙ both_all (stands_in names) (outside a) (outside b)
+      ∙ list_all-append (stands_in names) (outside a) (outside b)
 
   pub named-All : (q : Quant) → are_named names (All q) ≡ true
   unfolding outside

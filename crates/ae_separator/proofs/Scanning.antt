@@ -1,5 +1,6 @@
 -- A scan, byte by byte, and what it comes to.
 use Rattle.std.proofs.Common.{ℕ, suc, ◌+◌, ◌≤◌, ◌<◌, get_or, ◌≡◌, ◌≢◌, ◌⊎◌, Bool, true, false, cond, nat_eq, List, [], ◌∷◌, ◌++◌, length, take, drop, refl, sym, ap, ◌∙◌, subst, inl, inr, arith, append_assoc, append-nil, length-append}
+use mathlib.Core.List.{cons≢nil}
 use Rattle.std.proofs.Math.Seq.{take-append_seam, drop-length}
 use Rattle.std.proofs.lemmas.List.{length-take, take-append-drop, take_all, take_more}
 use Rattle.std.proofs.lemmas.Bool.{eqb-true, eqb-false}
@@ -11,12 +12,9 @@ use Rattle.ae_separator.specs.declared.separator.Line.{Line}
 use Rattle.ae_separator.specs.declared.separator.Line.TheVariants.{Nothing, OneSign, TwoSigns, Other}
 
 -- ---- lists
-nil_cons : (x : ℕ) (xs : List ℕ) → x ∷ xs ≡ [] → ⊥
-nil_cons x xs e = let l : suc (length xs) ≡ 0 = ap length e in omega arith
-
-append_cons : (xs : List ℕ) (y : ℕ) (ys : List ℕ) → xs ++ y ∷ ys ≡ [] → ⊥
-append_cons [] y ys e = nil_cons y ys e
-append_cons (x ∷ xs) y ys e = nil_cons x (xs ++ y ∷ ys) e
+no_middle : {P : Type 0} (xs : List ℕ) (y : ℕ) (ys : List ℕ) → xs ++ y ∷ ys ≡ [] → P
+no_middle [] y ys e = absurd (cons≢nil e)
+no_middle (x ∷ xs) y ys e = absurd (cons≢nil e)
 
 heads : (x y : ℕ) (xs ys : List ℕ) → x ∷ xs ≡ y ∷ ys → (x ≡ y) × (xs ≡ ys)
 heads x y xs ys e = let p : x ≡ y = cc in let q : xs ≡ ys = cc in (p, q)
@@ -28,27 +26,27 @@ ends l (ended bs) = inr (bs, refl)
 -- the last bytes of two lists
 same_last : (xs ys : List ℕ) (x y : ℕ) → xs ++ x ∷ [] ≡ ys ++ y ∷ [] → x ≡ y
 same_last [] [] x y e = (heads x y [] [] e).0
-same_last [] (b ∷ ys) x y e = absurd (append_cons ys y [] (sym (heads x b [] (ys ++ y ∷ []) e).1))
-same_last (a ∷ xs) [] x y e = absurd (append_cons xs x [] (heads a y (xs ++ x ∷ []) [] e).1)
+same_last [] (b ∷ ys) x y e = absurd (no_middle ys y [] (sym (heads x b [] (ys ++ y ∷ []) e).1))
+same_last (a ∷ xs) [] x y e = absurd (no_middle xs x [] (heads a y (xs ++ x ∷ []) [] e).1)
 same_last (a ∷ xs) (b ∷ ys) x y e = same_last xs ys x y (heads a b (xs ++ x ∷ []) (ys ++ y ∷ []) e).1
 
 -- whole lines don't end with a sign
 no_sign_last : (l b : List ℕ) → AreLines l → l ≡ b ++ 37 ∷ [] → ⊥
 no_sign_last l b a e = elim (ends l a) [
-  | inl n ↦ append_cons b 37 [] (sym e ∙ n)
+  | inl n ↦ no_middle b 37 [] (sym e ∙ n)
   | inr m ↦ let s : 37 ≡ 10 = same_last b m.0 37 10 (sym e ∙ m.1) in omega (arith, s)
 ]
 
 -- an end stands in no list without one
 no_end_in : (own m r : List ℕ) → HasNoEnd own → own ≡ m ++ 10 ∷ r → ⊥
-no_end_in [] m r h e = append_cons m 10 r (sym e)
+no_end_in [] m r h e = no_middle m 10 r (sym e)
 no_end_in (x ∷ own) [] r h e = h.0 (heads x 10 own r e).0
 no_end_in (x ∷ own) (y ∷ m) r h e = no_end_in own m r h.1 (heads x y own (m ++ 10 ∷ r) e).1
 
 -- the first end of a line is its last byte
 no_end_before : (own m : List ℕ) (x : ℕ) (xs : List ℕ) → HasNoEnd own → own ++ 10 ∷ [] ≡ m ++ 10 ∷ x ∷ xs → ⊥
-no_end_before [] [] x xs h e = nil_cons x xs (sym (heads 10 10 [] (x ∷ xs) e).1)
-no_end_before [] (y ∷ m) x xs h e = append_cons m 10 (x ∷ xs) (sym (heads 10 y [] (m ++ 10 ∷ x ∷ xs) e).1)
+no_end_before [] [] x xs h e = cons≢nil (sym (heads 10 10 [] (x ∷ xs) e).1)
+no_end_before [] (y ∷ m) x xs h e = no_middle m 10 (x ∷ xs) (sym (heads 10 y [] (m ++ 10 ∷ x ∷ xs) e).1)
 no_end_before (o ∷ own) [] x xs h e = h.0 (heads o 10 (own ++ 10 ∷ []) (x ∷ xs) e).0
 no_end_before (o ∷ own) (y ∷ m) x xs h e = no_end_before own m x xs h.1 (heads o y (own ++ 10 ∷ []) (m ++ 10 ∷ x ∷ xs) e).1
 
@@ -57,16 +55,16 @@ only_end [] r n t = refl
 only_end (x ∷ xs) r n t = absurd (n.0 (heads x 10 (xs ++ 10 ∷ []) r t).0)
 
 own_is_two : (own r : List ℕ) → HasNoEnd own → own ++ 10 ∷ [] ≡ 37 ∷ 37 ∷ 10 ∷ r → own ≡ 37 ∷ 37 ∷ []
-own_is_two [] r h e = absurd (nil_cons 37 (10 ∷ r) (sym (heads 10 37 [] (37 ∷ 10 ∷ r) e).1))
-own_is_two (a ∷ []) r h e = absurd (nil_cons 10 r (sym (heads 10 37 [] (10 ∷ r) (heads a 37 (10 ∷ []) (37 ∷ 10 ∷ r) e).1).1))
+own_is_two [] r h e = absurd (cons≢nil (sym (heads 10 37 [] (37 ∷ 10 ∷ r) e).1))
+own_is_two (a ∷ []) r h e = absurd (cons≢nil (sym (heads 10 37 [] (10 ∷ r) (heads a 37 (10 ∷ []) (37 ∷ 10 ∷ r) e).1).1))
 own_is_two (a ∷ b ∷ own) r h e =
     let p = heads a 37 (b ∷ own ++ 10 ∷ []) (37 ∷ 10 ∷ r) e in
     let q = heads b 37 (own ++ 10 ∷ []) (10 ∷ r) p.1 in
     (λ i. p.0 i ∷ q.0 i ∷ own) ∙ ap (λ z. 37 ∷ 37 ∷ z) (only_end own r h.1.1 q.1)
 
 only_two : (l : Line) → LineIs l (37 ∷ 37 ∷ []) → l ≡ TwoSigns
-only_two Nothing e = absurd (nil_cons 37 (37 ∷ []) e)
-only_two OneSign e = absurd (nil_cons 37 [] (heads 37 37 (37 ∷ []) [] e).1)
+only_two Nothing e = absurd (cons≢nil e)
+only_two OneSign e = absurd (cons≢nil (heads 37 37 (37 ∷ []) [] e).1)
 only_two TwoSigns e = refl
 only_two Other e = absurd (e [] refl)
 
@@ -80,7 +78,7 @@ begun = record {
   are_lines = none;
   no_end = tt;
   is = refl;
-  none = λ b r a e. append_cons b 37 (37 ∷ 10 ∷ r) (sym e);
+  none = λ b r a e. no_middle b 37 (37 ∷ 10 ∷ r) (sym e);
 }
 
 no_end_more : (own : List ℕ) (b : ℕ) → HasNoEnd own → b ≢ 10 → HasNoEnd (own ++ b ∷ [])
@@ -98,7 +96,7 @@ two_more b own false e n = λ m same. eqb-false b 37 e (heads b 37 m [] (heads 3
 line_more : (l : Line) (own : List ℕ) (b : ℕ) → LineIs l own → LineIs (line_with l b) (own ++ b ∷ [])
 line_more Nothing own b h = one_more b own (nat_eq b 37) refl h
 line_more OneSign own b h = two_more b own (nat_eq b 37) refl h
-line_more TwoSigns own b h = λ m same. nil_cons b m (heads 37 37 (b ∷ m) [] (heads 37 37 (37 ∷ b ∷ m) (37 ∷ []) (ap (λ z. (z ++ b ∷ []) ++ m) (sym h) ∙ same)).1).1
+line_more TwoSigns own b h = λ m same. cons≢nil (heads 37 37 (b ∷ m) [] (heads 37 37 (37 ∷ b ∷ m) (37 ∷ []) (ap (λ z. (z ++ b ∷ []) ++ m) (sym h) ∙ same)).1).1
 line_more Other own b h = λ m same. h (b ∷ m) (sym (append_assoc own (b ∷ []) m) ∙ same)
 
 pub goes_on : (bytes : List ℕ) (begin : ℕ) (l : Line) (b : ℕ) → b ≢ 10 → Scanned bytes begin l → Scanned (bytes ++ b ∷ []) begin (line_with l b)
@@ -135,18 +133,18 @@ none_last_within lines b x (y ∷ []) rest a e f =
 none_last_within lines b x (y ∷ z ∷ m) rest a e f =
     let p = heads 37 x (37 ∷ []) (y ∷ z ∷ m ++ rest) f in
     let q = heads 37 y [] (z ∷ m ++ rest) p.1 in
-    nil_cons z (m ++ rest) (sym q.1)
+    cons≢nil (sym q.1)
 
 -- whole lines behind whole lines end
 lines_behind : (lines m : List ℕ) (y : ℕ) → AreLines (lines ++ y ∷ m) → (bs : List ℕ) × (y ∷ m ≡ bs ++ 10 ∷ [])
 lines_behind lines m y a = elim (ends (lines ++ y ∷ m) a) [
-  | inl n ↦ absurd (append_cons lines y m n)
+  | inl n ↦ absurd (no_middle lines y m n)
   | inr e ↦ go lines m y e.0 e.1
 ]
   where
     go : (l k : List ℕ) (z : ℕ) (bs : List ℕ) → l ++ z ∷ k ≡ bs ++ 10 ∷ [] → (cs : List ℕ) × (z ∷ k ≡ cs ++ 10 ∷ [])
     go [] k z bs e = (bs, e)
-    go (x ∷ l) k z [] e = absurd (append_cons l z k (heads x 10 (l ++ z ∷ k) [] e).1)
+    go (x ∷ l) k z [] e = absurd (no_middle l z k (heads x 10 (l ++ z ∷ k) [] e).1)
     go (x ∷ l) k z (b ∷ bs) e = go l k z bs (heads x b (l ++ z ∷ k) (bs ++ 10 ∷ []) e).1
 
 pub line_ends_here : (bytes : List ℕ) (begin : ℕ) (l : Line) → l ≢ TwoSigns → Scanned bytes begin l → Scanned (bytes ++ 10 ∷ []) (length bytes + 1) Nothing
@@ -174,8 +172,8 @@ line_ends_here bytes begin l not_two s = record {
 
 -- ---- what was found
 longer_within : (x : ℕ) (m own : List ℕ) → 37 ∷ 37 ∷ [] ≡ x ∷ m ++ 37 ∷ 37 ∷ own → ⊥
-longer_within x [] own e = nil_cons 37 own (sym (heads 37 37 [] (37 ∷ own) (heads 37 x (37 ∷ []) (37 ∷ 37 ∷ own) e).1).1)
-longer_within x (y ∷ m) own e = append_cons m 37 (37 ∷ own) (sym (heads 37 y [] (m ++ 37 ∷ 37 ∷ own) (heads 37 x (37 ∷ []) (y ∷ m ++ 37 ∷ 37 ∷ own) e).1).1)
+longer_within x [] own e = cons≢nil (sym (heads 37 37 [] (37 ∷ own) (heads 37 x (37 ∷ []) (37 ∷ 37 ∷ own) e).1).1)
+longer_within x (y ∷ m) own e = no_middle m 37 (37 ∷ own) (sym (heads 37 y [] (m ++ 37 ∷ 37 ∷ own) (heads 37 x (37 ∷ []) (y ∷ m ++ 37 ∷ 37 ∷ own) e).1).1)
 
 first_of_all : (lines own b a input : List ℕ) → AreLines lines → HasNone lines → input ≡ lines ++ 37 ∷ 37 ∷ own → Separates input b a → length lines ≤ length b
 first_of_all lines own b a input are none_there is (line before after c e) = elim (cuts lines before (37 ∷ 37 ∷ own) (37 ∷ 37 ∷ 10 ∷ after) (sym is ∙ e)) [
@@ -261,10 +259,10 @@ same_behind input b a c d n (line before after u e) (line before' after' u' e') 
     (t.0, (heads 10 10 after after' (heads 37 37 (10 ∷ after) (10 ∷ after') (heads 37 37 (37 ∷ 10 ∷ after) (37 ∷ 10 ∷ after') t.1).1).1).1)
 same_behind input b a c d n (line before after u e) (last before' u' e') =
     let t = same_fronts before before' (37 ∷ 37 ∷ 10 ∷ after) (37 ∷ 37 ∷ []) n (sym e ∙ e') in
-    absurd (nil_cons 10 after (heads 37 37 (10 ∷ after) [] (heads 37 37 (37 ∷ 10 ∷ after) (37 ∷ []) t.1).1).1)
+    absurd (cons≢nil (heads 37 37 (10 ∷ after) [] (heads 37 37 (37 ∷ 10 ∷ after) (37 ∷ []) t.1).1).1)
 same_behind input b a c d n (last before u e) (line before' after' u' e') =
     let t = same_fronts before before' (37 ∷ 37 ∷ []) (37 ∷ 37 ∷ 10 ∷ after') n (sym e ∙ e') in
-    absurd (nil_cons 10 after' (sym (heads 37 37 [] (10 ∷ after') (heads 37 37 (37 ∷ []) (37 ∷ 10 ∷ after') t.1).1).1))
+    absurd (cons≢nil (sym (heads 37 37 [] (10 ∷ after') (heads 37 37 (37 ∷ []) (37 ∷ 10 ∷ after') t.1).1).1))
 same_behind input b a c d n (last before u e) (last before' u' e') =
     let t = same_fronts before before' (37 ∷ 37 ∷ []) (37 ∷ 37 ∷ []) n (sym e ∙ e') in
     (t.0, refl)

@@ -465,9 +465,6 @@ module _ (sig : Signature) where
   pub lines_behind : (b : Lines) → lines.Fits b → (y : ℕ) × (ys : List ℕ) × (lines.text b ≡ y ∷ ys) × (nat_eq y 110 ≡ false) × NoneOf [] y
   lines_behind b f = let w = repeated_first line_code tt end_fits (NoneOf (110 ∷ [])) line_first b f in (w.0, w.1, w.2, w.3.0, w.3.1)
 
-  abbrev name_rest : List ℕ
-  name_rest = 97 ∷ 109 ∷ 101 ∷ 32 ∷ []
-
   abbrev pub Named : Type 0
   Named = (ts : List Term) × Lines
 

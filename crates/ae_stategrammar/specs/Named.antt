@@ -11,21 +11,19 @@ use Rattle.ae_codes.specs.Machines.{checked, machine}
 use Rattle.ae_codes.specs.Numbers.{Closed, Numbers, number, number_machine, digit_low}
 use Rattle.ae_codes.specs.Rising.{top}
 use Rattle.ae_codes.specs.Rows.{alone}
+use Rattle.ae_prooftext.specs.SortTexts.{blank}
 use Rattle.ae_stategrammar.specs.Choices.{if_some, left_fits, right_fits, fits_left, fits_right}
 use Rattle.ae_stategrammar.specs.Numbered.{EachStep, numbered, numbered_first, numbered_fits, numbered_spelled, numbered_texts}
 
 -- ---- one number, and a blank
-abbrev pub is_blank : ℕ → Bool
-is_blank x = nat_eq x 32
-
-pub blank_apart : (x : ℕ) → is_digit x ≡ true → is_blank x ≡ false
+pub blank_apart : (x : ℕ) → is_digit x ≡ true → blank x ≡ false
 blank_apart x d = let l = digit_low x d in ne_eqb x 32 (λ e. omega arith)
 
 pub exact_bound : (n : ℕ) → n ≤ top → (m : ℕ) → IsTrue (nat_eq m n) → m ≤ limit
 exact_bound n l m h = let e = eqb-true m n h in omega (arith, e, l)
 
 abbrev pub exactly : (n : ℕ) → n ≤ top → Numbers
-exactly n l = passing (λ m. nat_eq m n) (exact_bound n l) is_blank blank_apart (n, eq-eqb n n refl) (32, refl)
+exactly n l = passing (λ m. nat_eq m n) (exact_bound n l) blank blank_apart (n, eq-eqb n n refl) (32, refl)
 
 pub exactly_is : (n : ℕ) (l : n ≤ top) (v : Closed) → (number (exactly n l)).Fits v → v ≡ (n, 32)
 unfolding number checked machine number_machine passing passing_by

@@ -133,9 +133,6 @@ unfolding whole one both alone words machine number_machine
 upper_spelled (pos n) = refl
 upper_spelled (negsuc n) = refl
 
-bottom_text : (z : ℤ) (n : ℕ) → pos n ≡ z → decimal n ≡ signed_decimal z
-bottom_text z n e = ap signed_decimal e
-
 abbrev opening : List ℕ
 opening = 112 ∷ 111 ∷ 105 ∷ 110 ∷ 116 ∷ 32 ∷ []
 
@@ -158,7 +155,7 @@ point_spelled p f =
     ∙ ap (λ z. opening ++ ((decimal p.name ++ 32 ∷ []) ++ (z ++ (lower (size_of (integer_from (p.top, 47)))).text (unsigned_abs p.bottom, 10)))) (upper_spelled p.top)
     ∙ ap (λ z. opening ++ ((decimal p.name ++ 32 ∷ []) ++ ((signed_decimal p.top ++ 47 ∷ []) ++ z))) (lower_spelled (size_of (integer_from (p.top, 47))) (unsigned_abs p.bottom, 10))
     ∙ regroup (decimal p.name) (signed_decimal p.top) (decimal (unsigned_abs p.bottom))
-    ∙ ap (λ z. opening ++ decimal p.name ++ 32 ∷ [] ++ signed_decimal p.top ++ 47 ∷ [] ++ z ++ 10 ∷ []) (bottom_text p.bottom (unsigned_abs p.bottom) (ap (λ q. q.bottom) f.1))
+    ∙ ap (λ z. opening ++ decimal p.name ++ 32 ∷ [] ++ signed_decimal p.top ++ 47 ∷ [] ++ z ++ 10 ∷ []) (ap (λ q. signed_decimal q.bottom) f.1)
 
 -- ---- which points have a text: those of names of 64 bits, in lowest terms, within the limits
 pub record PointStands (p : PointAt) : Type 0 where

@@ -20,7 +20,7 @@ use Rattle.ae_core.specs.declared.terms.Head.TheVariants as head
 use Rattle.ae_core.specs.declared.terms.Op.TheVariants as op
 use Rattle.ae_core.specs.declared.terms.Sort.{Sort}
 use Rattle.ae_prooftext.specs.Clauses.{sorts, sorts_spelled}
-use Rattle.ae_prooftext.specs.SortTexts.{fine, fine_word, blank, blank_end, some_type, SomeType}
+use Rattle.ae_prooftext.specs.SortTexts.{fine, fine_word, blank, blank_end, is_bracket, some_type, SomeType}
 use Rattle.ae_prooftext.specs.Texts.{sort_text}
 use Rattle.ae_prooftext.specs.Words.{type_names, head_word, takes_sorts, symbol_name, has_variables, symbols, named}
 use Rattle.ae_prooftext.specs.WordLaws.{named_back, named_passes, filtered_pass}
@@ -62,9 +62,6 @@ sorted_of sig w = named (symbol_name sig) 0 (sorted_symbols sig) w
 -- ---- the code of a symbol, with the blank behind it
 abbrev pub is_letter : ℕ → Bool
 is_letter x = nat_lt 64 x
-
-abbrev pub is_bracket : ℕ → Bool
-is_bracket x = nat_eq x 40
 
 abbrev pub is_i : ℕ → Bool
 is_i x = nat_eq x 105

@@ -14,8 +14,9 @@ use Rattle.ae_formulareader.proofs.FormulaReading.{word_is}
 use Rattle.ae_readers.specs.Readers.{after_read, fixed_read, step_read, wide_or}
 use Rattle.ae_readers.proofs.Combinators.{after_after, after_same, mapped_is, both_is, one_is, one_none, on_side}
 use Rattle.ae_stategrammar.specs.Choices.{if_some, right_of}
+use Rattle.ae_prooftext.specs.SortTexts.{blank}
 use Rattle.ae_stategrammar.specs.Named as named
-use Rattle.ae_stategrammar.specs.Named.{exactly, exact_bound, is_blank, line, raw_line, line_back, line_begins, rest_begins, numbered_step, room}
+use Rattle.ae_stategrammar.specs.Named.{exactly, exact_bound, line, raw_line, line_back, line_begins, rest_begins, numbered_step, room}
 use Rattle.ae_stategrammar.specs.Numbered.{numbered, numbered_layers, numbered_to, numbered_from, numbered_back, rest_plan, of_rest, any_shape, sure_end}
 use Rattle.ae_statereader.specs.Items.{exact_span, exact_read}
 use Rattle.ae_statereader.specs.Lines.{starts}
@@ -37,7 +38,7 @@ blank_by false c = refl
 
 exact_digits : (n : ℕ) (l : n ≤ top) (r : List ℕ) → run (number_step (exactly n l)) r no_digit ≡ span_digits (exact_span n) r no_digit
 unfolding passing passing_by
-exact_digits n l r = same_digits (λ m. nat_eq m n) (lies n n) (lives (λ m. nat_eq m n) (exact_bound n l)) (goes (exact_span n)) (λ m x. is_blank x) (may_close (exact_span n))
+exact_digits n l r = same_digits (λ m. nat_eq m n) (lies n n) (lives (λ m. nat_eq m n) (exact_bound n l)) (goes (exact_span n)) (λ m x. blank x) (may_close (exact_span n))
     (one_of n) (λ m. lives_are (λ m. nat_eq m n) (exact_bound n l) n n (omega arith) (one_of n) m) (λ m x. blank_by (nat_eq x 32) (nat_le m top)) r no_digit
 
 exact_is : (n : ℕ) (l : n ≤ top) (r : List ℕ) → (number (exactly n l)).read r ≡ exact_read n r

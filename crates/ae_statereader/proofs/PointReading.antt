@@ -1,5 +1,6 @@
 -- Points as the grammar reads them.
 use Rattle.std.proofs.Common.{ℕ, pos, suc, ◌+◌, ◌*◌, ◌-◌, ◌≤◌, ◌<◌, Bool, true, false, ◌&&◌, ◌||◌, nat_eq, nat_lt, List, [], ◌∷◌, ◌++◌, ◌≡◌, ◌≢◌, length, drop, refl, sym, ap, ◌∙◌, append_assoc, arith}
+use Rattle.std.proofs.Math.Bool.{or_self}
 use Rattle.std.proofs.Math.Seq.{drop-append_seam}
 use Rattle.std.proofs.lemmas.List.{length-drop, drop-drop}
 use mathlib.Core.Logic.{inl, inr}
@@ -23,17 +24,13 @@ use Rattle.ae_statereader.proofs.NumberedReading.{word_then}
 use Rattle.ae_termreader.proofs.SortReading.{both_then, byte_then}
 use Rattle.ae_valuereader.proofs.Spanning.{same_digits}
 
-or_self : (b : Bool) → b ≡ b || b
-or_self true = refl
-or_self false = refl
-
 -- ---- the number above the stroke: the end of a line, which `or_line` lets close it, is wrong there
 abbrev or_line : ℕ → Bool
 or_line = or_stroke true by_line
 
 line_or : (x : ℕ) → or_line x ≡ nat_eq x 47 || nat_eq x 10
 unfolding by_line
-line_or x = ap (λ b. nat_eq x 47 || b) (sym (or_self (nat_eq x 10)))
+line_or x = ap (λ b. nat_eq x 47 || b) (or_self (nat_eq x 10))
 
 no_figure : (x : ℕ) → nat_eq x 10 ≡ true → is_digit x ≡ false
 no_figure x e = by (is_digit x) refl
@@ -91,7 +88,7 @@ module _ (low high : ℕ) where
 -- ---- the number below it
 lower_is : (n : ℕ) (bytes : List ℕ) → (lower n).read bytes ≡ below_digits n by_line bytes no_digit
 unfolding machine number_machine denominators passing passing_by can_live by_line
-lower_is n bytes = same_digits (lowest n) (lowest n) (lives (lowest n) (lowest_bound n)) (can_live n) (λ m x. is_end x) (λ m x. closers by_line.one by_line.two x) (λ m. refl) (λ m. refl) (λ m x. or_self (nat_eq x 10)) bytes no_digit
+lower_is n bytes = same_digits (lowest n) (lowest n) (lives (lowest n) (lowest_bound n)) (can_live n) (λ m x. is_end x) (λ m x. closers by_line.one by_line.two x) (λ m. refl) (λ m. refl) (λ m x. sym (or_self (nat_eq x 10))) bytes no_digit
 
 -- ---- a fraction
 module _ {C : Type 0} (F : Fraction → List ℕ → Read C) where

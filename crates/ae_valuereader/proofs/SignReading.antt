@@ -1,6 +1,7 @@
 -- Whole numbers with a sign, as the grammar reads them.
 use Rattle.std.proofs.Common.{ℕ, suc, length, arith, Bool, true, false, ◌&&◌, ◌||◌, cond, nat_eq, List, [], ◌∷◌, ◌≡◌, refl, ap, ◌∙◌}
 use mathlib.Core.Logic.{inl, inr}
+use Rattle.std.proofs.Math.Bool.{or-false}
 use Rattle.std.proofs.lemmas.Bool.{eqb-true}
 use Rattle.ae_codes.specs.Codes.{Read, got, stops, Code, both, mapped, words, wide_digits}
 use Rattle.ae_codes.specs.Integers.{IntegerEnd, Whole, integer_to, integer_from, wide_whole, whole_is_wide}
@@ -94,14 +95,10 @@ module _ (p m : Numbers) (positive : IsPositive m) where
   told true b bytes r = refl
   told false b bytes r = refl
 
-  or_none : (b : Bool) → b || false ≡ b
-  or_none true = refl
-  or_none false = refl
-
   by_first : (b : Bool) (x : ℕ) (xs : List ℕ) → nat_eq x 45 ≡ b → wide_or (wide_digits (x ∷ xs) || (b && wide_digits xs)) (x ∷ xs) (cond b (of_sign true xs) (of_sign false (x ∷ xs))) ≡ signed_by b x xs
   by_first true x xs e = let s = eqb-true x 45 e in
       ap (λ z. wide_or (wide_digits (z ∷ xs) || wide_digits xs) (x ∷ xs) (of_sign true xs)) s ∙ told (wide_digits xs) true (x ∷ xs) xs
-  by_first false x xs e = ap (λ b. wide_or b (x ∷ xs) (of_sign false (x ∷ xs))) (or_none (wide_digits (x ∷ xs))) ∙ told (wide_digits (x ∷ xs)) false (x ∷ xs) (x ∷ xs)
+  by_first false x xs e = ap (λ b. wide_or b (x ∷ xs) (of_sign false (x ∷ xs))) (or-false (wide_digits (x ∷ xs))) ∙ told (wide_digits (x ∷ xs)) false (x ∷ xs) (x ∷ xs)
 
   pub integer_is : (bytes : List ℕ) → (integer p m positive).read bytes ≡ signed_read digits_by bytes
   integer_is [] = integer_turn [] ∙ whole_none

@@ -24,7 +24,7 @@ use Rattle.ae_valuereader.specs.Values.{field_rows, name_read, compound_by, comp
 use Rattle.ae_valuetext.specs.Lins.{lin_body}
 use Rattle.ae_valuetext.specs.Values as values
 use Rattle.ae_valuetext.specs.Values.{ValueEnd, ValueInner, value, value_is_shaped, value_shape, value_sure, value_layers, value_plan, value_to, value_from, value_back, raw_value, RawValue, bracket, bracket_begins}
-use Rattle.ae_valuetext.specs.Values.{is_bracket, name_plan, name_begins, Compound, compound, colon_fields, named_lin, fields_begin, lin_begins, is_colon, lin_word, value_inside, inside_shaped, bracket_last, fields_plan}
+use Rattle.ae_valuetext.specs.Values.{name_plan, name_begins, Compound, compound, colon_fields, named_lin, fields_begin, lin_begins, is_colon, lin_word, value_inside, inside_shaped, fields_plan}
 
 -- ---- rows read alike, whatever is known of their values
 same_rows : {X : Type 0} (last : ℕ) (other : nat_eq last 32 ≡ false) (item : Code ((x : X) × ℕ)) (x0 : X) (h h' : Shaped (ItemShape last) (x0, last) item) (bytes : List ℕ)
@@ -39,7 +39,7 @@ shapes = value_is_shaped
 -- ---- the values of fields
 fields_are : (bytes : List ℕ) → (fields_plan.make value shapes).read bytes ≡ behind_read 41 field_rows bytes
 unfolding field_rows
-fields_are bytes = following_is {T = λ k. ValueEnd} value_shape value_sure 41 bracket_last value_inside (Leaf 0) inside_shaped value shapes bytes
+fields_are bytes = following_is {T = λ k. ValueEnd} value_shape value_sure 41 refl value_inside (Leaf 0) inside_shaped value shapes bytes
 
 abbrev fields_code : Code ((u : Unit {0}) × List Value)
 fields_code = colon_fields.make value shapes
@@ -125,8 +125,8 @@ module _ (k : Close) where
 
   raw_is : (bytes : List ℕ) → after_read (raw_code.read bytes) made ≡ value_turn k bytes
   unfolding choice fixed
-  raw_is [] = ap (λ r. after_read r made) (one_none is_bracket bracket_code (number (sizes k)) (bracket_begins k value shapes) (name_begins k value shapes))
-  raw_is (x ∷ xs) = ap (λ r. after_read r made) (one_is is_bracket bracket_code (number (sizes k)) (bracket_begins k value shapes) (name_begins k value shapes) x xs) ∙ side_is (nat_eq x 40) x xs refl
+  raw_is [] = ap (λ r. after_read r made) (one_none (λ x. nat_eq x 40) bracket_code (number (sizes k)) (bracket_begins k value shapes) (name_begins k value shapes))
+  raw_is (x ∷ xs) = ap (λ r. after_read r made) (one_is (λ x. nat_eq x 40) bracket_code (number (sizes k)) (bracket_begins k value shapes) (name_begins k value shapes) x xs) ∙ side_is (nat_eq x 40) x xs refl
 
   pub value_is : (bytes : List ℕ) → (value k).read bytes ≡ value_turn k bytes
   unfolding value sends
@@ -139,7 +139,7 @@ module _ (k : Close) where
 -- ---- rows of fields
 field_turn : (bytes : List ℕ) → row_read field_rows bytes ≡ after_read ((value round).read bytes) (λ v rest. more_read (nat_eq v.1 32) v.0 (row_read field_rows rest) rest)
 unfolding field_rows inside
-field_turn bytes = row_turn 41 bracket_last (value round) (Leaf 0) (inside_shaped value value_is_shaped) bytes
+field_turn bytes = row_turn 41 refl (value round) (Leaf 0) (inside_shaped value value_is_shaped) bytes
 
 -- as far as a loop over values has come
 module _ (text : List ℕ) (from at : ℕ) (xs : List Value) (so_far : row_read field_rows (drop from text) ≡ before xs (row_read field_rows (drop at text))) where

@@ -1,5 +1,6 @@
 -- How a value is read, by its first bytes. What stands inside is read by the grammar's own code.
 use Rattle.std.specs.Prelude.{ℕ, Bool, true, false, nat_eq, List, [], ◌∷◌}
+use mathlib.Core.Path.{refl}
 use Rattle.ae_codes.specs.Closers.{Close, round, sizes}
 use Rattle.ae_codes.specs.Codes.{Code, Read, got, stops}
 use Rattle.ae_codes.specs.Numbers.{number}
@@ -8,12 +9,12 @@ use Rattle.ae_codes.specs.Rows.{Row, rows}
 use Rattle.ae_num.specs.declared.forms.Value.{Value, Leaf, Number, Fields}
 use Rattle.ae_readers.specs.Readers.{after_read, behind_read, closing_read, fixed_read}
 use Rattle.ae_valuereader.specs.Forms.{body_read}
-use Rattle.ae_valuetext.specs.Values.{ValueEnd, value, value_is_shaped, inside_shaped, bracket_last}
+use Rattle.ae_valuetext.specs.Values.{ValueEnd, value, value_is_shaped, inside_shaped}
 
 -- the values of fields
 unfoldable pub field_rows : Code (Row Value)
 unfolding value inside
-field_rows = rows 41 bracket_last (value round) (Leaf 0) (inside_shaped value value_is_shaped)
+field_rows = rows 41 refl (value round) (Leaf 0) (inside_shaped value value_is_shaped)
 
 abbrev pub name_read : Close → List ℕ → Read ValueEnd
 name_read k bytes = after_read ((number (sizes k)).read bytes) (λ v rest. got (Leaf v.0, v.1) rest)

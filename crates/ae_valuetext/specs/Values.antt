@@ -54,11 +54,8 @@ pub inside_shaped : (c : ValueCodes) (h : ValueInner c) → Shaped (ItemShape 41
 unfolding inside round
 inside_shaped c h = record { form = λ v f. let s = (h round).form v f in (closes_round 32 41 v.1 s.0, s.1); has = (h round).has }
 
-pub bracket_last : nat_eq 41 32 ≡ false
-bracket_last = refl
-
 abbrev pub fields_plan : ValuePlan (List Value)
-fields_plan = following {T = λ k. ValueEnd} value_shape value_sure 41 bracket_last value_inside (Leaf 0) inside_shaped
+fields_plan = following {T = λ k. ValueEnd} value_shape value_sure 41 refl value_inside (Leaf 0) inside_shaped
 
 abbrev pub colon : ValuePlan (Unit {0})
 colon = fixed {T = λ k. ValueEnd} value_shape value_sure (alone tt (58 ∷ []))
@@ -109,14 +106,11 @@ name_code k = number (sizes k)
 abbrev pub name_plan : Close → ValuePlan Closed
 name_plan k = fixed {T = λ k. ValueEnd} value_shape value_sure (name_code k)
 
-abbrev pub is_bracket : ℕ → Bool
-is_bracket x = nat_eq x 40
-
-pub bracket_begins : (k : Close) (c : ValueCodes) (h : ValueInner c) → Begins ((bracket k).make c h) is_bracket true
+pub bracket_begins : (k : Close) (c : ValueCodes) (h : ValueInner c) → Begins ((bracket k).make c h) (λ x. nat_eq x 40) true
 unfolding sequence fixed both alone words
 bracket_begins k c h a f = (40, _, refl, refl)
 
-figure_first : (w : List ℕ) → StartsNumeral w → (x : ℕ) × (xs : List ℕ) × (w ≡ x ∷ xs) × (is_bracket x ≡ false)
+figure_first : (w : List ℕ) → StartsNumeral w → (x : ℕ) × (xs : List ℕ) × (w ≡ x ∷ xs) × (nat_eq x 40 ≡ false)
 figure_first [] s = absurd s
 figure_first (x ∷ w) s = (
   x,
@@ -132,7 +126,7 @@ name_starts : (k : Close) (v : Closed) → (name_code k).Fits v → StartsNumera
 unfolding number checked
 name_starts k v f = starts (sizes k) v f
 
-pub name_begins : (k : Close) (c : ValueCodes) (h : ValueInner c) → Begins ((name_plan k).make c h) is_bracket false
+pub name_begins : (k : Close) (c : ValueCodes) (h : ValueInner c) → Begins ((name_plan k).make c h) (λ x. nat_eq x 40) false
 unfolding fixed
 name_begins k c h a f = figure_first ((name_code k).text a) (name_starts k a f)
 
@@ -140,14 +134,14 @@ abbrev pub RawValue : Type 0
 RawValue = Bracket ⊎ Closed
 
 abbrev pub raw_value : Close → ValuePlan RawValue
-raw_value k = choice {T = λ k. ValueEnd} value_shape value_sure is_bracket (bracket k) (name_plan k) (bracket_begins k) (name_begins k)
+raw_value k = choice {T = λ k. ValueEnd} value_shape value_sure (λ x. nat_eq x 40) (bracket k) (name_plan k) (bracket_begins k) (name_begins k)
 
 opening_long : (c : ValueCodes) (h : ValueInner c) (u : Unit {0}) → (opening.make c h).Fits u → 1 ≤ length ((opening.make c h).text u)
 unfolding fixed alone words
 opening_long c h u f = omega arith
 
 pub raw_tight : (k : Close) → Tight {T = λ k. ValueEnd} value_shape value_sure (raw_value k)
-raw_tight k = choice_tight {T = λ k. ValueEnd} value_shape value_sure is_bracket (bracket k) (name_plan k) (bracket_begins k) (name_begins k)
+raw_tight k = choice_tight {T = λ k. ValueEnd} value_shape value_sure (λ x. nat_eq x 40) (bracket k) (name_plan k) (bracket_begins k) (name_begins k)
     (sequence_tight {T = λ k. ValueEnd} value_shape value_sure opening _ (fixed_tight {T = λ k. ValueEnd} value_shape value_sure (alone tt (40 ∷ []))) opening_long)
     (fixed_tight {T = λ k. ValueEnd} value_shape value_sure (name_code k))
 
@@ -217,7 +211,7 @@ module _ (k : Close) where
       ∙ ap (λ z. z ++ e ∷ []) (lin_in l (f.1.0.1) ∙ sym (fold-roll-Value (List ℕ) value_step (layer.Number l)))
   layer_spelled c h (layer.Fields vs) e f =
       ap (λ z. (40 ∷ 58 ∷ fields_plan.spell value_ends vs) ++ z) (closing_text (closers k.one k.two) (close_end k) e)
-      ∙ ap (λ z. (40 ∷ 58 ∷ z) ++ e ∷ []) (following_spelled {T = λ k. ValueEnd} value_shape value_sure 41 bracket_last value_inside (Leaf 0) inside_shaped value_ends value_text item_spelled vs)
+      ∙ ap (λ z. (40 ∷ 58 ∷ z) ++ e ∷ []) (following_spelled {T = λ k. ValueEnd} value_shape value_sure 41 refl value_inside (Leaf 0) inside_shaped value_ends value_text item_spelled vs)
       ∙ ap (λ z. (40 ∷ z) ++ e ∷ []) (fields_are (map value_text vs))
       ∙ ap (λ z. z ++ e ∷ []) (sym (fold-roll-Value (List ℕ) value_step (layer.Fields vs)))
 
@@ -306,13 +300,13 @@ abbrev item_shape : Shaped (ItemShape 41) (Leaf 0, 41) item
 item_shape = inside_shaped value value_is_shaped
 
 each_in_row : (x : Value) (xs : List Value) → AllByRecursion InRow (x ∷ xs)
-    → EachFits 41 bracket_last item (item_closes 41 bracket_last item (Leaf 0) item_shape) (Leaf 0) (item_shape.has) (item_long 41 bracket_last item (Leaf 0) item_shape) (list_row x xs)
+    → EachFits 41 refl item (item_closes 41 refl item (Leaf 0) item_shape) (Leaf 0) (item_shape.has) (item_long 41 refl item (Leaf 0) item_shape) (list_row x xs)
 unfolding inside
 each_in_row x [] a = a.0.1
 each_in_row x (y ∷ ys) a = (a.0.0, each_in_row y ys a.1)
 
-row_of : (x : Value) (xs : List Value) → AllByRecursion InRow (x ∷ xs) → (rows 41 bracket_last item (Leaf 0) item_shape).Fits (list_row x xs)
-row_of x xs a = row_fits 41 bracket_last item (item_closes 41 bracket_last item (Leaf 0) item_shape) (Leaf 0) (item_shape.has) (item_long 41 bracket_last item (Leaf 0) item_shape) (list_row x xs) (each_in_row x xs a)
+row_of : (x : Value) (xs : List Value) → AllByRecursion InRow (x ∷ xs) → (rows 41 refl item (Leaf 0) item_shape).Fits (list_row x xs)
+row_of x xs a = row_fits 41 refl item (item_closes 41 refl item (Leaf 0) item_shape) (Leaf 0) (item_shape.has) (item_long 41 refl item (Leaf 0) item_shape) (list_row x xs) (each_in_row x xs a)
 
 fields_fit : (vs : List Value) → AllByRecursion InRow vs → (fields_plan.make value value_is_shaped).Fits vs
 unfolding following sends mapped choice sequence fixed one both alone words in_row

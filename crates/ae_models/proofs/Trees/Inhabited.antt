@@ -3,6 +3,7 @@ use Rattle.std.specs.Prelude.{ℕ, zero, suc, ◌<◌, pos, Bool, true, false, c
 use Rattle.std.specs.Prelude.{Option, Some, None}
 use Rattle.std.specs.List.{AllByRecursion, list_all, list_any}
 use Rattle.std.proofs.Common.{refl, sym, ap, ◌∙◌, subst, true≢false, arith}
+use Rattle.std.proofs.Math.Bool.{or-true}
 use Rattle.std.proofs.lemmas.Bool.{and_parts, eqb-true, ltb-true}
 use Rattle.std.proofs.lemmas.List.{length-map, nil_from_length}
 use Rattle.std.proofs.lemmas.List.Folds.{list_all-map}
@@ -35,15 +36,11 @@ use Rattle.ae_models.proofs.Trees.Wholes.{whole_or_not}
 use Rattle.ae_models.proofs.Trees.Shapes.{tuple, layer_fits, fits, no_sorts, nowhere, kind_takes, layer_takes, kind_fields, record_fields, is_record}
 use Rattle.ae_models.proofs.Trees.Shapes.{measured, tree_sort, sorted_value, all_fit, all_fit_more}
 
-or_true : (b : Bool) → b || true ≡ true
-or_true true = refl
-or_true false = refl
-
 -- a number of a list is one of it
 pub is_among : (cs : List ℕ) (k c : ℕ) → slice_get cs k ≡ Some c → list_any (nat_eq c) cs ≡ true
 is_among [] k c e = never_some c e
 is_among (d ∷ cs) zero c e = (λ i. nat_eq c (same_Some d c e i) || list_any (nat_eq c) cs) ∙ ap (λ b. b || list_any (nat_eq c) cs) (nat_eq_itself c)
-is_among (d ∷ cs) (suc k) c e = ap (λ b. nat_eq c d || b) (is_among cs k c e) ∙ or_true (nat_eq c d)
+is_among (d ∷ cs) (suc k) c e = ap (λ b. nat_eq c d || b) (is_among cs k c e) ∙ or-true (nat_eq c d)
 
 names_below_named : (n h : ℕ) (ss : List Sort) → names_below n (Named h ss) ≡ nat_lt h n && list_all (names_below n) ss
 unfolding names_below

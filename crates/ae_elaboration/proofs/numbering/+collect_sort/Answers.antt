@@ -2,7 +2,8 @@ use Rattle.std.proofs.Common.{arith, ◌≡◌, ◌∙◌, List, take, ap, sym}
 use Rattle.std.proofs.lemmas.List.{take_all}
 use Rattle.ae_core.specs.declared.terms.Sort.{Sort}
 use Rattle.ae_elab.specs.Numbering.{open_sorts, once_more}
-use Rattle.ae_elaboration.proofs.CollectLaws.{opened, flat_of_map, sort_next}
+use Rattle.ae_elaboration.proofs.CollectLaws.{opened, sort_next}
+use Rattle.ae_elab.proofs.SortsIn.{joined}
 use Rattle.ae_elab.proofs.NumberRules.{open_named}
 use Rattle.ae_elaboration.proofs.numbering.+collect_sort.Goals as goal
 
@@ -18,4 +19,4 @@ returns-after-loop-arg t c =
     take_all c.loop-arg.arg-index c.as_slice-arg-items.result.now (omega arith) ∙ c.as_slice-arg-items.ensures in
     c.loop-arg.invariant
     ∙ ap (λ (ss : List Sort). once_more old (opened ss)) e
-    ∙ ap (once_more old) (sym (flat_of_map open_sorts c.in-Named.args) ∙ sym (open_named _ c.in-Named.args) ∙ ap open_sorts (sym c.in-Named.is))
+    ∙ ap (once_more old) (sym (joined open_sorts c.in-Named.args) ∙ sym (open_named _ c.in-Named.args) ∙ ap open_sorts (sym c.in-Named.is))

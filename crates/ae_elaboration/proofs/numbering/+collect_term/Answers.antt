@@ -4,7 +4,8 @@ use Rattle.std.proofs.lemmas.List.{append-nil, take_all}
 use Rattle.ae_core.specs.declared.terms.Sort.{Sort}
 use Rattle.ae_core.specs.declared.terms.Term.{Term}
 use Rattle.ae_elab.specs.Numbering.{once_more, open_sorts, sorts_in_term}
-use Rattle.ae_elaboration.proofs.CollectLaws.{opened, flat_of_map, collected, part_next}
+use Rattle.ae_elaboration.proofs.CollectLaws.{opened, collected, part_next}
+use Rattle.ae_elab.proofs.SortsIn.{joined}
 use Rattle.ae_elab.proofs.NumberRules.{in_apply, in_fresh}
 use Rattle.ae_elaboration.proofs.numbering.+collect_term.Goals as goal
 
@@ -26,7 +27,7 @@ returns-after-loop-arg t c =
     c.loop-arg.invariant ∙ ap (λ (z : List Term). once_more mid (opened (flat_map sorts_in_term z))) e in
     collected old mid c.loop-arg.variables ss (flat_map sorts_in_term us) first second
     ∙ ap (λ (z : List Sort). once_more old (opened z))
-    (ap (λ (z : List Sort). ss ++ z) (sym (flat_of_map sorts_in_term us)) ∙ sym (in_apply _ ss us) ∙ ap sorts_in_term (sym c.in-Apply.is))
+    (ap (λ (z : List Sort). ss ++ z) (sym (joined sorts_in_term us)) ∙ sym (in_apply _ ss us) ∙ ap sorts_in_term (sym c.in-Apply.is))
 
 pub returns-in_ok-collect_sort-in-Fresh : goal.returns-in_ok-collect_sort-in-Fresh
 returns-in_ok-collect_sort-in-Fresh t c =

@@ -6,7 +6,8 @@ use Rattle.ae_lifting.specs.declared.cases.Cases as held
 use Rattle.ae_lifting.specs.Lifting.{cases_of, said_of}
 use Rattle.ae_lifting.specs.declared.cases.Atom.TheVariants.{Relation}
 use Rattle.ae_lifting.specs.Inner.Answered.{IsRelation}
-use Rattle.ae_lifting.proofs.LiftingLaws.{of_value, of_both}
+use Rattle.std.proofs.lemmas.Result.{IfOk-at_ok}
+use Rattle.ae_lifting.proofs.LiftingLaws.{of_both}
 use Rattle.ae_lifting.proofs.cases.compared.Goals as goal
 
 pub returns : goal.returns
@@ -19,6 +20,6 @@ returns c =
     (λ f. f ≡ formula_of (left |> λ us. right |> λ vs. said (us ++ vs)))
     (λ f w.
     w.2
-    ∙ ap (λ (z : Cases (List Term)). formula_of (z |> said)) (of_value (λ (cs : held.Cases). cases_of cs ≡ terms) c.followed-terms.result w.0 w.1 c.followed-terms.ensures)
+    ∙ ap (λ (z : Cases (List Term)). formula_of (z |> said)) (IfOk-at_ok (λ (cs : held.Cases). cases_of cs ≡ terms) w.1 c.followed-terms.ensures)
     ∙ ap formula_of (of_both left right said))
     c.relation_lifted.ensures

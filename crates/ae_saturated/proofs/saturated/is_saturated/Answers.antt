@@ -4,7 +4,7 @@ use Rattle.ae_journal.specs.Systems.{IsCompleted}
 use Rattle.ae_saturated.specs.Firsts.{none_generic}
 use Rattle.ae_saturated.specs.Literals.{is_closed}
 use Rattle.ae_saturated.specs.State.{state_fits}
-use Rattle.ae_saturated.proofs.Elements.{differ}
+use Rattle.ae_base.proofs.Tests.{false_true}
 use Rattle.ae_saturated.proofs.FirstTests.{open_literal, open_axiom}
 use Rattle.ae_saturated.proofs.StateTests.{told_yes, told_no, not_completed}
 use Rattle.ae_saturated.proofs.saturated.is_saturated.Goals as goal
@@ -24,7 +24,7 @@ returns-then-not-completed c =
     let closed : list_all is_closed c.args.state.now.literals ≡ true = search rules in
     let plain : none_generic c.args.problem.now c.args.goal (length c.args.problem.now.items) ≡ true = search rules in
     let no : c.in_ok-completed.completed ≡ false = search rules in
-    not_completed c.args.problem.now c.args.goal c.args.state.now closed plain (λ k. differ (sym no ∙ c.in_ok-completed.ensures.1 k))
+    not_completed c.args.problem.now c.args.goal c.args.state.now closed plain (λ k. false_true (sym no ∙ c.in_ok-completed.ensures.1 k))
 
 pub returns-then-not-fitting : goal.returns-then-not-fitting
 returns-then-not-fitting c =
