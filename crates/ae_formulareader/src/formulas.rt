@@ -1,14 +1,15 @@
 //! Formulas.
-ghost use Rattle.std.specs.Prelude.{◌≡◌, ◌<◌, ◌≤◌, ◌+◌, ◌++◌, [], length, drop, true, false, IfOk, IfErr};
+ghost use Rattle.std.specs.Prelude.{◌≡◌, ◌<◌, ◌≤◌, ◌+◌, ◌++◌, [], length, drop, get_or, true, false, IfOk, IfErr};
 ghost use Rattle.ae_readers.specs.declared.fault.Fault.TheVariants.{Memory};
 ghost use Rattle.ae_prooftext.specs.FormulaTexts.{kind_of};
 ghost use Rattle.ae_prooftext.specs.Grammar.{formula_code};
-ghost use Rattle.ae_formulareader.specs.Formulas.{arm_read, worded_read, bracket_read, leaf_read, formula_turn, kind_is, negation_read, positive_code, quant_read, two_formulas_read, two_terms_read};
+ghost use Rattle.ae_prooftext.specs.Words.{symbol_of};
+ghost use Rattle.ae_formulareader.specs.Formulas.{arm_read, worded_read, bracket_read, leaf_read, formula_turn, kind_is, negation_read, positive_code, quant_read, two_formulas_read, two_terms_read, words_at};
 ghost use Rattle.ae_readers.specs.Readers.{Reads, ReadsExactly, Ahead, close_of};
 
 use crate::triggers::read_triggers;
 use crate::words::{
-    Opening, leaf_at, opening_of, opening_words, read_leaf_word, read_opening, symbol_named,
+    Opening, leaf_at, opening_at, opening_words, read_leaf_word, read_opening, symbol_named,
     word_among,
 };
 use ae_base::lists::{Boxed, List};
@@ -117,10 +118,8 @@ fn read_bracket(
     ensures read { Reads text.now result (bracket_read tables.now.signature.now env.now (close_of closing) negations (drop at text.now)) }
     ensures ahead { Ahead text.now at result }
 {
-    let names = opening_words(tables, negations);
-    let ((place, _), behind) = read_opening(text, at, names)?;
-    let word = word_among(names.words.as_slice(), place);
-    let (formula, end) = read_worded(alloc, tables, env, text, behind, word)?;
+    let ((place, _), behind) = read_opening(text, at, opening_words(tables, negations))?;
+    let (formula, end) = read_worded(alloc, tables, env, text, behind, negations, place)?;
     let (close, next) = read_closing(text, end, closing)?;
     Ok(((formula, close), next))
 }
@@ -132,14 +131,15 @@ fn read_worded(
     env: &[Sort],
     text: &[u8],
     at: usize,
-    word: &[u8],
+    negations: bool,
+    place: usize,
 ) -> Result<(Formula, usize), Fault>
-    ensures read { Reads text.now result (worded_read tables.now.signature.now env.now word.now (drop at text.now)) }
+    ensures read { Reads text.now result (worded_read tables.now.signature.now env.now (get_or (words_at tables.now.signature.now negations) place []) (drop at text.now)) }
     ensures ahead { Ahead text.now at result }
 {
-    let opening = opening_of(word);
-    let symbol = symbol_named(tables, word);
-    read_opened(alloc, tables, env, text, at, opening, symbol)
+    let opening = opening_at(tables, negations, place);
+    let word = word_among(opening_words(tables, negations).words.as_slice(), place);
+    read_opened(alloc, tables, env, text, at, opening, word)
 }
 
 #[cycle(read_formula)]
@@ -150,9 +150,9 @@ fn read_opened(
     text: &[u8],
     at: usize,
     opening: Opening,
-    symbol: usize,
+    word: &[u8],
 ) -> Result<(Formula, usize), Fault>
-    ensures read { Reads text.now result (arm_read tables.now.signature.now (kind_is opening) symbol env.now (drop at text.now)) }
+    ensures read { Reads text.now result (arm_read tables.now.signature.now (kind_is opening) (symbol_of tables.now.signature.now word.now) env.now (drop at text.now)) }
     ensures ahead { Ahead text.now at result }
 {
     match opening {
@@ -194,6 +194,7 @@ fn read_opened(
             Ok((Formula::Ex(quant), next))
         }
         Opening::Symbol => {
+            let symbol = symbol_named(tables, word);
             let sorted = has_variables(tables.signature, symbol);
             let ((sorts, args), next) = read_arguments(alloc, tables, env, text, at, sorted)?;
             Ok((

@@ -43,8 +43,8 @@ fn is_word(left: &[u8], right: &[u8]) -> bool
     same(left, right)
 }
 
-/// What a word says.
-pub fn opening_of(word: &[u8]) -> Opening
+// What a word says.
+fn opening_of(word: &[u8]) -> Opening
     ensures { kind_is result ≡ kind_of word.now }
 {
     if is_word(word, b"=") {
@@ -78,6 +78,33 @@ pub fn opening_of(word: &[u8]) -> Opening
         return Opening::Not;
     }
     Opening::Symbol
+}
+
+/// What the word says that stands at this place among those that may stand first in a formula's brackets: told by the place alone where it is no symbol's name.
+pub fn opening_at(tables: &Tables<'_>, negations: bool, place: usize) -> Opening
+    ensures { kind_is result ≡ kind_of (get_or (words_at tables.now.signature.now negations) place []) }
+{
+    match place {
+        0 => Opening::Eq,
+        1 => Opening::Lt,
+        2 => Opening::Le,
+        3 => Opening::And,
+        4 => Opening::Or,
+        5 => Opening::Xor,
+        6 => Opening::Iff,
+        7 => Opening::All,
+        8 => Opening::Ex,
+        _ => late_opening(tables, negations, place),
+    }
+}
+
+fn late_opening(tables: &Tables<'_>, negations: bool, place: usize) -> Opening
+    ensures { kind_is result ≡ kind_of (get_or (words_at tables.now.signature.now negations) place []) }
+{
+    if negations && place == 9 {
+        return Opening::Not;
+    }
+    opening_of(word_among(opening_words(tables, negations).words.as_slice(), place))
 }
 
 /// The word at a place of a table; an empty one where it has none.

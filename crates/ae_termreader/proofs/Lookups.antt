@@ -9,6 +9,9 @@ use Rattle.std.proofs.lemmas.Slice.Eq.{bytes_eq-Decides}
 use Rattle.ae_readers.specs.Readers.{place_of}
 use Rattle.ae_termreader.specs.Inner.Lookup.{slot_of, first_of, bucket_of, FindsFrom, Finds, AllEmpty}
 
+pub lengths_apart : (w u : List ℕ) → length w ≢ length u → false ≡ bytes_eq w u
+lengths_apart w u ne = sym (false_from_ne_true (bytes_eq w u) (λ e. ne (ap length ((bytes_eq-Decides w u).0 e))))
+
 pub none_in : AllEmpty []
 none_in zero = refl
 none_in (suc n) = refl

@@ -6,11 +6,22 @@ ghost use Rattle.ae_termreader.specs.Inner.Lookup.{hash_from, slot_of, first_of,
 use ae_base::lists::List;
 use std::alloc::{AllocError, Global};
 
-/// Whether two words are the same.
+// Whether two words are the same. Most are short.
+#[tactic(auto, using(crate::proofs::Lookups::lengths_apart))]
 fn same(left: &[u8], right: &[u8]) -> bool
     ensures { result ≡ bytes_eq left.now right.now }
 {
-    left == right
+    if left.len() != right.len() {
+        return false;
+    }
+    let mut at = 0;
+    'bytes: while at < left.len() {
+        if left[at] != right[at] {
+            return false;
+        }
+        at += 1;
+    }
+    true
 }
 
 fn hash_of(word: &[u8]) -> usize
@@ -18,7 +29,7 @@ fn hash_of(word: &[u8]) -> usize
 {
     let mut hash = 0;
     for byte in word {
-        hash = (hash * 257 + *byte as usize) % 4294967291;
+        hash = (hash * 257 + *byte as usize) % 4294967296;
     }
     hash
 }

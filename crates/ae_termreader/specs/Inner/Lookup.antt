@@ -5,7 +5,7 @@ use Rattle.ae_readers.specs.Readers.{place_of}
 
 abbrev pub hash_from : ℕ → List ℕ → ℕ
 hash_from h [] = h
-hash_from h (x ∷ xs) = hash_from ((h * 257 + x) % 4294967291) xs
+hash_from h (x ∷ xs) = hash_from ((h * 257 + x) % 4294967296) xs
 
 abbrev pub slot_of : ℕ → List ℕ → ℕ
 slot_of count w = hash_from 0 w % count
