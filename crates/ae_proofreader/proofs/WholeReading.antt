@@ -1,6 +1,7 @@
 -- A whole text: what is read at its first byte, and what stands behind it.
 use Rattle.std.proofs.Common.{ℕ, suc, ◌≤◌, ◌<◌, Bool, true, false, nat_le, List, [], ◌∷◌, ◌++◌, ◌≡◌, length, drop, refl, sym, ap, ◌∙◌, append_assoc, append-nil, arith}
 use Rattle.std.specs.Prelude.{Ok, Err, IsTrue}
+use mathlib.Core.List.{cons≢nil}
 use Rattle.std.proofs.lemmas.Bool.{leb-true, le-leb}
 use Rattle.std.proofs.lemmas.List.{drop_all, length-drop}
 use Rattle.ae_codes.specs.Codes.{Code, StopsAfter, got, prefix_free, stops_after, takes, too_wide, wides}
@@ -9,9 +10,6 @@ use Rattle.ae_readers.specs.declared.fault.Fault.{Fault}
 use Rattle.ae_readers.specs.declared.fault.Fault.TheVariants.{At, WideNumber, Memory}
 use Rattle.ae_choices.specs.Whole.{ReadsWhole}
 use Rattle.ae_proofreader.specs.Whole.{StandsIn}
-
-none_left : (x : ℕ) (xs : List ℕ) → x ∷ xs ≡ [] → ⊥
-none_left x xs e = let l : suc (length xs) ≡ 0 = ap length e in omega arith
 
 some_left : (text : List ℕ) (end : ℕ) → end < length text → drop end text ≡ [] → ⊥
 some_left text end l e = let n : length (drop end text) ≡ 0 = ap length e in let d = length-drop end text in omega arith
@@ -27,7 +25,7 @@ module _ {A : Type 0} (c : Code A) (text : List ℕ) where
   behind_stops a r n t = record {
     cut = t.0;
     before = record { value = a; more = []; fits = t.1; spelled = sym (append-nil (c.text a)) };
-    here = λ x xs is go. none_left x go.more ((prefix_free c a go.value (x ∷ go.more) t.1 go.fits (go.spelled ∙ append_assoc (c.text a) (x ∷ []) go.more)).1);
+    here = λ x xs is go. cons≢nil ((prefix_free c a go.value (x ∷ go.more) t.1 go.fits (go.spelled ∙ append_assoc (c.text a) (x ∷ []) go.more)).1);
     no_text = λ b f is. n ((prefix_free c a b r t.1 f (sym is ∙ t.0)).1);
   }
 

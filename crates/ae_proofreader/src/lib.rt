@@ -4,4 +4,4 @@
 mod places;
 mod proofs;
 
-pub use proofs::read_proof;
+pub use proofs::{read_proof, read_proof_at};

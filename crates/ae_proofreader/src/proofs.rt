@@ -5,7 +5,7 @@ ghost use Rattle.ae_choices.specs.Whole.{ReadsWhole};
 ghost use Rattle.ae_prooftext.specs.Grammar.{proof_code};
 ghost use Rattle.ae_proofreader.specs.Versions.{version_all, version_arms};
 ghost use Rattle.ae_proofreader.specs.Whole.{StandsIn};
-ghost use Rattle.ae_readers.specs.Readers.{Reads, Ahead, most};
+ghost use Rattle.ae_readers.specs.Readers.{Reads, ReadsExactly, Ahead, most};
 
 use crate::places::read_places;
 use ae_choices::behind_word;
@@ -64,19 +64,25 @@ fn read_version(
     Err(Fault::At(version_wrong(text, at)))
 }
 
-// The first version or the second, from the text's first byte on.
-fn read_first(alloc: Global, tables: &Tables<'_>, text: &[u8]) -> Result<(ProofText, usize), Fault>
-    ensures read { Reads text.now result ((proof_code tables.now.signature.now).read text.now) }
-    ensures ahead { Ahead text.now 0 result }
+/// The proof, in version 1 or in version 2, whose text begins at a place, and the place behind that text.
+pub fn read_proof_at(
+    alloc: Global,
+    tables: &Tables<'_>,
+    text: &[u8],
+    at: usize,
+) -> Result<(ProofText, usize), Fault>
+    ensures read { Reads text.now result ((proof_code tables.now.signature.now).read (drop at text.now)) }
+    ensures exact { ReadsExactly (proof_code tables.now.signature.now) text.now at result }
+    ensures ahead { Ahead text.now at result }
 {
-    read_version(alloc, tables, text, 0)
+    read_version(alloc, tables, text, at)
 }
 
 fn read_text(alloc: Global, tables: &Tables<'_>, text: &[u8]) -> Result<ProofText, Fault>
     ensures exact { ReadsWhole (proof_code tables.now.signature.now) text.now result }
     ensures within { IfErr result (λ f. StandsIn text.now f) }
 {
-    match read_first(alloc, tables, text) {
+    match read_proof_at(alloc, tables, text, 0) {
         Err(fault) => Err(fault),
         Ok((proof, end)) => {
             if end < text.len() {

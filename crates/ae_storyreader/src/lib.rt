@@ -5,5 +5,5 @@ mod lines;
 mod stories;
 mod widths;
 
-pub use stories::read_story;
-pub use widths::{NumberText, read_number};
+pub use stories::{read_story, read_story_at};
+pub use widths::{NumberText, read_number, read_number_at};

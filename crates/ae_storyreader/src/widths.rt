@@ -166,13 +166,16 @@ fn read_parts(
     Ok(((story, width), next))
 }
 
-fn read_width(
+/// The width with its journal that begins at a place.
+pub fn read_number_at(
     alloc: Global,
     tables: &AcTables<'_>,
     text: &[u8],
     at: usize,
 ) -> Result<((Story, WideAt), usize), Fault>
+    ensures read { Reads text.now result ((number_code tables.now.terms.signature.now).read (drop at text.now)) }
     ensures exact { ReadsExactly (number_code tables.now.terms.signature.now) text.now at result }
+    ensures ahead { Ahead text.now at result }
 {
     read_parts(alloc, tables, text, at)
 }
@@ -180,7 +183,7 @@ fn read_width(
 fn read_whole(alloc: Global, tables: &AcTables<'_>, text: &[u8]) -> Result<NumberText, Fault>
     ensures { ReadsWhole (number_code tables.now.terms.signature.now) text.now (pair_of result) }
 {
-    match read_width(alloc, tables, text, 0) {
+    match read_number_at(alloc, tables, text, 0) {
         Err(fault) => Err(fault),
         Ok((found, next)) => {
             if let Some(_) = byte_at(text, next) {
