@@ -20,13 +20,12 @@ use Rattle.ae_driver.specs.Inner.Merging.{numbers_of}
 use Rattle.ae_driver.specs.Inner.StateChains.{constant_system, state_literals, state_of}
 use Rattle.ae_journal.specs.States.{IsSaturated}
 use Rattle.ae_journal.specs.Evaluate.{is_true_at, unassigned}
-use Rattle.ae_journal.specs.declared.answers.Answer.{Answer}
-use Rattle.ae_journal.specs.declared.answers.Answer.TheVariants.{Valid, Unknown}
+use Rattle.ae_journal.specs.declared.answers.Answer.TheVariants.{Unknown}
 use Rattle.ae_statetext.specs.AnswerTexts.{answer_text}
-use Rattle.ae_driver.specs.Output.{goal_name, IsValidPart, IsUnknownPart, IsPart, AreParts, IsDone, IsFileOf, Reads, IsRefused, by_lexis}
+use Rattle.ae_driver.specs.Output.{goal_name, valid_text, IsValidPart, IsUnknownPart, IsPart, AreParts, IsDone, IsFileOf, Reads, IsRefused, by_lexis}
 use Rattle.ae_driver.specs.Output.{by_syntax, by_form, IsRefusedText, IsOutOfMemory, IsCutOff, IsOffered, IsRead, IsTooLong}
 use Rattle.ae_driver.specs.Output.{writes_parts, writes_refusal}
-use Rattle.ae_driver.specs.Inner.Answers.{IsAnswerTo, IsPartOf, by_refutation, by_values}
+use Rattle.ae_driver.specs.Inner.Answers.{IsPartOf, by_refutation, by_values}
 use Rattle.ae_driver.specs.Inner.Endings.{PartEnds, HasParts, GoalsEnd, RefusalEnds, TextEnds}
 use Rattle.ae_report.specs.declared.refusal.Refusal.{Refusal}
 use Rattle.ae_lex.proofs.Unique.{one_list, never_both as never_both_in_lexis}
@@ -40,6 +39,7 @@ use Rattle.ae_driver.specs.declared.program.Status.TheVariants as status
 use Rattle.ae_io.specs.Moves.{Written, Lost, Untold, Told, Gets, GetsPrefix, Rose}
 use Rattle.ae_io.proofs.Moves.{gets_then}
 use Rattle.ae_driver.proofs.ChainProof.{derives}
+use Rattle.ae_driver.proofs.ChainTrimmed.{chain_axioms, chain_used}
 use Rattle.ae_driver.proofs.FromModels.{body_is, sound}
 use Rattle.ae_driver.proofs.ChainValues.{proof_signed, state_signed}
 use Rattle.ae_driver.proofs.MergedValues.{IsValues, Same, values_are, hypotheses_same}
@@ -59,7 +59,7 @@ module _ (f : FirstText) where
 
   -- the part of a goal that is refuted
   valid_part : (k : ℕ) (g : Chain) (r : Refutation) (part : List ℕ) → IsWellPlaced f → slice_get f.goals k ≡ Some g → Refutes (length f.constants) g.hyps g.last r
-      → part ≡ answer_text (signature f) g.name (Valid (chain_proof g.hyps g.last (block_of g.hyps r))) → IsValidPart (problem f) k part
+      → part ≡ valid_text (signature f) g.name [] (chain_proof g.hyps g.last (block_of g.hyps r)) → IsValidPart (problem f) k part
   valid_part k g r part is e h w =
       let ok : IsGoalOver (length f.constants) g = all_at (IsGoalOver (length f.constants)) f.goals k g is.goals e in
       record {
@@ -67,6 +67,9 @@ module _ (f : FirstText) where
         is_name = name_is k g e;
         proof = chain_proof g.hyps g.last (block_of g.hyps r);
         derives = derives (problem f) k (length f.constants) the_type g.hyps g.last (constants_fit f) (body_is f k g e) r ok.hyps ok.last h;
+        used = chain_used g.hyps g.last (block_of g.hyps r);
+        axioms = [];
+        are_axioms = chain_axioms g.hyps g.last (block_of g.hyps r);
         signed = proof_signed (length f.constants) g.hyps g.last r h;
         written = w;
       }
@@ -107,13 +110,10 @@ module _ (f : FirstText) where
       written = w;
     }
 
-  part_by : (k : ℕ) (g : Chain) (part : List ℕ) (a : Answer) → IsWellPlaced f → slice_get f.goals k ≡ Some g → IsAnswerTo (length f.constants) g a → part ≡ answer_text (signature f) g.name a → IsPart (problem f) k part
-  part_by k g part a is e (by_refutation r h are) w = inl (valid_part k g r part is e h (w ∙ ap (answer_text (signature f) g.name) are))
-  part_by k g part a is e (by_values vs h are) w = inr (unknown_part k g vs is e h part (w ∙ ap (answer_text (signature f) g.name) are))
-
   -- the part of a goal
   pub goal_is_part : (k : ℕ) (g : Chain) (part : List ℕ) → IsWellPlaced f → slice_get f.goals k ≡ Some g → IsPartOf f g part → IsPart (problem f) k part
-  goal_is_part k g part is e p = part_by k g part p.found is e p.answers p.written
+  goal_is_part k g part is e (by_refutation r h w) = inl (valid_part k g r part is e h w)
+  goal_is_part k g part is e (by_values vs h w) = inr (unknown_part k g vs is e h part w)
 
 -- ---- parts in order
 -- one part more

@@ -69,7 +69,7 @@ allowed_any sig hyps earlier (LeSum s t d ps) b a = absurd b
 allowed_any sig hyps earlier (LtSum s t d ps) b a = absurd b
 allowed_any sig hyps earlier (LeRound s t k) b a = absurd b
 
-length_defs : (es : List Equation) (g : Equation) → length (defs es g) ≡ length es + length es
+pub length_defs : (es : List Equation) (g : Equation) → length (defs es g) ≡ length es + length es
 length_defs [] g = refl
 length_defs (e ∷ es) g = omega (arith, length_defs es g)
 

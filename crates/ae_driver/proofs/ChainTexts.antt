@@ -1,5 +1,5 @@
 -- The text of a chain's proof, in the order in which it is written.
-use Rattle.std.specs.Prelude.{ℕ, ◌+◌, ◌<◌, List, ◌++◌, ◌≡◌, length, drop, codes}
+use Rattle.std.specs.Prelude.{ℕ, ◌+◌, ◌<◌, List, [], ◌++◌, ◌≡◌, length, drop, codes}
 use Rattle.std.specs.List.{flat_map}
 use Rattle.std.proofs.Common.{sym, ap, ◌∙◌, append_assoc}
 use Rattle.std.proofs.lemmas.Grind.{flat_map-append}
@@ -10,19 +10,19 @@ use Rattle.ae_core.specs.declared.proofs.ClauseLine.{ClauseLine}
 use Rattle.ae_core.specs.declared.proofs.ClauseLine.TheVariants.{Def}
 use Rattle.ae_rules.specs.declared.rows.TheConstants.{OR_FROM_LEFT, OR_FROM_RIGHT}
 use Rattle.ae_prooftext.specs.Texts.{line_text, proof_lines_text, proof_text}
-use Rattle.ae_statetext.specs.AnswerTexts.{first_version}
 use Rattle.ae_driver.specs.declared.first_text.Equation.{Equation}
+use Rattle.ae_driver.specs.Output.{second_version}
 use Rattle.ae_driver.specs.Problems.{chain}
 use Rattle.ae_driver.specs.Inner.ChainProofs.{defs, last_lines, chain_proof}
 use Rattle.ae_driver.proofs.ChainValues.{defs_step}
 
--- the first line and the goal, the defining lines, and the lines behind these
+-- the heading and the goal, the defining lines, and the lines behind these
 pub chain_text : (sig : Signature) (es : List Equation) (g : Equation) (b : Block)
-    → first_version sig (chain_proof es g b) ≡ codes "proof 1\ngoal\n" ++ (flat_map (line_text sig) (defs es g) ++ proof_lines_text sig (last_lines es b))
+    → second_version sig [] (chain_proof es g b) ≡ codes "proof 2\naxioms []\ngoal\n" ++ (flat_map (line_text sig) (defs es g) ++ proof_lines_text sig (last_lines es b))
 unfolding proof_text proof_lines_text line_text
 chain_text sig es g b =
-    ap (λ z. codes "proof 1\ngoal\n" ++ (z ++ codes "end\n")) (flat_map-append (line_text sig) (defs es g) (last_lines es b))
-    ∙ ap (λ z. codes "proof 1\ngoal\n" ++ z) (append_assoc (flat_map (line_text sig) (defs es g)) (flat_map (line_text sig) (last_lines es b)) (codes "end\n"))
+    ap (λ z. codes "proof 2\naxioms []\ngoal\n" ++ (z ++ codes "end\n")) (flat_map-append (line_text sig) (defs es g) (last_lines es b))
+    ∙ ap (λ z. codes "proof 2\naxioms []\ngoal\n" ++ z) (append_assoc (flat_map (line_text sig) (defs es g)) (flat_map (line_text sig) (last_lines es b)) (codes "end\n"))
 
 -- the two lines of one rest, and those of the rests behind it
 pub two_texts : (sig : Signature) (es : List Equation) (g : Equation) (i : ℕ) (f : Formula) (out : List ℕ) → i < length es → f ≡ chain (drop i es) g
@@ -38,9 +38,9 @@ two_texts sig es g i f out lt is =
 
 -- one piece after another
 pub whole_text : (sig : Signature) (es : List Equation) (g : Equation) (b : Block) (out : List ℕ) (ls : List ClauseLine) → ls ≡ last_lines es b
-    → ((out ++ codes "proof 1\ngoal\n") ++ flat_map (line_text sig) (defs es g)) ++ proof_lines_text sig ls ≡ out ++ first_version sig (chain_proof es g b)
+    → ((out ++ codes "proof 2\naxioms []\ngoal\n") ++ flat_map (line_text sig) (defs es g)) ++ proof_lines_text sig ls ≡ out ++ second_version sig [] (chain_proof es g b)
 whole_text sig es g b out ls is =
-    let head = codes "proof 1\ngoal\n" in
+    let head = codes "proof 2\naxioms []\ngoal\n" in
     let middle = flat_map (line_text sig) (defs es g) in
     append_assoc (out ++ head) middle (proof_lines_text sig ls)
     ∙ append_assoc out head (middle ++ proof_lines_text sig ls)

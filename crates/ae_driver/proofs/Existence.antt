@@ -17,11 +17,10 @@ use Rattle.ae_driver.specs.Problems.{constant, problem, signature}
 use Rattle.ae_driver.specs.Inner.ChainProofs.{assumed, chain_proof}
 use Rattle.ae_driver.specs.Inner.Search.{IsStep, IsDerivation, Refutes, IsOpen, no_signature, block_of}
 use Rattle.ae_driver.specs.Inner.Merging.{from, merged, values_after, numbers_of}
-use Rattle.ae_journal.specs.declared.answers.Answer.{Answer}
-use Rattle.ae_journal.specs.declared.answers.Answer.TheVariants.{Valid, Unknown}
+use Rattle.ae_journal.specs.declared.answers.Answer.TheVariants.{Unknown}
 use Rattle.ae_statetext.specs.AnswerTexts.{answer_text}
-use Rattle.ae_driver.specs.Output.{Reads, IsPart, AreParts, IsBegun}
-use Rattle.ae_driver.specs.Inner.Answers.{IsAnswerTo, by_refutation, by_values}
+use Rattle.ae_driver.specs.Output.{valid_text, Reads, IsPart, AreParts, IsBegun}
+use Rattle.ae_driver.specs.Inner.Answers.{by_refutation, by_values}
 use Rattle.ae_driver.specs.Inner.Endings.{GoalsEnd, TextEnds}
 use Rattle.ae_driver.specs.Inner.StateChains.{state_of}
 use Rattle.ae_driver.proofs.Reading.{well_placed}
@@ -174,23 +173,22 @@ parts_append p k (suc m) n xs ys (first, rest, cut, one, more) b =
     )
 
 module _ (f : FirstText) (is : IsWellPlaced f) where
-  part_of : (k : ℕ) (g : Chain) (a : Answer) → slice_get f.goals k ≡ Some g → IsAnswerTo (length f.constants) g a → (part : List ℕ) × IsPart (problem f) k part
-  part_of k g a e h =
-      let part = answer_text (signature f) g.name a in
-      (part, goal_is_part f k g part is e (record { found = a; answers = h; written = refl }))
-
   some_part : (k : ℕ) (g : Chain) → slice_get f.goals k ≡ Some g → IsGoalOver (length f.constants) g → (part : List ℕ) × IsPart (problem f) k part
   some_part k g e ok =
       let n = length f.constants in
       let vs = values_after (from 0 n) g.hyps in
       ⊎_elim
-      (λ same. let r = refuted n g.hyps g.last ok.hyps ok.last same.1 in part_of k g (Valid (chain_proof g.hyps g.last (block_of g.hyps r.0))) e (by_refutation r.0 r.1 refl))
+      (λ same.
+      let r = refuted n g.hyps g.last ok.hyps ok.last same.1 in
+      let part = valid_text (signature f) g.name [] (chain_proof g.hyps g.last (block_of g.hyps r.0)) in
+      (part, goal_is_part f k g part is e (by_refutation r.0 r.1 refl)))
       (λ other.
       let open_values : IsOpen n g.hyps g.last (named_values vs) = record {
         numbers = numbers_named vs;
         apart = subst (λ z. get_or z g.last.left 0 ≢ get_or z g.last.right 0) (sym (numbers_named vs)) other.1;
       } in
-      part_of k g (Unknown (state_of n g.hyps g.last (numbers_of (named_values vs)))) e (by_values (named_values vs) open_values refl))
+      let part = answer_text (signature f) g.name (Unknown (state_of n g.hyps g.last (numbers_of (named_values vs)))) in
+      (part, goal_is_part f k g part is e (by_values (named_values vs) open_values refl)))
       (eqb_tells (get_or vs g.last.left 0) (get_or vs g.last.right 0))
 
   rest_parts : (gs : List Chain) (k : ℕ) → ((i : ℕ) (g : Chain) → slice_get gs i ≡ Some g → slice_get f.goals (k + i) ≡ Some g) → AllByRecursion (IsGoalOver (length f.constants)) gs

@@ -3,6 +3,7 @@ pub mod OneFirstText
 pub mod Growing
 pub mod Propagates
 pub mod ChainProof
+pub mod ChainTrimmed
 pub mod ChainValues
 pub mod ChainTexts
 pub mod MergingInOrder

@@ -30,7 +30,6 @@ use Rattle.ae_base.proofs.ListFacts.{cons_head, cons_tail, get_front, get_read}
 use Rattle.ae_base.proofs.Relations.{pairwise_at, pairwise_back, pairwise_get}
 use Rattle.std.proofs.lemmas.Option.{slice_get-get_or, same_Some}
 use Rattle.ae_base.specs.Relations.{Pairwise}
-use Rattle.std.proofs.lemmas.List.{get_or_default}
 
 -- ---- places in lists
 pub get_past : {X : Type 0} (xs : List X) (i : ℕ) (x : X) → length xs ≤ i → slice_get xs i ≡ Some x → ⊥
@@ -177,9 +176,6 @@ result_is text r sort name b e i = (λ t. (sort, e, i.0 t), λ p. i.1 (subst (λ
 
 pub no_goal : (text : List ℕ) (constants : List (List ℕ)) (ds : List Decl) (gs : List Chain) (i : ℕ) (d : Decl) → i < length ds → d ≡ get_or ds i d → ((g : Chain) → IsGoalDecl text constants d g → ⊥) → Pairwise (IsGoalDecl text constants) ds gs → ⊥
 no_goal text constants ds gs i d lt e none all = let at = pairwise_at (IsGoalDecl text constants) ds gs i d lt e all in none at.0 at.1
-
-pub read_is : {X : Type 0} (xs : List X) (i : ℕ) (d : X) → i < length xs → get_or xs i d ≡ get_or xs i (get_or xs i d)
-read_is xs i d lt = get_or_default xs i d (get_or xs i d) lt
 
 logic_result : DeclKind → Option SymbolResult
 logic_result (decl.Logic a ns ss r) = Some r

@@ -6,6 +6,7 @@ use Rattle.ae_rules.specs.Derivations.{Derives, goal_body}
 use Rattle.ae_core.specs.declared.formulas.Formula.{Formula}
 use Rattle.ae_core.specs.declared.problems.Item.TheVariants.{Axiom, Goal}
 use Rattle.ae_core.specs.declared.problems.Problem.{Problem}
+use Rattle.ae_core.specs.declared.problems.Signature.{Signature}
 use Rattle.ae_core.specs.declared.proofs.Proof.{Proof}
 use Rattle.ae_io.specs.Moves.{Written, Gets, GetsPrefix}
 use Rattle.ae_lex.specs.Lexis.{IsTokenized, IsFault}
@@ -26,20 +27,33 @@ use Rattle.ae_journal.specs.States.{IsSaturated}
 use Rattle.ae_journal.specs.Evaluate.{is_true_at, unassigned}
 use Rattle.ae_journal.specs.declared.systems.Saturated.{Saturated}
 use Rattle.ae_journal.specs.declared.answers.Answer.TheVariants as answer
-use Rattle.ae_statetext.specs.AnswerTexts.{answer_text}
+use Rattle.ae_prooftext.specs.Texts.{proof_text}
+use Rattle.ae_statetext.specs.AnswerTexts.{answer_text, goal_line}
+use Rattle.ae_trim.specs.Axioms.{AreAxioms}
+use Rattle.ae_trim.specs.Used.{AllUsed}
 
 -- the name of the goal at this place among the items
 abbrev pub goal_name : Problem → ℕ → Option (List ℕ)
 goal_name p k = slice_get p.items k >>= λ i. elim i [ Axiom n v f ↦ None | Goal n v f ↦ Some n ]
 
--- the part of the goal at place k: the line `goal NAME Valid`, and the text of a proof that derives the goal
+-- the text of a proof in version 2, which lists the places of its axioms
+abbrev pub second_version : Signature → List ℕ → Proof → List ℕ
+second_version sig axioms proof = proof_text sig (record { axioms = Some axioms; proof = proof })
+
+abbrev pub valid_text : Signature → List ℕ → List ℕ → Proof → List ℕ
+valid_text sig name axioms proof = goal_line name (codes " Valid") ++ second_version sig axioms proof
+
+-- the part of the goal at place k: the line `goal NAME Valid`, and the text of a proof that derives the goal, with its axioms; each line of the proof is used
 pub record IsValidPart (p : Problem) (k : ℕ) (part : List ℕ) : Type 0 where
   pub name : List ℕ
   pub is_name : goal_name p k ≡ Some name
   pub proof : Proof
   pub derives : Derives p k proof
+  pub used : AllUsed proof.lines
+  pub axioms : List ℕ
+  pub are_axioms : AreAxioms proof axioms
   pub signed : list_all line_signed proof.lines ≡ true
-  pub written : part ≡ answer_text p.signature name (answer.Valid proof)
+  pub written : part ≡ valid_text p.signature name axioms proof
 
 -- the part of the goal at place k: the line `goal NAME I don't know`, and the text of a state that is saturated whatever the bound on generations is, and in
 -- which the goal is false, evaluated plainly and with constructors; no proof derives the goal
@@ -112,7 +126,7 @@ IsTooLong (Some xs) = INPUT_LIMIT < length xs
 
 -- ---- what a run has written when it ends
 abbrev pub usage_line : List ℕ
-usage_line = codes "usage: altac\n"
+usage_line = codes "usage: altac [--steps-bound N] [--gen-bound G] [--pick first|last|mixed] [--check | --demo N]\n"
 
 -- done: the text is answered, and the sink got the answer behind what it held
 pub record IsDone (left : Option (List ℕ)) (old new : Written) : Type 0 where
@@ -145,7 +159,7 @@ pub record IsOutOfMemory (left : Option (List ℕ)) (old new : Written) : Type 0
   pub begun : (bytes ≡ []) ⊎ ((text : List ℕ) × IsRead left text × IsBegun text bytes)
   pub written : Gets old new bytes
 
--- what a run without words may be writing
+-- what a run that proves may be writing
 pub data MayWrite (left : Option (List ℕ)) (bytes : List ℕ) : Type 0 where
   writes_parts : (text : List ℕ) → IsRead left text → IsBegun text bytes → MayWrite left bytes
   writes_refusal : (text : List ℕ) (why : Refusal) → IsRead left text → IsRefused text why → IsRefusalLine text why bytes → MayWrite left bytes

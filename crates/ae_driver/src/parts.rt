@@ -1,8 +1,9 @@
 //! A goal's part of the output.
 
-ghost use Rattle.std.specs.Prelude.{◌≡◌, ◌++◌, ◌<◌, ◌^◌, length, codes, IfOk, OnOk};
-ghost use Rattle.ae_journal.specs.declared.answers.Answer.TheVariants.{Valid, Unknown};
+ghost use Rattle.std.specs.Prelude.{◌≡◌, ◌++◌, ◌<◌, ◌^◌, [], length, codes, IfOk, OnOk};
+ghost use Rattle.ae_journal.specs.declared.answers.Answer.TheVariants.{Unknown};
 ghost use Rattle.ae_statetext.specs.AnswerTexts.{goal_line, answer_text};
+ghost use Rattle.ae_driver.specs.Output.{valid_text};
 ghost use Rattle.ae_driver.specs.Problems as problems;
 ghost use Rattle.ae_driver.specs.Inner.Answers.{IsPartOf};
 ghost use Rattle.ae_driver.specs.Inner.ChainProofs.{chain_proof};
@@ -51,7 +52,6 @@ fn put_valid_line(out: &mut Vec<u8>, name: &Word) -> Result<(), AllocError>
 }
 
 // The part of a goal that is refuted.
-#[tactic(auto, unfolding(ae_statetext::specs::AnswerTexts::answer_text))]
 fn valid_part(
     alloc: Global,
     signature: &Signature,
@@ -59,7 +59,7 @@ fn valid_part(
     refutation: Refutation,
 ) -> Result<Vec<u8>, AllocError>
     requires { length goal.now.hyps < 2 ^ 32 }
-    ensures { IfOk result (λ part. part.items ≡ answer_text signature.now goal.now.name (Valid (chain_proof goal.now.hyps goal.now.last (block_of goal.now.hyps refutation)))) }
+    ensures { IfOk result (λ part. part.items ≡ valid_text signature.now goal.now.name [] (chain_proof goal.now.hyps goal.now.last (block_of goal.now.hyps refutation))) }
 {
     let hyps = goal.hyps.as_slice();
     let mut part = Vec::new(alloc);

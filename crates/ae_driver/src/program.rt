@@ -1,6 +1,7 @@
 //! The top call.
 
-ghost use Rattle.std.specs.Prelude.{◌≡◌, ◌≢◌, ◌⊎◌, ◌≤◌, [], length, IfSome};
+ghost use Rattle.std.specs.Prelude.{◌≡◌, ◌≢◌, ◌⊎◌, ◌≤◌, length, map, string_bytes, IfOk, IfSome};
+ghost use Rattle.std.specs.Bool.{MatchBool};
 ghost use Rattle.std.specs.Io.KnownBytes.{IsAtEnd};
 ghost use Rattle.ae_io.specs.Moves.{Rose, Gets, GetsPrefix};
 ghost use Rattle.ae_lex.specs.Lexis.{IsTokenized, IsFault};
@@ -11,6 +12,7 @@ ghost use Rattle.ae_report.specs.Lines.{refused_at};
 ghost use Rattle.ae_driver.specs.Inner.Places.{IsWellPlaced, IsGoalOver};
 ghost use Rattle.ae_driver.specs.Output.{IsFileOf, IsDone, IsOffered, IsRefusedText, IsRefusedByLength, IsOutOfMemory, IsCutOff, usage_line};
 ghost use Rattle.ae_driver.specs.Problems as problems;
+ghost use Rattle.ae_driver.specs.Words.{AskToProve};
 ghost use Rattle.ae_driver.specs.Inner.Endings.{PartEnds, GoalsEnd, RefusalEnds, TextEnds};
 ghost use Rattle.ae_driver.specs.declared.program.Status.TheVariants.{Done, Refused, ReadFault, WriteFault, Memory, Usage};
 
@@ -18,13 +20,15 @@ use crate::first_text::{Chain, FirstText};
 use crate::parts::goal_part;
 use crate::reader::first_text_of;
 use crate::signatures::signature_of;
+use ae_cli::options::{CliFail, Mode};
+use ae_cli::words::options;
 use ae_core::problems::Signature;
 use ae_io::{ReadEnd, Sink, Source, read_all, write_all};
 use ae_lex::{LexFault, Token, TokenList, tokens};
 use ae_report::{Refusal, refusal_text};
 use ae_syntax::decls::File;
 use ae_syntax::{SyntaxFault, parse};
-use std::alloc::Global;
+use std::alloc::{AllocError, Global};
 
 /// The most bytes that one text may have: 16 MiB.
 pub const INPUT_LIMIT: usize = 16777216;
@@ -42,20 +46,21 @@ pub enum Status {
     WriteFault,
     /// There was no memory.
     Memory,
-    /// The words were refused, and the usage line was written; nothing was read.
+    /// The words don't ask for proofs, and the usage line was written; nothing was read.
     Usage,
 }
 
 /// Reads a text, and answers its goals in order, each as soon as it is settled.
 ///
-/// - `Done` comes only where there are no words, the source was read to its end, its text is a first text of at most
+/// - `Done` comes only where the words ask for proofs, the source was read to its end, its text is a first text of at most
 ///   `INPUT_LIMIT` bytes, and one part was written for each goal: `Valid` with the text of a proof that derives the goal in
 ///   the problem of the text, or `I don't know` with the text of a saturated state in which the goal is false; then no
 ///   proof derives it.
 /// - `Refused` comes only where the line of the first reason was written: the source had more bytes left than
 ///   `INPUT_LIMIT`, the text has a fault of its tokens, its tokens have a fault of syntax, or its tree is no first text.
-/// - `Usage` comes only where there are words, and the usage line was written. Where there are words, nothing is read:
-///   the answer is `Usage`, or `WriteFault` where the line couldn't be written.
+/// - `Usage` comes only where the words don't ask for proofs: they are wrong, or they say `--check` or `--demo`, which
+///   aren't there yet. Then the usage line was written. Where the words don't ask for proofs, nothing is read: the answer
+///   is `Usage`, `WriteFault` where the line couldn't be written, or `Memory`.
 /// - `ReadFault` and `WriteFault` come only where the count of faults of the source or of the sink rose in this call. After
 ///   `ReadFault` the sink is as it was; after `WriteFault` it got a proper front of what was being written.
 /// - `Memory` is the one free answer: nothing was written, or the parts of the first goals.
@@ -67,22 +72,54 @@ pub fn run<S: Source, K: Sink>(
 ) -> Status
     ensures done { result ≡ Done → IsDone (S.left source.old) (K.written sink.old) (K.written sink.new) }
     ensures end { result ≡ Done → IsAtEnd (S.left source.new) }
-    ensures complete { words.now ≡ [] → IsOffered (S.left source.old) → ¬ (Rose (S.faults source.old) (S.faults source.new)) → ¬ (Rose (K.faults sink.old) (K.faults sink.new)) → (result ≡ Done) ⊎ (result ≡ Memory) }
+    ensures complete { AskToProve (map string_bytes words.now) → IsOffered (S.left source.old) → ¬ (Rose (S.faults source.old) (S.faults source.new)) → ¬ (Rose (K.faults sink.old) (K.faults sink.new)) → (result ≡ Done) ⊎ (result ≡ Memory) }
     ensures refused { result ≡ Refused → IsRefusedText (S.left source.old) (K.written sink.old) (K.written sink.new) ⊎ IsRefusedByLength (S.left source.old) (K.written sink.old) (K.written sink.new) }
-    ensures usage { result ≡ Usage → words.now ≢ [] }
+    ensures usage { result ≡ Usage → ¬ (AskToProve (map string_bytes words.now)) }
     ensures usage_line { result ≡ Usage → Gets (K.written sink.old) (K.written sink.new) usage_line }
-    ensures words { words.now ≢ [] → (result ≡ Usage) ⊎ (result ≡ WriteFault) }
-    ensures unread { words.now ≢ [] → source.new ≡ source.old }
+    ensures words { ¬ (AskToProve (map string_bytes words.now)) → (result ≡ Usage) ⊎ ((result ≡ WriteFault) ⊎ (result ≡ Memory)) }
+    ensures unread { ¬ (AskToProve (map string_bytes words.now)) → source.new ≡ source.old }
     ensures read_fault { result ≡ ReadFault → Rose (S.faults source.old) (S.faults source.new) }
     ensures nothing { result ≡ ReadFault → sink.new ≡ sink.old }
     ensures write_fault { result ≡ WriteFault → Rose (K.faults sink.old) (K.faults sink.new) }
-    ensures cut_off { result ≡ WriteFault → words.now ≡ [] → IsCutOff (S.left source.old) (K.written sink.old) (K.written sink.new) }
-    ensures usage_cut_off { result ≡ WriteFault → words.now ≢ [] → GetsPrefix (K.written sink.old) (K.written sink.new) usage_line }
+    ensures cut_off { result ≡ WriteFault → AskToProve (map string_bytes words.now) → IsCutOff (S.left source.old) (K.written sink.old) (K.written sink.new) }
+    ensures usage_cut_off { result ≡ WriteFault → ¬ (AskToProve (map string_bytes words.now)) → GetsPrefix (K.written sink.old) (K.written sink.new) usage_line }
     ensures memory { result ≡ Memory → IsOutOfMemory (S.left source.old) (K.written sink.old) (K.written sink.new) }
 {
-    if !words.is_empty() {
-        return tell(sink, b"usage: altac\n", Status::Usage);
+    match ask_to_prove(alloc, words) {
+        Ok(true) => prove(alloc, source, sink),
+        Ok(false) => tell(
+            sink,
+            b"usage: altac [--steps-bound N] [--gen-bound G] [--pick first|last|mixed] [--check | --demo N]\n",
+            Status::Usage,
+        ),
+        Err(_) => Status::Memory,
     }
+}
+
+// Whether the words ask for proofs. `Err` where there is no memory to read them.
+fn ask_to_prove(alloc: Global, words: &[String]) -> Result<bool, AllocError>
+    ensures { IfOk result (λ asked. MatchBool asked (AskToProve (map string_bytes words.now)) (¬ (AskToProve (map string_bytes words.now)))) }
+{
+    match options(alloc, words) {
+        Ok(stated) => Ok(stated.mode == Mode::Prove),
+        Err(CliFail::Usage) => Ok(false),
+        Err(CliFail::Memory(error)) => Err(error),
+    }
+}
+
+// Reads a text, and answers its goals.
+fn prove<S: Source, K: Sink>(alloc: Global, source: &mut S, sink: &mut K) -> Status
+    ensures done { result ≡ Done → IsDone (S.left source.old) (K.written sink.old) (K.written sink.new) }
+    ensures end { result ≡ Done → IsAtEnd (S.left source.new) }
+    ensures complete { IsOffered (S.left source.old) → ¬ (Rose (S.faults source.old) (S.faults source.new)) → ¬ (Rose (K.faults sink.old) (K.faults sink.new)) → (result ≡ Done) ⊎ (result ≡ Memory) }
+    ensures refused { result ≡ Refused → IsRefusedText (S.left source.old) (K.written sink.old) (K.written sink.new) ⊎ IsRefusedByLength (S.left source.old) (K.written sink.old) (K.written sink.new) }
+    ensures no_usage { result ≢ Usage }
+    ensures read_fault { result ≡ ReadFault → Rose (S.faults source.old) (S.faults source.new) }
+    ensures nothing { result ≡ ReadFault → sink.new ≡ sink.old }
+    ensures write_fault { result ≡ WriteFault → Rose (K.faults sink.old) (K.faults sink.new) }
+    ensures cut_off { result ≡ WriteFault → IsCutOff (S.left source.old) (K.written sink.old) (K.written sink.new) }
+    ensures memory { result ≡ Memory → IsOutOfMemory (S.left source.old) (K.written sink.old) (K.written sink.new) }
+{
     match read_all(alloc, source, INPUT_LIMIT) {
         Ok(text) => answer(alloc, text.as_slice(), sink),
         Err(ReadEnd::ReadFault) => Status::ReadFault,

@@ -1,11 +1,11 @@
 //! The text of a chain's proof, written as the proof is made from its refutation.
 
-ghost use Rattle.std.specs.Prelude.{◌≡◌, ◌++◌, ◌+◌, ◌<◌, ◌^◌, length, codes, IfOk, OnOk};
+ghost use Rattle.std.specs.Prelude.{◌≡◌, ◌++◌, ◌+◌, ◌<◌, ◌^◌, [], length, codes, IfOk, OnOk};
 ghost use Rattle.std.specs.List.{flat_map};
 ghost use Rattle.ae_core.specs.declared.formulas.Formula.{Or, Not};
 ghost use Rattle.ae_core.specs.declared.proofs.ClauseLine.TheVariants.{Def};
 ghost use Rattle.ae_prooftext.specs.Texts.{line_text, number_blank};
-ghost use Rattle.ae_statetext.specs.AnswerTexts.{first_version};
+ghost use Rattle.ae_driver.specs.Output.{second_version};
 ghost use Rattle.ae_driver.specs.Problems.{equation, chain};
 ghost use Rattle.ae_driver.specs.Inner.ChainProofs.{defs, hints, last_lines, chain_proof};
 ghost use Rattle.ae_driver.specs.Inner.Search.{block_of};
@@ -134,8 +134,9 @@ fn last_lines(
     Ok(lines)
 }
 
-/// Puts the text of the proof of a chain at the end: the proof splits the negated chain into its hypotheses and its negated end,
-/// which the refutation refutes. `Err` where there is no memory for it.
+/// Puts the text of the proof of a chain at the end, in version 2: the proof splits the negated chain into its hypotheses and its
+/// negated end, which the refutation refutes. It uses each of its lines, and rests on no axiom. `Err` where there is no memory
+/// for it.
 pub fn put_chain_proof(
     alloc: Global,
     out: &mut Vec<u8>,
@@ -145,9 +146,9 @@ pub fn put_chain_proof(
     refutation: Refutation,
 ) -> Result<(), AllocError>
     requires { length hyps.now < 2 ^ 32 }
-    ensures { OnOk result (out.new.items ≡ out.old.items ++ first_version signature.now (chain_proof hyps.now last (block_of hyps.now refutation))) }
+    ensures { OnOk result (out.new.items ≡ out.old.items ++ second_version signature.now [] (chain_proof hyps.now last (block_of hyps.now refutation))) }
 {
-    put(out, b"proof 1\ngoal\n")?;
+    put(out, b"proof 2\naxioms []\ngoal\n")?;
     put_definitions(alloc, out, signature, hyps, last)?;
     let lines = last_lines(alloc, hyps, refutation)?;
     put_lines(out, signature, lines.as_slice())

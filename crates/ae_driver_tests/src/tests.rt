@@ -49,10 +49,10 @@ fn answer(
 const TRANSITIVITY: &[u8] = b"type t\nlogic a, b, c, d, e : t\ngoal g : a = b -> b = c -> a = c\n";
 
 const TRANSITIVITY_PART: &[u8] =
-    b"goal g Valid\nproof 1\ngoal\ndef 4 (@or (@not (= a b)) (@or (@not (= b c)) (= a c)))\ndef 5 (@or (@not (= a b)) (@or (@not (= b c)) (= a c)))\ndef 4 (@or (@not (= b c)) (= a c))\ndef 5 (@or (@not (= b c)) (= a c))\nblock\nh +(= a b)\nh +(= b c)\nh -(= a c)\neq a b hyp 0\neq b c hyp 1\neq a c trans 0 1\nneq 2 2\nrup [] 0 1 2 3 5 4\nend\n";
+    b"goal g Valid\nproof 2\naxioms []\ngoal\ndef 4 (@or (@not (= a b)) (@or (@not (= b c)) (= a c)))\ndef 5 (@or (@not (= a b)) (@or (@not (= b c)) (= a c)))\ndef 4 (@or (@not (= b c)) (= a c))\ndef 5 (@or (@not (= b c)) (= a c))\nblock\nh +(= a b)\nh +(= b c)\nh -(= a c)\neq a b hyp 0\neq b c hyp 1\neq a c trans 0 1\nneq 2 2\nrup [] 0 1 2 3 5 4\nend\n";
 
 const ITSELF_PART: &[u8] =
-    b"goal g Valid\nproof 1\ngoal\nblock\nh -(= a a)\neq a a refl\nneq 0 0\nrup [] 1 0\nend\n";
+    b"goal g Valid\nproof 2\naxioms []\ngoal\nblock\nh -(= a a)\neq a a refl\nneq 0 0\nrup [] 1 0\nend\n";
 
 const UNKNOWN_PART: &[u8] =
     b"goal g I don't know\nstate 1\nlit -(@or (@not (= a b)) (= a c))\nlit +(= a b)\nlit -(= a c)\nname 0 a\nname 1 b\nname 2 c\nvalue 0 0\nvalue 1 0\nvalue 2 2\nend\n";
@@ -146,7 +146,9 @@ fn limits(rt: HostRuntime) -> Result<(), Fail> {
         status == Status::Refused && line.as_slice() == b"refused input too long\n".as_slice()
     );
     let (status, part) = longest_chain(rt.alloc())?;
-    assert!(rt; status == Status::Done && part.starts_with(b"goal g Valid\nproof 1\ngoal\n"));
+    assert!(rt;
+        status == Status::Done && part.starts_with(b"goal g Valid\nproof 2\naxioms []\ngoal\n")
+    );
     Ok(())
 }
 
@@ -195,5 +197,36 @@ fn pieces_and_faults(rt: HostRuntime) -> Result<(), Fail> {
         cut(alloc, 64, None, Some(3))?,
         (Status::WriteFault, Some(192))
     );
+    Ok(())
+}
+
+const USAGE: &[u8] =
+    b"usage: altac [--steps-bound N] [--gen-bound G] [--pick first|last|mixed] [--check | --demo N]\n";
+
+// How a run with these words ends, and what it writes.
+fn with_words(alloc: Global, parts: &[&str]) -> Result<(Status, Vec<u8>), AllocError> {
+    let mut words = Vec::new(alloc);
+    for part in parts {
+        words.push(String::from_str(alloc, part)?)?;
+    }
+    let bytes = Vec::from_slice(alloc, TRANSITIVITY)?;
+    let mut source = MemSource::new(bytes, 4096, Vec::new(alloc));
+    let mut sink = MemSink::new(Vec::with_capacity(alloc, 1000)?, 4096, Vec::new(alloc));
+    let status = run(alloc, words.as_slice(), &mut source, &mut sink);
+    Ok((status, Vec::from_slice(alloc, sink.kept())?))
+}
+
+#[test]
+fn words_of_the_command_line(rt: HostRuntime) -> Result<(), Fail> {
+    let alloc = rt.alloc();
+    let bounded = ["--steps-bound=5", "--pick", "last"];
+    let (status, part) = with_words(alloc, bounded.as_slice())?;
+    assert!(rt; status == Status::Done && part.as_slice() == TRANSITIVITY_PART);
+    let both = ["--check", "--demo", "8"];
+    let (status, line) = with_words(alloc, both.as_slice())?;
+    assert!(rt; status == Status::Usage && line.as_slice() == USAGE);
+    let help = ["--help"];
+    let (status, line) = with_words(alloc, help.as_slice())?;
+    assert!(rt; status == Status::Usage && line.as_slice() == USAGE);
     Ok(())
 }

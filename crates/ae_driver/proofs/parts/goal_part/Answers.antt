@@ -1,4 +1,4 @@
-use Rattle.std.proofs.Common.{◌≡◌, ℕ, List, refl, ap, ◌∙◌, subst, length}
+use Rattle.std.proofs.Common.{◌≡◌, ℕ, List, [], ap, ◌∙◌, subst, length}
 use Rattle.std.proofs.lemmas.Result.{IfOk-weaker}
 use Rattle.ae_statetext.specs.AnswerTexts.{answer_text}
 use Rattle.ae_driver.specs.Inner.ChainProofs.{chain_proof}
@@ -6,10 +6,11 @@ use Rattle.ae_driver.specs.Inner.Answers.{IsPartOf, by_refutation, by_values}
 use Rattle.ae_driver.specs.Inner.Merging.{numbers_of}
 use Rattle.ae_driver.specs.Inner.Search.{IsOutcome, Refutes, IsOpen, block_of}
 use Rattle.ae_driver.specs.Inner.StateChains.{state_of}
+use Rattle.ae_driver.specs.Output.{valid_text}
 use Rattle.ae_driver.specs.declared.first_text.Equation.{Equation}
 use Rattle.ae_driver.specs.declared.search.Outcome.{Outcome}
 use Rattle.ae_driver.specs.declared.search.Outcome.TheVariants as outcome
-use Rattle.ae_journal.specs.declared.answers.Answer.TheVariants.{Valid, Unknown}
+use Rattle.ae_journal.specs.declared.answers.Answer.TheVariants.{Unknown}
 use Rattle.ae_driver.proofs.parts.goal_part.Goals as goal
 
 -- what the search came to, in the goal's own words
@@ -22,11 +23,11 @@ returns-in-Refuted c =
     let g = c.args.goal.now in
     let n = length f.constants in
     let r = c.in-Refuted.refutation in
-    let a = Valid (chain_proof g.hyps g.last (block_of g.hyps r)) in
+    let proof = chain_proof g.hyps g.last (block_of g.hyps r) in
     let found : Refutes n g.hyps g.last r =
     came_to n c.len-count.result g.hyps c.as_slice.result.now g.last c.in_ok-refutation.field-0 (outcome.Refuted r) c.len-count.ensures c.as_slice.ensures c.in-Refuted.is c.in_ok-refutation.ensures in
-    IfOk-weaker c.valid_part.result (λ part. part.items ≡ answer_text c.args.signature.now g.name a) (λ part. IsPartOf f g part.items)
-    (λ part is. record { found = a; answers = by_refutation r found refl; written = is ∙ ap (λ s. answer_text s g.name a) c.requires.signature })
+    IfOk-weaker c.valid_part.result (λ part. part.items ≡ valid_text c.args.signature.now g.name [] proof) (λ part. IsPartOf f g part.items)
+    (λ part is. by_refutation r found (is ∙ ap (λ s. valid_text s g.name [] proof) c.requires.signature))
     c.valid_part.ensures
 
 pub returns-in-Open : goal.returns-in-Open
@@ -40,5 +41,5 @@ returns-in-Open c =
     came_to n c.len-count.result g.hyps c.as_slice.result.now g.last c.in_ok-refutation.field-0 (outcome.Open c.in-Open.values) c.len-count.ensures c.as_slice.ensures c.in-Open.is c.in_ok-refutation.ensures in
     let same : Unknown (state_of c.len-count.result g.hyps g.last (numbers_of c.as_slice-in-Open.result.now)) ≡ a = (λ i. Unknown (state_of (c.len-count.ensures i) g.hyps g.last (numbers_of (c.as_slice-in-Open.ensures.value i)))) in
     IfOk-weaker c.unknown_part.result (λ part. part.items ≡ answer_text c.args.signature.now g.name (Unknown (state_of c.len-count.result g.hyps g.last (numbers_of c.as_slice-in-Open.result.now)))) (λ part. IsPartOf f g part.items)
-    (λ part is. record { found = a; answers = by_values vs found refl; written = is ∙ ap (λ b. answer_text c.args.signature.now g.name b) same ∙ ap (λ s. answer_text s g.name a) c.requires.signature })
+    (λ part is. by_values vs found (is ∙ ap (λ b. answer_text c.args.signature.now g.name b) same ∙ ap (λ s. answer_text s g.name a) c.requires.signature))
     c.unknown_part.ensures

@@ -1,10 +1,10 @@
-use Rattle.std.proofs.Common.{◌≡◌, ◌++◌, ap, ◌∙◌}
+use Rattle.std.proofs.Common.{◌≡◌, ◌++◌, [], ap, ◌∙◌}
 use Rattle.std.proofs.lemmas.Result.{IfOk-weaker}
 use Rattle.std.specs.List.{flat_map}
 use Rattle.ae_prooftext.specs.Texts.{line_text, proof_lines_text}
-use Rattle.ae_statetext.specs.AnswerTexts.{first_version}
 use Rattle.ae_driver.specs.Inner.ChainProofs.{defs, chain_proof}
 use Rattle.ae_driver.specs.Inner.Search.{block_of}
+use Rattle.ae_driver.specs.Output.{second_version}
 use Rattle.ae_driver.proofs.ChainTexts.{whole_text}
 use Rattle.ae_driver.proofs.proofs.put_chain_proof.Goals as goal
 
@@ -15,7 +15,7 @@ returns c =
     let g = c.args.last in
     let b = block_of es c.args.refutation in
     let lines = c.as_slice.result.now in
-    IfOk-weaker c.put_lines.result (λ u. c.put_lines.new.out.items ≡ c.put_definitions.new.out.items ++ proof_lines_text sig lines) (λ u. c.put_lines.new.out.items ≡ c.args.out.now.items ++ first_version sig (chain_proof es g b))
+    IfOk-weaker c.put_lines.result (λ u. c.put_lines.new.out.items ≡ c.put_definitions.new.out.items ++ proof_lines_text sig lines) (λ u. c.put_lines.new.out.items ≡ c.args.out.now.items ++ second_version sig [] (chain_proof es g b))
     (λ u is.
     is
     ∙ ap (λ z. z ++ proof_lines_text sig lines) (c.in_ok-put_definitions.ensures ∙ ap (λ z. z ++ flat_map (line_text sig) (defs es g)) c.in_ok-put.ensures)
