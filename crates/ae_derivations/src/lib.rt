@@ -1,0 +1,5 @@
+//! Derivations one after another.
+#![tactic(auto)]
+
+pub mod joining;
+mod moving;

@@ -1,0 +1,10 @@
+pub mod BlockSizes
+pub mod CountedLaws
+pub mod DistinctSizes
+pub mod FoldSizes
+pub mod FormulaSizes
+pub mod MeasureLaws
+pub mod RecordSizes
+pub mod SmallLaws
+pub mod SortSizes
+pub mod Standing
