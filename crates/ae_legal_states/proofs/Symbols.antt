@@ -26,11 +26,11 @@ use Rattle.ae_legal_texts.proofs.Lines.{sorts_has}
 use Rattle.ae_legal_texts.proofs.Named.{IsNamed, symbol_named}
 use Rattle.ae_legal_texts.proofs.Sorts.{proper_name}
 use Rattle.ae_legal_texts.proofs.Worded.{one_symbol, symbol_name_is}
-use Rattle.ae_prooftext.specs.SortTexts.{fine, blank, some_type}
+use Rattle.ae_prooftext.specs.SortTexts.{fine, blank, some_type, is_bracket}
 use Rattle.ae_prooftext.specs.Words.{symbol_name, symbols, has_variables}
 use Rattle.ae_rules.specs.Lines.{IsAc}
 use Rattle.ae_stategrammar.specs.Choices.{fits_left, fits_right}
-use Rattle.ae_stategrammar.specs.Sides.{is_ac_nature, is_ac, ac_symbols, plain_symbols, sorted_symbols, plain_table, sorted_table, plain_of, sorted_of, is_letter, is_bracket, star}
+use Rattle.ae_stategrammar.specs.Sides.{is_ac_nature, is_ac, ac_symbols, plain_symbols, sorted_symbols, plain_table, sorted_table, plain_of, sorted_of, is_letter, star}
 use Rattle.ae_stategrammar.specs.Sides.{star_begins, Plain, Sorted, plain, with_sorts, plain_begins, sorted_begins, others, others_begin, raw_symbol, symbol_to, named_from, symbol}
 use Rattle.ae_legal_states.specs.Writable.{SortsFor, HasSorts}
 
