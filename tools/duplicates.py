@@ -2,8 +2,9 @@
 """Statements over library types alone that stand more than once in the repository.
 
 Read are the files crates/*/specs/**/*.antt and crates/*/proofs/**/*.antt; of these every named item at the top of a file or of a
-`module` in it. An item counts where each name in its statement is a variable, a builtin, or is imported from a library of the kit or
-from ae_base: a statement that cites anything else of the repository is about its subject, and may only stand where that subject is.
+`module` in it, and each item under a `where` whose statement speaks of nothing outside it. An item counts where each name in its
+statement is a variable, a builtin, or is imported from a library of the kit or from ae_base: a statement that cites anything else of
+the repository is about its subject, and may only stand where that subject is.
 
 Two statements are the same where they are the same after this: `X as Y` is read as X, a few library names with two spellings as one,
 binders `(x y : A)` one by one, braces as parentheses, premises in their order with the variables numbered as they are first used, and
@@ -32,6 +33,7 @@ LOOSE = {"→", "×", "⊎", "↔"}
 TESTS = {"≡", "≢", "<", "≤", "<ℤ", "≤ℤ", "∣", "∈"}
 PLAIN_TYPES = {"ℕ", "ℤ", "ℚ", "Bool", "List", "Option", "Result", "Type", "Unit", "Ordering", "Some", "None", "Ok", "Err", "Less", "Equal", "Greater"}
 RELATIONS = {"≡", "≢", "<", "≤", "⊥", "¬", "↔", "∈", "Path", "IsTrue", "Decides", "IsPermutation", "AllByRecursion", "All", "⊎", "<ℤ", "≤ℤ", "Dec"}
+BUILTINS = {"λ", "record", "true", "false", "tt", "refl", "inl", "inr", "cc", "let", "in", "match", "with", "absurd"}
 TOKEN = re.compile(r"\|\||[()\[\]{}|,]|[^\s()\[\]{}|,]+")
 SKIP = ("use ", "pub use ", "mod ", "pub mod ", "infix", "--", "data ", "pub data ", "record ", "pub record ", "syntax", "pub syntax",
         "unfolding", "tactic", "pub tactic", "ruleset", "pub ruleset", "rules", "pub rules")
@@ -130,6 +132,38 @@ def items_of(text):
                 i += 1
             clauses.append(clause)
         yield start + 1, " ".join(m[1] for m in modules), name, binders, kind, clauses, marks
+
+
+def inner_items_of(text):
+    """(line, name, binders, type, clauses, marks) for each item under a `where`."""
+    lines = text.split("\n")
+    for i, line in enumerate(lines):
+        body = line.strip()
+        indent = len(line) - len(line.lstrip(" "))
+        if not indent or body.startswith(SKIP) or not re.match(r"^[^\s(){}:,λ|]+ (\(.*\) |\{.*\} )?: ", body):
+            continue
+        k = i
+        while k and (not lines[k - 1].strip() or len(lines[k - 1]) - len(lines[k - 1].lstrip(" ")) >= indent):
+            k -= 1
+        if not k or not lines[k - 1].strip().endswith("where") or lines[k - 1].strip().startswith(("record ", "pub record ", "data ", "pub data ", "module ", "pub module ")):
+            continue
+        whole, clauses, i = body, [], i + 1
+        while i < len(lines) and lines[i].strip() and len(lines[i]) - len(lines[i].lstrip(" ")) > indent:
+            whole += " " + lines[i].strip()
+            i += 1
+        head = split_head(whole)
+        if not head:
+            continue
+        name, binders, kind, marks = head
+        while i < len(lines) and lines[i].startswith(" " * indent) and lines[i].strip().split(" ")[0] == name and not re.match(r"^\S+ : ", lines[i].strip()):
+            clause = lines[i].strip()
+            i += 1
+            while i < len(lines) and lines[i].strip() and len(lines[i]) - len(lines[i].lstrip(" ")) > indent:
+                clause += " " + lines[i].strip()
+                i += 1
+            clauses.append(clause)
+        if clauses:
+            yield i, name, binders, kind, clauses, marks
 
 
 def split_head(text):
@@ -257,6 +291,7 @@ class Canon:
                 if "◌" in name:
                     self.operators[part] = (path, old)
         self.generic = True
+        self.free = set()
 
     def word(self, token, bound, numbers):
         head, dot, tail = token.partition(".")
@@ -282,6 +317,8 @@ class Canon:
         if token in self.local or (dot and head in self.local) or any(token in operator_parts(name) for name in self.local if "◌" in name):
             self.generic = False
             return token
+        if re.match(r"^[^\W\d]\w*'?$", head) and head not in PLAIN_TYPES and head not in BUILTINS:
+            self.free.add(head)
         return SPELLINGS.get(token, token)
 
     def flat(self, nest, bound, numbers):
@@ -409,6 +446,11 @@ def statements_of(path, prefix):
         canon = Canon(uses, modules, set() if prefix else local - {name})
         statement = canon.statement(outer, binders, kind, clauses, marks, name)
         yield path, line, name, statement, canon.generic, "pub" in marks
+    for line, name, binders, kind, clauses, marks in inner_items_of(text):
+        canon = Canon(uses, modules, set() if prefix else local - {name})
+        statement = canon.statement("", binders, kind, clauses, marks, name)
+        if not canon.free:
+            yield path, line, name, statement, canon.generic, False
 
 
 def library_statements():

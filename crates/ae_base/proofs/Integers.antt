@@ -14,6 +14,9 @@ pub size_positive : (z : ℤ) → pos 0 <ℤ z → 0 < unsigned_abs z
 size_positive (pos n) h = omega (arith, ints)
 size_positive (negsuc n) h = omega arith
 
+pub positive_nonzero : (z : ℤ) → pos 0 <ℤ z → z ≢ pos 0
+positive_nonzero z h e = omega (arith, ints, h, e)
+
 pub size_nonzero : (z : ℤ) → z ≢ pos 0 → 0 < unsigned_abs z
 size_nonzero (pos zero) n = absurd (n refl)
 size_nonzero (pos (suc m)) n = omega arith

@@ -15,6 +15,11 @@ true_false e = absurd (true≢false e)
 pub not_both : {P : Type 0} (b : Bool) → b ≡ true → b ≡ false → P
 not_both b t f = true_false (sym t ∙ f)
 
+-- no truth value is its own denial
+pub not_itself : {P : Type 0} (b : Bool) → b ≡ not b → P
+not_itself true e = true_false e
+not_itself false e = false_true e
+
 -- ---- cases
 pub by_bool : {P : Type 0} (b : Bool) → (b ≡ true → P) → (b ≡ false → P) → P
 by_bool true f g = f refl
@@ -33,6 +38,11 @@ three_parts false b c e = false_true e
 pub four_parts : (a b c d : Bool) → a && b && c && d ≡ true → (a ≡ true) × (b ≡ true) × (c ≡ true) × (d ≡ true)
 four_parts true b c d e = let rest = three_parts b c d e in (refl, rest.0, rest.1, rest.2)
 four_parts false b c d e = false_true e
+
+pub or_swap : (a b c : Bool) → a || (b || c) ≡ b || (a || c)
+or_swap true true c = refl
+or_swap true false c = refl
+or_swap false b c = refl
 
 -- two truth values that imply each other are the same
 pub same_truths : (a b : Bool) → (a ≡ true → b ≡ true) → (b ≡ true → a ≡ true) → a ≡ b
@@ -77,8 +87,11 @@ nat_eq_above m n h = ne_eqb m n (λ e. absurd (omega (arith, h, e)))
 pub zero_below : (n : ℕ) → nat_lt zero (suc n) ≡ true
 zero_below n = lt-ltb zero (suc n) (omega arith)
 
+pub below_zero : (n : ℕ) → nat_lt n zero ≡ false
+below_zero n = le-ltb n zero (omega arith)
+
 pub none_below : (n : ℕ) → nat_lt (suc n) zero ≡ false
-none_below n = le-ltb (suc n) zero (omega arith)
+none_below n = below_zero (suc n)
 
 -- ---- choices
 pub same_choice : {A : Type 0} (b : Bool) (x : A) → cond b x x ≡ x

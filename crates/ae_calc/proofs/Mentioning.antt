@@ -1,7 +1,7 @@
 -- Where the constants that a line puts stand: at each form of term, formula and line.
 use Rattle.std.specs.Prelude.{ℕ, zero, suc, ◌+◌, ◌-◌, ◌<◌, ◌≤◌, ℤ, Bool, true, false, ◌||◌, List, [], ◌∷◌, ◌++◌, ◌≡◌, map, length, take, drop, get_or, slice_get, Some}
 use Rattle.std.specs.List.{list_any, flat_map}
-use Rattle.std.proofs.Math.Bool.{or-false}
+use Rattle.std.proofs.Math.Bool.{or-false, or-true}
 use Rattle.std.proofs.lemmas.List.Folds.{list_any-append, flat_map-map}
 use Rattle.std.proofs.lemmas.List.{take_all, length-drop}
 use mathlib.Core.Path.{refl, sym, ap, ◌∙◌}
@@ -104,11 +104,7 @@ pub put_some : (m : ℕ) (ss : List Sort) (n : ℕ) (os : List Sort) (i : ℕ) (
 put_some m ss n [] i d b q = absurd (omega (arith, b))
 put_some m ss n (x ∷ os) zero d b q = ap (λ h. h || list_any (is_put m ss) (count_from (suc n) os)) (ap (λ k. is_put m ss (Fresh k x)) (sym (plus_zero n)) ∙ q)
 put_some m ss n (x ∷ os) (suc i) d b q =
-    ap (λ h. is_put m ss (Fresh n x) || h) (put_some m ss (suc n) os i d (omega (arith, b)) (ap (λ k. is_put m ss (Fresh k (get_or os i d))) (sym (next_number n i)) ∙ q)) ∙ or_true (is_put m ss (Fresh n x))
-  where
-    or_true : (b : Bool) → (b || true) ≡ true
-    or_true true = refl
-    or_true false = refl
+    ap (λ h. is_put m ss (Fresh n x) || h) (put_some m ss (suc n) os i d (omega (arith, b)) (ap (λ k. is_put m ss (Fresh k (get_or os i d))) (sym (next_number n i)) ∙ q)) ∙ or-true (is_put m ss (Fresh n x))
 
 -- ---- terms
 pub mentions_bound : (m : ℕ) (ss : List Sort) (i : ℕ) → mentions m ss (Bound i) ≡ false

@@ -3,6 +3,8 @@ use Rattle.std.specs.Prelude.{ℕ, zero, suc, ◌<◌, Bool, true, false, not, �
 use Rattle.std.specs.List.{AllByRecursion, Contains, list_any, flat_map}
 use Rattle.std.proofs.lemmas.List.Folds.{list_any-append}
 use Rattle.std.proofs.lemmas.Bool.{or_right}
+use Rattle.std.proofs.Math.Bool.{or-true}
+use Rattle.std.proofs.Common.{true≢false}
 use mathlib.Core.Path.{refl, sym, ap, ◌∙◌, subst}
 use native.Mathlib.Omega.{arith}
 use Rattle.ae_base.specs.Decided.{decided}
@@ -97,11 +99,7 @@ same c t = decided (Term_discrete c t)
 found : (cs xs : List Term) (k : ℕ) (d : Term) → k < length xs → list_any (λ c. same c (get_or xs k d)) cs ≡ true → list_any (λ t. list_any (λ c. same c t) cs) xs ≡ true
 found cs [] k d b e = absurd (omega (arith, b))
 found cs (x ∷ xs) zero d b e = ap (λ h. h || list_any (λ t. list_any (λ c. same c t) cs) xs) e
-found cs (x ∷ xs) (suc k) d b e = ap (λ h. list_any (λ c. same c x) cs || h) (found cs xs k d (omega (arith, b)) e) ∙ or_true (list_any (λ c. same c x) cs)
-  where
-    or_true : (b : Bool) → (b || true) ≡ true
-    or_true true = refl
-    or_true false = refl
+found cs (x ∷ xs) (suc k) d b e = ap (λ h. list_any (λ c. same c x) cs || h) (found cs xs k d (omega (arith, b)) e) ∙ or-true (list_any (λ c. same c x) cs)
 
 -- whether an element of the second list is among those of the first
 abbrev meet : List Term → List Term → Bool
@@ -111,11 +109,8 @@ apart_go : (cs xs ds : List Term) → ((c : Term) → list_any (λ d. same d c) 
 apart_go cs xs [] h e = tt
 apart_go cs xs (c ∷ ds) h e = (λ a. clash (h c (ap (λ b. b || list_any (λ d. same d c) ds) (decided_of (Term_discrete c c) refl))) a, apart_go cs xs ds (λ d i. h d (or_right (same c d) (list_any (λ b. same b d) ds) i)) e)
   where
-    true-false : true ≡ false → ⊥
-    true-false q = cc
-
     clash : list_any (λ d. same d c) cs ≡ true → Contains xs c → ⊥
-    clash i a = true-false (sym (found cs xs a.0 c a.1 (ap (λ t. list_any (λ d. same d t) cs) a.2 ∙ i)) ∙ e)
+    clash i a = true≢false (sym (found cs xs a.0 c a.1 (ap (λ t. list_any (λ d. same d t) cs) a.2 ∙ i)) ∙ e)
 
 apart_of : (cs xs : List Term) → meet cs xs ≡ false → Apart xs cs
 apart_of cs xs e = apart_go cs xs cs (λ c i. i) e

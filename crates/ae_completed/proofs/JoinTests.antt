@@ -6,6 +6,7 @@ use Rattle.std.proofs.Common.{inl, inr}
 use Rattle.std.proofs.lemmas.Bool.{and_parts, and_from, cases_eq, not-true}
 use Rattle.std.proofs.lemmas.List.Sorted.{IsNonDecreasingBy-short}
 use Rattle.std.proofs.lemmas.Option.{same_Some, slice_get_within}
+use Rattle.ae_base.proofs.Tests.{false_true}
 use mathlib.Core.List.{List-discrete}
 use mathlib.Core.Path.{refl, sym, ap, subst, ◌∙◌}
 use native.Mathlib.Decide.{ℕ_discrete}
@@ -130,13 +131,10 @@ module _ (sig : Signature) (y : System) where
             before = omega (arith, r.before);
             is = r.is;
             none = λ q l h b. elim (cases_eq q k) as (λ _. ⊥) [
-              | inl e ↦ differ (sym a ∙ ap (has sig y s v) (sym e) ∙ b)
+              | inl e ↦ false_true (sym a ∙ ap (has sig y s v) (sym e) ∙ b)
               | inr d ↦ r.none q (omega (arith, l, d)) h b
             ];
           }
-        where
-          differ : false ≡ true → ⊥
-          differ e = cc
 
   least_finds : (s : Sort) (v : Option Value) (k m q : ℕ) → k ≤ q → q < k + m → has sig y s v q ≡ true → (p : ℕ) × (least_from sig y s v k m ≡ Some p)
   least_finds s v k zero q l h a = absurd (omega (arith, l, h))
@@ -145,10 +143,7 @@ module _ (sig : Signature) (y : System) where
       go : (b : Bool) → has sig y s v k ≡ b → ((q ≡ k → ⊥) → (p : ℕ) × (least_from sig y s v (k + 1) m ≡ Some p))
           → (p : ℕ) × (cond b (Some k) (least_from sig y s v (k + 1) m) ≡ Some p)
       go true b ih = (k, refl)
-      go false b ih = ih (λ e. differ (sym b ∙ ap (has sig y s v) (sym e) ∙ a))
-        where
-          differ : false ≡ true → ⊥
-          differ e = cc
+      go false b ih = ih (λ e. false_true (sym b ∙ ap (has sig y s v) (sym e) ∙ a))
 
   module _ (terms : HasTerms sig y) (leaves : HasLeaves sig y) where
     -- ---- representatives
@@ -166,12 +161,9 @@ module _ (sig : Signature) (y : System) where
               valued = of_written y terms.apart t w a;
               represents = record {
                 has = has_told sig y leaves s w p l.is;
-                least = λ q h. at_most p q (λ k. l.none q (omega arith) k (by_has sig y leaves s w m q i h));
+                least = λ q h. let n : ¬ (q < p) = λ k. l.none q (omega arith) k (by_has sig y leaves s w m q i h) in omega (arith, n);
               };
             }
-          where
-            at_most : (p q : ℕ) → ¬ (q < p) → p ≤ q
-            at_most p q n = omega (arith, n)
         go (Some w) None a b f = absurd (never_some p f)
         go None o a b f = absurd (never_some p f)
 

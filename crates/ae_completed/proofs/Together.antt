@@ -1,5 +1,6 @@
 -- The nine clauses, together.
 use Rattle.std.specs.Prelude.{ℕ, Bool, true, false, ◌≡◌, ◌↔◌, slice_get, Some}
+use Rattle.ae_base.proofs.Tests.{false_true}
 use mathlib.Core.Path.{refl, sym, ◌∙◌}
 use Rattle.ae_core.specs.declared.problems.Signature.{Signature}
 use Rattle.ae_journal.specs.Systems.{IsCompleted}
@@ -10,10 +11,7 @@ use Rattle.ae_completed.specs.Groups.{HasNames, HasValues, HasRules}
 
 -- a test that says `false` refutes all that its clause follows from
 pub refuted : {P Q : Type 0} (b : Bool) → b ≡ false → ((b ≡ true) ↔ P) → (Q → P) → (false ≡ true) ↔ Q
-refuted b e t f = ((λ d. absurd (differ d)), λ q. sym e ∙ t.1 (f q))
-  where
-    differ : false ≡ true → ⊥
-    differ d = cc
+refuted b e t f = ((λ d. false_true d), λ q. sym e ∙ t.1 (f q))
 
 module _ (sig : Signature) (y : System) where
   pub rules_fall : RulesFit sig y → AllFall y.rules

@@ -4,10 +4,11 @@ use Rattle.std.proofs.lemmas.List.{drop_more}
 use Rattle.std.specs.Prelude.{ℕ, suc, ℤ, pos, ◌+◌, ◌<◌, ◌<ℤ◌, ◌^◌, Bool, true, false, cond, not, ◌&&◌, ◌||◌, nat_eq, int_lt, ◌≡◌, ◌≢◌, ◌↔◌, List, [], ◌∷◌, length, map, slice_get, unsigned_abs, Option, Some, None}
 use Rattle.std.specs.List.{AllByRecursion, list_all, flat_map}
 use Rattle.std.proofs.Common.{inl, inr}
-use Rattle.std.proofs.lemmas.Bool.{and_parts, and_from, or_cases, or_left, not-true, eqb-true, eq-eqb, ltb-true, lt-ltb}
+use Rattle.std.proofs.lemmas.Bool.{and_parts, and_from, or_cases, or_left, not-true, eqb-true, eq-eqb, ltb-true, lt-ltb, and_right, or_right}
 use Rattle.std.proofs.lemmas.List.Folds.{list_all-map}
 use Rattle.std.proofs.lemmas.Option.{same_Some}
 use Rattle.std.proofs.Math.Nat.{eq-one_of_dvd-one}
+use Rattle.ae_base.proofs.Tests.{false_true}
 use mathlib.Core.Path.{refl, sym, ap, subst, ◌∙◌}
 use native.Mathlib.Omega.{arith}
 use lib.IntN.{ℤ_discrete}
@@ -58,11 +59,7 @@ over_lengths sig y [] [] n = absurd (n refl)
 over_lengths sig y [] (s ∷ ss) n = refl
 over_lengths sig y (v ∷ vs) [] n = refl
 over_lengths sig y (v ∷ vs) (s ∷ ss) n =
-    last (is_over sig y v s) (all_over (map (is_over sig y) vs) ss) (over_lengths sig y vs ss (λ e. n (ap suc e)))
-  where
-    last : (b c : Bool) → c ≡ false → b && c ≡ false
-    last true c e = e
-    last false c e = refl
+    and_right (is_over sig y v s) (all_over (map (is_over sig y) vs) ss) (over_lengths sig y vs ss (λ e. n (ap suc e)))
 
 -- ---- what the tests give at each variant
 normal-roll : (x : Value-F Value) → is_normal_value (roll-Value x) ≡ normal_step (map-Value Value Bool is_normal_value x)
@@ -160,19 +157,13 @@ pub proper_positive : (f : Lin) → is_proper f ≡ true → pos 0 <ℤ f.den
 proper_positive f e = (proper_of f e).positive
 
 pub not_proper : (f : Lin) → is_proper f ≡ false → is_normal f ≡ false
-not_proper f e = decided_not (normal_decided f) (λ n. differ (sym e ∙ by_proper f n))
-  where
-    differ : false ≡ true → ⊥
-    differ e = cc
+not_proper f e = decided_not (normal_decided f) (λ n. false_true (sym e ∙ by_proper f n))
 
 pub lowest_normal : (f : Lin) (r : Bool) → is_proper f ≡ true → ((r ≡ true) ↔ IsCommonDivisor (sizes f.den f.parts f.constant) 1) → r ≡ is_normal f
 lowest_normal f true e h =
     let p = proper_of f e in
     sym (decided_of (normal_decided f) (record { positive = p.positive; rising = p.rising; nonzero = p.nonzero; lowest = h.0 refl; within = p.within_limits }))
-lowest_normal f false e h = sym (decided_not (normal_decided f) (λ n. differ (h.1 n.lowest)))
-  where
-    differ : false ≡ true → ⊥
-    differ e = cc
+lowest_normal f false e h = sym (decided_not (normal_decided f) (λ n. false_true (h.1 n.lowest)))
 
 pub lowest_by : (ns : List ℕ) (g n : ℕ) → IsCommonDivisor ns g → n ≡ g → (nat_eq n 1 ≡ true) ↔ IsCommonDivisor ns 1
 lowest_by ns g n c e = (λ t. subst (IsCommonDivisor ns) (sym e ∙ eqb-true n 1 t) c, λ d. eq-eqb n 1 (e ∙ eq-one_of_dvd-one (d.1 g c.0)))
@@ -220,11 +211,7 @@ numeric_by s e = elim (or_cases (same_sort s Int) (same_sort s Real) e) [
 
 by_numeric : (s : Sort) → IsNumeric s → is_numeric s ≡ true
 by_numeric s (inl e) = or_left (same_sort s Int) (same_sort s Real) (decided_of (Sort_discrete s Int) e)
-by_numeric s (inr e) = right (same_sort s Int) (same_sort s Real) (decided_of (Sort_discrete s Real) e)
-  where
-    right : (b c : Bool) → c ≡ true → b || c ≡ true
-    right true c e = refl
-    right false c e = e
+by_numeric s (inr e) = or_right (same_sort s Int) (same_sort s Real) (decided_of (Sort_discrete s Real) e)
 
 abbrev itself : ℕ → Lin
 itself n = record { den = pos 1; parts = record { key = n; factor = pos 1 } ∷ []; constant = pos 0 }

@@ -1,9 +1,10 @@
 -- Normal forms by the rules of a symbol, step by step.
 use Rattle.std.proofs.Common.{drop, get_or}
-use Rattle.std.proofs.lemmas.List.{drop_more}
+use Rattle.std.proofs.lemmas.List.{drop_more, drop_all}
 use Rattle.std.specs.Prelude.{ℕ, zero, suc, ◌+◌, ◌<◌, ◌≤◌, Bool, true, false, cond, ◌&&◌, ◌≡◌, List, [], ◌∷◌, ◌++◌, length, slice_get, Option, Some, None}
 use Rattle.std.proofs.Common.{inl, inr}
 use Rattle.std.proofs.lemmas.Bool.{and_parts}
+use Rattle.ae_base.proofs.Tests.{true_false}
 use mathlib.Core.Path.{refl, sym, ap, ◌∙◌}
 use native.Mathlib.Omega.{arith}
 use Rattle.ae_base.specs.Decided.{decided}
@@ -66,13 +67,7 @@ step_past es c a i d h e =
 
 pub step_end : (es : List RuleEntry) (c : AcSymbol) (a : List ℕ) (i : ℕ) → length es ≤ i → step_by (drop i es) c a ≡ None
 unfolding step_by stepped
-step_end es c a i h = ap (λ rest. stepped (sides_at c.head c.sorts rest) a) (nothing_left es i h)
-  where
-    nothing_left : (es : List RuleEntry) (i : ℕ) → length es ≤ i → drop i es ≡ []
-    nothing_left [] zero h = refl
-    nothing_left [] (suc i) h = refl
-    nothing_left (e ∷ es) zero h = absurd (omega (arith, h))
-    nothing_left (e ∷ es) (suc i) h = nothing_left es i (omega (arith, h))
+step_end es c a i h = ap (λ rest. stepped (sides_at c.head c.sorts rest) a) (drop_all i es h)
 
 -- ---- steps for as long as there is one
 abbrev pub Sides : Type 0
@@ -193,10 +188,7 @@ module _ (h : Head) (ss : List Sort) where
       first z false q =
           let a = decided_of (Head_discrete e.symbol.head h) (ap (λ (f : RuleEntry). f.symbol.head) z) in
           let b = decided_of (Sorts_discrete e.symbol.sorts ss) (ap (λ (f : RuleEntry). f.symbol.sorts) z) in
-          absurd (differ (sym (λ i. a i && b i) ∙ q))
-        where
-          differ : true ≡ false → ⊥
-          differ e = cc
+          true_false (sym (λ i. a i && b i) ∙ q)
 
       placed : ((m : ℕ) → slice_get es m ≡ Some (record { symbol = record { head = h; sorts = ss }; left = l; right = r }) → normal.IsRule (sides_at h ss es) l r)
           → (k : ℕ) → slice_get (e ∷ es) k ≡ Some (record { symbol = record { head = h; sorts = ss }; left = l; right = r })

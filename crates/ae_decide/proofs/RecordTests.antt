@@ -3,7 +3,7 @@ use Rattle.std.proofs.Common.{drop, get_or}
 use Rattle.std.proofs.lemmas.List.{drop_more}
 use Rattle.std.specs.Prelude.{ℕ, suc, ◌+◌, ◌<◌, Bool, true, false, ◌&&◌, nat_eq, ◌≡◌, ◌≢◌, ◌↔◌, List, [], ◌∷◌, length, map, slice_get, Option, Some, None}
 use Rattle.std.specs.List.{AllByRecursion}
-use Rattle.std.proofs.lemmas.Bool.{and_parts, and_from, eqb-true, eq-eqb}
+use Rattle.std.proofs.lemmas.Bool.{and_parts, and_from, eqb-true, eq-eqb, and_right}
 use Rattle.std.proofs.lemmas.Option.{same_Some}
 use mathlib.Core.Path.{refl, sym, ap, subst, ◌∙◌}
 use native.Mathlib.Omega.{arith}
@@ -41,11 +41,7 @@ pub written_lengths : (y : System) (ts : List Term) (vs : List Value) → length
 written_lengths y [] [] n = absurd (n refl)
 written_lengths y [] (v ∷ vs) n = refl
 written_lengths y (t ∷ ts) [] n = refl
-written_lengths y (t ∷ ts) (v ∷ vs) n = last (same_known (value_of y t) (Some v)) (are_written y ts vs) (written_lengths y ts vs (λ e. n (ap suc e)))
-  where
-    last : (b c : Bool) → c ≡ false → b && c ≡ false
-    last true c e = e
-    last false c e = refl
+written_lengths y (t ∷ ts) (v ∷ vs) n = and_right (same_known (value_of y t) (Some v)) (are_written y ts vs) (written_lengths y ts vs (λ e. n (ap suc e)))
 
 module _ (y : System) (apart : (m n : ℕ) (t : Term) → IsName y m t → IsName y n t → m ≡ n) where
   -- ---- the values of fields

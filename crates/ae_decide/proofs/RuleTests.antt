@@ -4,6 +4,7 @@ use Rattle.std.specs.List.{list_all}
 use Rattle.std.proofs.Common.{inl, inr}
 use Rattle.std.proofs.lemmas.Bool.{and_parts, and_from, cases_eq, ltb-true, lt-ltb, leb-true, le-leb}
 use Rattle.std.proofs.lemmas.Option.{same_Some}
+use Rattle.ae_decide.proofs.NameTests.{denied}
 use mathlib.Core.Path.{refl, sym, ap, subst, ◌∙◌}
 use native.Mathlib.Omega.{arith}
 use Rattle.ae_base.specs.Options.{◌>>=◌, or_else}
@@ -11,7 +12,7 @@ use Rattle.ae_base.proofs.AllOf.{all_of_test, test_of_all, all_from_places}
 use Rattle.ae_base.proofs.Decided.{decided_of, decided_yes, decided_not}
 use Rattle.ae_base.proofs.ListFacts.{list_all_at}
 use Rattle.ae_base.proofs.Options.{bind_some}
-use Rattle.ae_base.proofs.Tests.{false_true}
+use Rattle.ae_base.proofs.Tests.{false_true, not_where}
 use Rattle.ae_core.specs.declared.problems.Nature.{Nature}
 use Rattle.ae_core.specs.declared.problems.Nature.TheVariants.{Free, Ac, Choice}
 use Rattle.ae_core.specs.declared.problems.Signature.{Signature}
@@ -114,18 +115,10 @@ module _ (sig : Signature) (y : System) where
     | inl k ↦ denied (has sig y s v n) (and_parts (not (has sig y s v n)) (none_below sig y s v n) e).0 (ap (has sig y s v) (sym k) ∙ a)
     | inr d ↦ none_tells s v n m (and_parts (not (has sig y s v n)) (none_below sig y s v n) e).1 (omega (arith, h, d)) a
   ]
-    where
-      denied : (b : Bool) → not b ≡ true → b ≡ true → ⊥
-      denied true e f = cc
-      denied false e f = cc
 
   none_from : (s : Sort) (v : Option Value) (n : ℕ) → ((m : ℕ) → m < n → has sig y s v m ≡ true → ⊥) → none_below sig y s v n ≡ true
   none_from s v zero f = refl
-  none_from s v (suc n) f = and_from _ _ (untrue (has sig y s v n) (f n (omega arith))) (none_from s v n (λ m h. f m (omega (arith, h))))
-    where
-      untrue : (b : Bool) → (b ≡ true → ⊥) → not b ≡ true
-      untrue true g = absurd (g refl)
-      untrue false g = refl
+  none_from s v (suc n) f = and_from _ _ (not_where (has sig y s v n) (f n (omega arith))) (none_from s v n (λ m h. f m (omega (arith, h))))
 
   pub one_below : (s : Sort) (v : Option Value) (n m : ℕ) → m < n → has sig y s v m ≡ true → none_below sig y s v n ≡ false
   one_below s v n m h a = go (none_below sig y s v n) refl
@@ -152,16 +145,13 @@ module _ (sig : Signature) (y : System) where
     representative_by : (s : Sort) (n : ℕ) → is_representative sig y s n ≡ true → IsRepresentative sig y s n
     representative_by s n e = go (slice_get y.values n) refl e
       where
-        at_least : (m n : ℕ) → ¬ (m < n) → n ≤ m
-        at_least m n f = omega (arith, f)
-
         go : (o : Option Value) → slice_get y.values n ≡ o → has sig y s o n && none_below sig y s o n ≡ true → IsRepresentative sig y s n
         go (Some w) i e =
             let p = and_parts (has sig y s (Some w) n) (none_below sig y s (Some w) n) e in (
               meaning w,
               record {
                 has = has_told s w n p.0;
-                least = λ m h. at_least m n (λ l. none_tells s (Some w) n m p.1 l (by_has s w n m i h));
+                least = λ m h. let k : ¬ (m < n) = λ l. none_tells s (Some w) n m p.1 l (by_has s w n m i h) in omega (arith, k);
               },
             )
         go None i e = absurd (nothing (has_sort sig (slice_get y.names n) s) (slice_get y.values n) (and_parts (has sig y s None n) (none_below sig y s None n) e).0)

@@ -2,7 +2,7 @@
 use Rattle.std.proofs.Common.{drop, get_or}
 use Rattle.std.proofs.lemmas.List.{drop_more}
 use Rattle.std.specs.Prelude.{ℕ, zero, suc, ◌+◌, ◌<◌, Bool, true, false, cond, not, ◌&&◌, ◌||◌, ◌≡◌, ◌≢◌, List, [], ◌∷◌, length, slice_get, Option, Some, None}
-use Rattle.std.proofs.lemmas.Bool.{and_parts, and_from}
+use Rattle.std.proofs.lemmas.Bool.{and_parts, and_from, and_right}
 use Rattle.std.proofs.lemmas.Option.{same_Some}
 use mathlib.Core.Path.{refl, sym, ap, subst, ◌∙◌}
 use native.Mathlib.Omega.{arith}
@@ -32,11 +32,7 @@ pub alike_lengths : (y : System) (ts us : List Term) → length ts ≢ length us
 alike_lengths y [] [] n = absurd (n refl)
 alike_lengths y [] (u ∷ us) n = refl
 alike_lengths y (t ∷ ts) [] n = refl
-alike_lengths y (t ∷ ts) (u ∷ us) n = last (are_alike y t u) (all_alike y ts us) (alike_lengths y ts us (λ e. n (ap suc e)))
-  where
-    last : (b c : Bool) → c ≡ false → b && c ≡ false
-    last true c e = e
-    last false c e = refl
+alike_lengths y (t ∷ ts) (u ∷ us) n = and_right (are_alike y t u) (all_alike y ts us) (alike_lengths y ts us (λ e. n (ap suc e)))
 
 -- ---- one test that follows another
 pub implied : (b c : Bool) → (b ≡ true → c ≡ true) → not b || c ≡ true

@@ -9,6 +9,7 @@ use Rattle.std.specs.Str.{bytes_eq}
 use Rattle.std.proofs.lemmas.Option.{none-some}
 use Rattle.std.proofs.lemmas.Slice.Eq.{bytes_eq-Decides}
 use Rattle.std.proofs.lemmas.Map.Text.{is_eq-slice_cmp}
+use Rattle.ae_base.proofs.Tests.{or_swap}
 use Rattle.ae_elab.specs.Scope.{first_place, after_one}
 use Rattle.ae_elab.specs.Inner.Index.{IsIndex}
 
@@ -92,13 +93,7 @@ repeated names name found i t s = i s ∙ by_test (bytes_eq s name) refl
 -- ---- whether a name is among others, in whatever order
 any_end : {A : Type 0} (p : A → Bool) (xs : List A) (x : A) → list_any p (xs ++ x ∷ []) ≡ (p x || list_any p xs)
 any_end p [] x = refl
-any_end p (y ∷ xs) x = ap (λ b. p y || b) (any_end p xs x) ∙ swapped (p y) (p x) (list_any p xs)
-  where
-    swapped : (a b c : Bool) → (a || (b || c)) ≡ (b || (a || c))
-    swapped true true c = refl
-    swapped true false c = refl
-    swapped false true c = refl
-    swapped false false c = refl
+any_end p (y ∷ xs) x = ap (λ b. p y || b) (any_end p xs x) ∙ or_swap (p y) (p x) (list_any p xs)
 
 choose_here : (b : Bool) (o : Option ℕ) → is_some (choose b o) ≡ (b || is_some o)
 choose_here true o = refl

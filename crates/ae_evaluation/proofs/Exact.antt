@@ -58,6 +58,7 @@ use Rattle.ae_evaluation.proofs.SortFacts.{is_applied, is_field, result_is}
 use Rattle.ae_journal.specs.declared.systems.System.{System}
 use Rattle.ae_base.proofs.AllOf.{all_at}
 use Rattle.std.proofs.lemmas.Option.{same_Some}
+use Rattle.ae_base.proofs.Integers.{positive_nonzero}
 
 -- ---- written numbers
 meaning-roll : (x : Value-F Value) → meaning (roll-Value x) ≡ meaning_step (map-Value Value Val meaning x)
@@ -261,7 +262,7 @@ module _ (sig : Signature) (y : System) (lawful : IsLawful sig) (completed : IsC
       let k = is_known (sort_of sig (scaled_term s f.den a.term)) sorted.0 in
       let o : sort_of sig (scaled_term s f.den a.term) ≡ Some s =
       k.1 ∙ ap (λ (x : Sort). Some x) (scaled_sort s f.den a.term numeric k.0 k.1) in
-      by_lin f.den ((pos 1, equal (scaled_term s f.den a.term) (scaled_term s f.den b.term)) ∷ []) (not_none f.den na.positive) (refl, tt)
+      by_lin f.den ((pos 1, equal (scaled_term s f.den a.term) (scaled_term s f.den b.term)) ∷ []) (positive_nonzero f.den na.positive) (refl, tt)
       (record {
         sort = s;
         numeric = numeric;
@@ -271,9 +272,6 @@ module _ (sig : Signature) (y : System) (lawful : IsLawful sig) (completed : IsC
         sums = multiples_differ s f.den a.term b.term;
       }) (a_fact multiples no_fact)
       (both_ok s (number F) m n a b)
-    where
-      not_none : (d : ℤ) → pos 0 <ℤ d → d ≢ pos 0
-      not_none d h e = omega (arith, ints, h, e)
 
   -- ---- other sorts but records
   leaf_case : (s : Sort) (k m n : ℕ) (a : Has sig y s (leaf k) m) (b : Has sig y s (leaf k) n) → C a.term b.term

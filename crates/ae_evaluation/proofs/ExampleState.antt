@@ -1,7 +1,7 @@
 -- The example has a saturated state, and its goal belongs to the ground fragment.
 use Rattle.std.specs.Prelude.{ℕ, zero, suc, ◌<◌, Bool, true, false, nat_lt, ◌&&◌, List, [], ◌∷◌, ◌++◌, ◌≡◌, ◌≢◌, ◌⊎◌, map, slice_get, Option, Some, None}
 use Rattle.std.specs.List.{AllByRecursion, list_all, Contains}
-use Rattle.std.proofs.Common.{inl, inr}
+use Rattle.std.proofs.Common.{inl, inr, true≢false}
 use Rattle.std.proofs.lemmas.Bool.Decides.{nat_tests}
 use lib.ListN.{get_or}
 use mathlib.Core.Path.{refl, sym, ap, ◌∙◌, subst}
@@ -80,9 +80,6 @@ differ e =
     sym (outs-Apply (head.Symbol 2) [] (x ∷ x ∷ [])) ∙ ap out-Term f ∙ outs-Apply (head.Field 0 0) [] (r ∷ []) in
     cc
 
-true_or_false : true ≡ false → ⊥
-true_or_false e = cc
-
 only_these : (l : Lit) → Stands problem 1 state l → (is_true hypothesis ≡ l) ⊎ (is_false goal ≡ l)
 only_these l h =
     elim (contains_cases (is_true hypothesis) (is_false goal ∷ []) l h) as
@@ -91,12 +88,12 @@ only_these l h =
 positive_is : (f : Formula) → Stands problem 1 state (is_true f) → hypothesis ≡ f
 positive_is f h = elim (only_these (is_true f) h) as (λ _. hypothesis ≡ f) [
   | inl e ↦ ap (λ (l : Lit). l.formula) e
-  | inr e ↦ absurd (true_or_false (sym (ap (λ (l : Lit). l.positive) e)))
+  | inr e ↦ absurd (true≢false (sym (ap (λ (l : Lit). l.positive) e)))
 ]
 
 negative_is : (f : Formula) → Stands problem 1 state (is_false f) → goal ≡ f
 negative_is f h = elim (only_these (is_false f) h) as (λ _. goal ≡ f) [
-  | inl e ↦ absurd (true_or_false (ap (λ (l : Lit). l.positive) e))
+  | inl e ↦ absurd (true≢false (ap (λ (l : Lit). l.positive) e))
   | inr e ↦ ap (λ (l : Lit). l.formula) e
 ]
 
@@ -321,11 +318,7 @@ unfolding taken_names
 good_names = refl
 
 pub codes_differ : (a b : ℕ) → a ≢ b → a ∷ [] ≡ b ∷ [] → ⊥
-codes_differ a b n e = n (ap first_code e)
-  where
-    first_code : List ℕ → ℕ
-    first_code [] = 0
-    first_code (c ∷ cs) = c
+codes_differ a b n e = n (ap (λ codes. get_or codes 0 0) e)
 
 abbrev names : List (List ℕ)
 names = (120 ∷ []) ∷ (114 ∷ []) ∷ (117 ∷ []) ∷ (97 ∷ []) ∷ (98 ∷ []) ∷ (104 ∷ []) ∷ []

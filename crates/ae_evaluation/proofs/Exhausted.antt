@@ -36,7 +36,7 @@ use Rattle.ae_evaluation.proofs.Names.{free_name, valued_by}
 use Rattle.ae_evaluation.proofs.Shape.{HasShape, named_has, linear_number, arithmetic, fields_shape, shape_at, named_not_numeric, ac_is}
 use Rattle.ae_journal.specs.declared.systems.System.{System}
 use Rattle.ae_base.proofs.Options.{bind_some, when_some}
-use Rattle.std.proofs.lemmas.Option.{same_Some, slice_get_within}
+use Rattle.std.proofs.lemmas.Option.{same_Some, slice_get_within, none-some}
 
 -- an element of a list stands at a place of it
 pub placed : {A : Type 0} (xs : List A) (x : A) → Contains xs x → (i : ℕ) × (slice_get xs i ≡ Some x)
@@ -177,10 +177,7 @@ module _ (sig : Signature) (lawful : IsLawful sig) (y : System) (num : Numbering
   single_exhausted : (s : Sort) (v : Val) → record_fields sig s ≡ None → IsChosen s v → IsExhausted s v
   single_exhausted s (number f) r c = c
   single_exhausted s (leaf n) r c = c
-  single_exhausted s (fields vs) r c = (c, λ ss e. absurd (no_some ss (sym r ∙ e)))
-    where
-      no_some : (ss : List Sort) → ◌≡◌ {A = Option (List Sort)} None (Some ss) → ⊥
-      no_some ss e = cc
+  single_exhausted s (fields vs) r c = (c, λ ss e. absurd (none-some ss (sym r ∙ e)))
 
   number_exhausted : (s : Sort) (v : Val) → IsNumeric s → IsNumber v → IsExhausted s v
   number_exhausted s v n w = subst (IsExhausted s) (sym w.1) (λ hs e. absurd (number_is_no_choice sig s hs e n))

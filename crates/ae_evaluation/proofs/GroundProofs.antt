@@ -68,6 +68,7 @@ use Rattle.ae_base.proofs.Options.{bind_some, only_some, when_some}
 use Rattle.std.proofs.lemmas.Bool.{and_parts}
 use Rattle.std.proofs.lemmas.List.Elements.{Contains-append_left, Contains-append_right}
 use Rattle.std.proofs.lemmas.Option.{same_Some}
+use Rattle.std.proofs.Math.Bool.{or-true}
 use Rattle.ae_journal.proofs.Splits.{all_contained}
 
 all_reverse : {A : Type 0} (P : A → Type 0) (xs : List A) → AllByRecursion P xs → AllByRecursion P (reverse xs)
@@ -510,10 +511,6 @@ module _ (p : Problem) (g : ℕ) (st : Saturated) (takes : Lit → Lit) (bound :
             by_layer (layer.Xor x z) h e = absurd (cc)
             by_layer (layer.Iff x z) h e = absurd (cc)
 
-        or_true : (b : Bool) → b || true ≡ true
-        or_true true = refl
-        or_true false = refl
-
         go : IsGroundGoal p.signature ground.goal → clause_holds R c ≡ true
         go (inl s) = none_simple (ap is_simple (goal_is f i) ∙ s.simple)
         go (inr s) =
@@ -525,7 +522,7 @@ module _ (p : Problem) (g : ℕ) (st : Saturated) (takes : Lit → Lit) (bound :
             ap (clause_holds R) (sym w.1)
             ∙ ap (λ b. same_truth true (R f) || b)
             (one_literal false (put_formula (count_from m q.sorts) q.body) (body_case earlier later f m q whole a i new z o s.2))
-            ∙ or_true (same_truth true (R f))
+            ∙ or-true (same_truth true (R f))
 
     -- ---- constructors
     constructor_value_is : (h : Head) → IsConstructor p.signature h → value p.signature st.system true rho (Apply h [] [])
@@ -550,11 +547,7 @@ module _ (p : Problem) (g : ℕ) (st : Saturated) (takes : Lit → Lit) (bound :
         (ap (λ (j : Head). same_truth true (R (Eq t (Apply j [] [])))) (same_Some i h e) ∙ ap (same_truth true) r)
     one_holds (i ∷ hs) (suc k) h t e r =
         ap (λ b. same_truth true (R (Eq t (Apply i [] []))) || b) (one_holds hs k h t e r)
-        ∙ or_true (same_truth true (R (Eq t (Apply i [] []))))
-      where
-        or_true : (b : Bool) → b || true ≡ true
-        or_true true = refl
-        or_true false = refl
+        ∙ or-true (same_truth true (R (Eq t (Apply i [] []))))
 
     exhaustion_true : (t : Term) → IsFragmentTerm p.signature [] t → (c : Clause) → exhaustion p.signature t ≡ Some c
         → clause_holds R c ≡ true

@@ -46,6 +46,8 @@ use Rattle.ae_base.proofs.Decided.{decided_not, decided_of, decided_yes}
 use Rattle.ae_base.proofs.Options.{bind_some}
 use Rattle.std.proofs.lemmas.Bool.{and_parts}
 use Rattle.std.proofs.lemmas.Option.{same_Some, slice_get_within}
+use Rattle.std.proofs.Math.Bool.{and-false, or-true}
+use Rattle.ae_base.proofs.Tests.{not_itself, nat_eq_itself}
 use Rattle.ae_base.proofs.ListFacts.{value_at as at_place}
 use Rattle.ae_journal.proofs.Splits.{contains_cases, contains_one}
 
@@ -230,12 +232,8 @@ module _ (p : Problem) (g : ℕ) (st : Saturated) (takes : Lit → Lit) (bound :
           (second_of (And a b) true 2 (yes_of b) h (row_and 2 a b)) j
       go false h = elim (others_of (And a b) false 3 (no_of a) (no_of b) h (row_and 3 a b)) as (λ _. T a && T b ≡ false) [
         | inl z ↦ ap (λ x. x && T b) (k s.0 q.0 false z)
-        | inr z ↦ ap (λ x. T a && x) (l s.1 q.1 false z) ∙ and_false (T a)
+        | inr z ↦ ap (λ x. T a && x) (l s.1 q.1 false z) ∙ and-false (T a)
       ]
-        where
-          and_false : (x : Bool) → x && false ≡ false
-          and_false true = refl
-          and_false false = refl
 
   or_case : (a b : Formula) → IsTrueLiteral a → IsTrueLiteral b → IsTrueLiteral (Or a b)
   or_case a b k l i o sign h = truth_or _ _ a b ∙ go sign (stands_at _ _ (literal_or sign a b) h)
@@ -254,21 +252,13 @@ module _ (p : Problem) (g : ℕ) (st : Saturated) (takes : Lit → Lit) (bound :
           (second_of (Or a b) false 5 (no_of b) h (row_or 5 a b)) j
       go true h = elim (others_of (Or a b) true 6 (yes_of a) (yes_of b) h (row_or 6 a b)) as (λ _. T a || T b ≡ true) [
         | inl z ↦ ap (λ x. x || T b) (k s.0 q.0 true z)
-        | inr z ↦ ap (λ x. T a || x) (l s.1 q.1 true z) ∙ or_true (T a)
+        | inr z ↦ ap (λ x. T a || x) (l s.1 q.1 true z) ∙ or-true (T a)
       ]
-        where
-          or_true : (x : Bool) → x || true ≡ true
-          or_true true = refl
-          or_true false = refl
 
   -- two rows that leave four pairs of literals
   pairs_case : (x y : Bool) (s1 u1 s2 u2 : Bool) (r : Bool) → (x ≡ s1) ⊎ (y ≡ u1) → (x ≡ s2) ⊎ (y ≡ u2) → s2 ≡ not s1 → u2 ≡ not u1
       → same_truth s1 (not u1) ≡ r → same_truth x y ≡ r
-  pairs_case x y s1 u1 s2 u2 r (inl a) (inl b) e f z = absurd (clash s1 (sym a ∙ b ∙ e))
-    where
-      clash : (s : Bool) → s ≡ not s → ⊥
-      clash true e = cc
-      clash false e = cc
+  pairs_case x y s1 u1 s2 u2 r (inl a) (inl b) e f z = not_itself s1 (sym a ∙ b ∙ e)
   pairs_case x y s1 u1 s2 u2 r (inl a) (inr b) e f z = (λ i. same_truth (a i) ((b ∙ f) i)) ∙ z
   pairs_case x y s1 u1 s2 u2 r (inr a) (inl b) e f z = (λ i. same_truth ((b ∙ e) i) (a i)) ∙ turn s1 u1 ∙ z
     where
@@ -276,11 +266,7 @@ module _ (p : Problem) (g : ℕ) (st : Saturated) (takes : Lit → Lit) (bound :
       turn true u = refl
       turn false true = refl
       turn false false = refl
-  pairs_case x y s1 u1 s2 u2 r (inr a) (inr b) e f z = absurd (clash u1 (sym a ∙ b ∙ f))
-    where
-      clash : (s : Bool) → s ≡ not s → ⊥
-      clash true e = cc
-      clash false e = cc
+  pairs_case x y s1 u1 s2 u2 r (inr a) (inr b) e f z = not_itself u1 (sym a ∙ b ∙ f)
 
   pair_of : (a b : Formula) → IsTrueLiteral a → IsTrueLiteral b → (is_simple a ≡ true) × (is_simple b ≡ true)
       → (formula_ok p.signature a ≡ true) × (formula_ok p.signature b ≡ true)
@@ -369,10 +355,6 @@ module _ (p : Problem) (g : ℕ) (st : Saturated) (takes : Lit → Lit) (bound :
   said_of [] l q ss us c e = absurd (none_there l c)
   said_of (m ∷ ls) l q ss us c e = go (contains_cases m ls l c) (λ d. said_of ls l q ss us d e)
     where
-      or_true : (x : Bool) → x || true ≡ true
-      or_true true = refl
-      or_true false = refl
-
       go : (m ≡ l) ⊎ Contains ls l → (Contains ls l → is_said same_one_value ls q ss us ≡ true)
           → (m.positive && says_by same_one_value q ss us (out-Formula m.formula)) || is_said same_one_value ls q ss us ≡ true
       go (inl z) k =
@@ -380,7 +362,7 @@ module _ (p : Problem) (g : ℕ) (st : Saturated) (takes : Lit → Lit) (bound :
           ∙ ap (λ x. x || is_said same_one_value ls q ss us) e
       go (inr d) k =
           ap (λ x. (m.positive && says_by same_one_value q ss us (out-Formula m.formula)) || x) (k d)
-          ∙ or_true (m.positive && says_by same_one_value q ss us (out-Formula m.formula))
+          ∙ or-true (m.positive && says_by same_one_value q ss us (out-Formula m.formula))
 
   said_from : (ls : List Lit) (q : ℕ) (ss : List Sort) (us : List Term) → is_said same_one_value ls q ss us ≡ true
       → (l : Lit) × Contains ls l × (l.positive && says_by same_one_value q ss us (out-Formula l.formula) ≡ true)
@@ -525,9 +507,6 @@ module _ (p : Problem) (g : ℕ) (st : Saturated) (takes : Lit → Lit) (bound :
   pred_case : (q : ℕ) (ss : List Sort) (us : List Term) → IsTrueLiteral (Pred q ss us)
   pred_case q ss us i o sign h = truth_pred _ _ q ss us ∙ go sign (stands_at _ _ (literal_pred sign q ss us) h)
     where
-      yes_eq : (n : ℕ) → nat_eq n n ≡ true
-      yes_eq n = grind (arith, nat_tests)
-
       denied : Stands p g st (is_false (Pred q ss us)) → is_said same_one_value st.literals q ss us ≡ true → ⊥
       denied h e =
           let r = said_from st.literals q ss us e in
@@ -547,7 +526,7 @@ module _ (p : Problem) (g : ℕ) (st : Saturated) (takes : Lit → Lit) (bound :
           → is_said same_one_value st.literals q ss us ≡ sign
       go true h =
           said_of st.literals (is_true (Pred q ss us)) q ss us h
-          (ap (says_by same_one_value q ss us) (outs-Pred q ss us) ∙ (λ j. yes_eq q j && yes_sorts ss j && all_same-itself us j))
+          (ap (says_by same_one_value q ss us) (outs-Pred q ss us) ∙ (λ j. nat_eq_itself q j && yes_sorts ss j && all_same-itself us j))
       go false h = by_answer (is_said same_one_value st.literals q ss us) refl
         where
           by_answer : (b : Bool) → b ≡ is_said same_one_value st.literals q ss us → b ≡ false

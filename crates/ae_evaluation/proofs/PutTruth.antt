@@ -35,6 +35,7 @@ use Rattle.ae_evaluation.proofs.Truths.{truth_true, truth_false, truth_eq, truth
 use Rattle.ae_evaluation.proofs.Literals.{simple-Not, simple-And, simple-Or, simple-Xor, simple-Iff, lt_not_simple, le_not_simple, all_not_simple, ex_not_simple}
 use Rattle.ae_journal.specs.declared.systems.System.{System}
 use Rattle.std.proofs.lemmas.Bool.{and_parts}
+use Rattle.ae_base.proofs.Tests.{below_zero}
 
 -- ---- the terms of atoms, and the constants in them
 
@@ -126,13 +127,10 @@ put_nothing =
     none_at zero = refl
     none_at (suc i) = refl
 
-    not_below : (i : ℕ) → nat_lt i 0 ≡ false
-    not_below i = grind (arith, nat_tests)
-
     same : (i : ℕ) → cond (nat_lt i 0) (Bound i) (or_else (slice_get (reverse []) (i - 0)) (Bound (i - length {A = Term} []))) ≡ Bound i
     same i =
         let z : i - 0 ≡ i = omega arith in
-        (λ k. cond (not_below i k) (Bound i) (or_else (none_at (i - 0) k) (Bound (i - length {A = Term} [])))) ∙ ap (λ (n : ℕ). Bound n) z
+        (λ k. cond (below_zero i k) (Bound i) (or_else (none_at (i - 0) k) (Bound (i - length {A = Term} [])))) ∙ ap (λ (n : ℕ). Bound n) z
 
     each : (us : List Term) → AllByRecursion (λ t. put_terms 0 [] t ≡ t) us → map (put_terms 0 []) us ≡ us
     each [] a = refl

@@ -40,7 +40,7 @@ use Rattle.ae_num.specs.declared.forms.Value.{Value}
 use Rattle.ae_journal.specs.declared.systems.System.{System}
 use Rattle.ae_base.proofs.Decided.{decided_of}
 use Rattle.ae_base.proofs.ListFacts.{value_at as at_place}
-use Rattle.std.proofs.lemmas.Option.{slice_get_within}
+use Rattle.std.proofs.lemmas.Option.{slice_get_within, same_Some}
 
 module _ (sig : Signature) (y : System) (num : Numbering) (reduce : Head → List Sort → List ℕ → List ℕ) (choosing : Bool) where
   abbrev pub sort_for : Head → List Sort → Sort
@@ -434,12 +434,9 @@ module _ (sig : Signature) (y : System) (num : Numbering) (reduce : Head → Lis
           let t = term_at n v e in
           elim (completed.sorted n t.0 t.1) as (λ _. SaneVal v) [
             | inl s ↦ sane_over s.0 v (completed.over s.0 v n (record { term = t.0; is = t.1; sort = s.1; value = e }))
-            | inr p ↦ let f : leaf n ≡ v = some_same (sym (completed.predicate_value n t.0 t.1 p) ∙ e) in subst SaneVal f
+            | inr p ↦ let f : leaf n ≡ v = same_Some (leaf n) v (sym (completed.predicate_value n t.0 t.1 p) ∙ e) in subst SaneVal f
                 (of_leaf n (low_of n t.0 t.1))
           ]
-        where
-          some_same : {a b : Val} → ◌≡◌ {A = Option Val} (Some a) (Some b) → a ≡ b
-          some_same e = cc
 
       pub sane_found : (v : Val) → (m : ℕ) × (w : Value) × (slice_get y.values m ≡ Some w) × (meaning w ≡ v) → SaneVal v
       sane_found v r = sane_name r.0 v (ap (λ o. o >>= λ w. Some (meaning w)) r.2 ∙ ap (λ u. Some u) r.3)

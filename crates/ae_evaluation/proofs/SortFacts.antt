@@ -36,6 +36,7 @@ use Rattle.ae_base.proofs.ListFacts.{get_map}
 use Rattle.ae_base.proofs.Options.{bind_some, only_some, when_some}
 use Rattle.std.proofs.lemmas.Bool.{and_parts}
 use Rattle.std.proofs.lemmas.Option.{same_Some}
+use Rattle.std.proofs.Math.Bool.{or-true}
 
 -- ---- options
 
@@ -218,11 +219,7 @@ numeric_is s e = go (Sort_discrete s Int) (Sort_discrete s Real) e
 
 pub of_numeric : (s : Sort) → IsNumeric s → is_numeric s ≡ true
 of_numeric s (inl e) = ap (λ b. b || same_sort s Real) (decided_of (Sort_discrete s Int) e)
-of_numeric s (inr e) = ap (λ b. same_sort s Int || b) (decided_of (Sort_discrete s Real) e) ∙ or_true (same_sort s Int)
-  where
-    or_true : (b : Bool) → b || true ≡ true
-    or_true true = refl
-    or_true false = refl
+of_numeric s (inr e) = ap (λ b. same_sort s Int || b) (decided_of (Sort_discrete s Real) e) ∙ or-true (same_sort s Int)
 
 -- ---- a predicate's application has no sort
 predicate_none : (ss args : List Sort) (e : SymbolEntry) → predicate_fits ss args e ≡ true → e.result ≡ None

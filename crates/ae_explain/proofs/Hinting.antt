@@ -18,7 +18,7 @@ use Rattle.ae_explain.specs.Inner.Marks.{mark, kept, resolved, IsMarked, Closes,
 use Rattle.ae_rules.proofs.Standing.{opposite_twice, stands_more, stands_last, stands_or_last, none_true, all_stand, one_open}
 use Rattle.ae_explain.proofs.Marking.{kept_or_resolved, resolved_not_kept}
 use Rattle.ae_explain.proofs.Reading.{lits_yes, lits_no}
-use Rattle.ae_base.proofs.Tests.{by_either, not_both}
+use Rattle.ae_base.proofs.Tests.{by_either, not_both, not_itself}
 use Rattle.ae_base.proofs.Decided.{decided_of, decided_yes}
 
 -- ---- a hint in front of others
@@ -33,10 +33,6 @@ in_front (Some (d ∷ cs)) fs c l h n e = (λ i. cond (h i) (refutes fs (d ∷ c
 
 first_hint : (clauses : List Clause) (k : ℕ) (ks : List ℕ) → k < length clauses → hinted clauses (k ∷ ks) ≡ (hinted clauses ks >>= λ cs. Some (clause clauses k ∷ cs))
 first_hint clauses k ks w = ap (λ o. o >>= λ c. hinted clauses ks >>= λ cs. Some (c ∷ cs)) (slice_get-get_or clauses k [] w)
-
-pub flipped : (b : Bool) → b ≡ not b → ⊥
-flipped true e = true≢false e
-flipped false e = true≢false (sym e)
 
 -- ---- the whole list of hints
 module _ (t : List Assigned) (clauses : List Clause) (lawful : IsLawful t clauses) (marks : List Mark) (last : ℕ) (closed : (p : ℕ) → p < length t → resolved marks p ≡ true → Closes t clauses marks p)
@@ -82,7 +78,7 @@ module _ (t : List Assigned) (clauses : List Clause) (lawful : IsLawful t clause
         let o = k.only (opposite m) y in
         let same : o.0 ≡ h.0 = one_place o.0 h.0 o.1 (omega (arith, h.1, w)) (sym (ap (λ (x : Lit). x.formula) o.2) ∙ sym (ap (λ (x : Lit). x.formula) h.2)) in
         let turned : opposite m ≡ opposite (opposite m) = o.2 ∙ ap (λ (j : ℕ). opposite (at t j).lit) same ∙ ap opposite h.2 in
-        absurd (flipped (not m.positive) (ap (λ (x : Lit). x.positive) turned))
+        not_itself (not m.positive) (ap (λ (x : Lit). x.positive) turned)
     | inr n ↦ n
   ]
 

@@ -5,6 +5,7 @@ use Rattle.std.specs.Str.{bytes_eq}
 use Rattle.std.proofs.lemmas.List.{append_assoc, append-nil, map-append, reverse-append, take_more, take_all, drop_more, drop_all}
 use Rattle.std.proofs.lemmas.Option.{same_Some, slice_get-get_or}
 use Rattle.std.proofs.lemmas.List.Folds.{list_any-append}
+use Rattle.std.proofs.Math.Bool.{or-false}
 use Rattle.ae_core.specs.declared.terms.Sort.{Sort, Unit as UnitSort}
 use Rattle.ae_syntax.specs.declared.exprs.Group.{Group}
 use Rattle.ae_syntax.specs.declared.spans.Span.{Span}
@@ -36,11 +37,7 @@ any_reversed : {A : Type 0} (p : A → Bool) (xs : List A) → list_any p (rever
 any_reversed p [] = refl
 any_reversed p (x ∷ xs) =
     ap (list_any p) (reverse-append (x ∷ []) xs) ∙ list_any-append p (reverse xs) (x ∷ []) ∙ ap (λ b. b || list_any p (x ∷ [])) (any_reversed p xs)
-    ∙ swapped (list_any p xs) (list_any p (x ∷ [])) ∙ ap (λ b. b || list_any p xs) (alone (p x))
-  where
-    alone : (b : Bool) → (b || false) ≡ b
-    alone true = refl
-    alone false = refl
+    ∙ swapped (list_any p xs) (list_any p (x ∷ [])) ∙ ap (λ b. b || list_any p xs) (or-false (p x))
 
 -- the names that were seen, and those of a group
 more_seen : (ns ms : List (List ℕ)) → AreSame (ms ++ reverse ns) (reverse (ns ++ ms))

@@ -3,7 +3,7 @@ use Rattle.std.proofs.Common.{ℕ, suc, Bool, true, false, cond, nat_eq, IsTrue,
 use mathlib.Core.Logic.{inl, inr}
 use Rattle.std.proofs.lemmas.Bool.{eqb-true}
 use Rattle.std.specs.Str.{bytes_eq}
-use Rattle.ae_codes.specs.Codes.{Read, got, stops, wide, Code, both, words, takes}
+use Rattle.ae_codes.specs.Codes.{Read, got, stops, wide, Code, both, words, takes, is_bracket}
 use Rattle.ae_codes.specs.Closers.{Close, closers, close_end, by_blank, by_bracket, round, square}
 use Rattle.ae_codes.specs.Names.{WordEnd, In, Proper, names, closing}
 use Rattle.ae_codes.specs.Plans.{fixed, known, inside, sequence, choice, sends, coded, coded_shaped, coded_reads}
@@ -21,7 +21,7 @@ use Rattle.ae_prooftext.specs.FormulaTexts.{FormulaEnd, FormulaValue, FormulaCod
 use Rattle.ae_prooftext.specs.Formulas as formulas
 use Rattle.ae_prooftext.specs.Formulas.{body_layer, leaf_pick, formula_layers, positive_formula}
 use Rattle.ae_prooftext.specs.Grammar.{is_real, formula_code}
-use Rattle.ae_prooftext.specs.SortTexts.{above_round, blank, blank_end, is_bracket}
+use Rattle.ae_prooftext.specs.SortTexts.{above_round, blank, blank_end}
 use Rattle.ae_prooftext.specs.Texts.{Kind, is_eq, is_lt, is_le, is_not, is_and, is_or, is_xor, is_iff, is_all, is_ex, is_pred, true_word, false_word}
 use Rattle.ae_prooftext.specs.TermTexts.{TermEnd, Arguments, above_square}
 use Rattle.ae_prooftext.specs.TermTexts as terms

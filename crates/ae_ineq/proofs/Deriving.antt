@@ -3,6 +3,7 @@ use Rattle.std.specs.Prelude.{ℕ, ℤ, pos, ◌≡◌, ◌⊎◌, ◌<◌, ◌<
 use Rattle.std.proofs.Common.{refl, sym, ap, ◌∙◌, subst, inl, inr}
 use Rattle.std.specs.List.{AllByRecursion}
 use Rattle.std.proofs.lemmas.List.{map-append}
+use Rattle.std.proofs.Math.Bool.{or-false}
 use native.Mathlib.Decide.{ℕ_discrete}
 use Rattle.ae_base.proofs.AllOf.{all_append, all_of_map, all_weaker}
 use Rattle.ae_math.specs.Fractions.{ℚ, one_ℚ, zero_ℚ, neg_ℚ, ◌*ℚ◌, is_positive}
@@ -116,12 +117,8 @@ sum_one given row c =
       positive = (positive_one, tt);
       same = same_trans ℕ_discrete (plus (scale one_ℚ f) (number zero_ℚ)) (plus (number zero_ℚ) (scale one_ℚ f)) f (plus_comm ℕ_discrete (scale one_ℚ f) (number zero_ℚ))
           (same_trans ℕ_discrete (plus (number zero_ℚ) (scale one_ℚ f)) (scale one_ℚ f) f (zero_plus ℕ_discrete (scale one_ℚ f)) (scale_one ℕ_discrete f));
-      is_strict = no_more row.strict;
+      is_strict = or-false row.strict;
     }
-  where
-    no_more : (b : Bool) → b || false ≡ b
-    no_more true = refl
-    no_more false = refl
 
 pub nonzero_one : (given : List Inequality) (row : Inequality) → Contains given row → ¬ IsZero (meaning row.lin) → IsNonzeroSum given (meaning row.lin) row.strict
 unfolding sum_one

@@ -38,11 +38,8 @@ times_within n p q d m h dp mp e =
     lt_of_le_of_lt (times_grows (unsigned_abs d) (unsigned_abs m) (size_positive m mp)) (subst (λ k. k < 2 ^ 127) (sym size) small)
 
 factor_small : (ps : List Part) (n : ℕ) → AllByRecursion (λ p. FitsLimits p.factor) ps → FitsLimits (factor_of ps n)
-factor_small [] n a = lt_of_le_of_lt zero_one nothing_wide
+factor_small [] n a = let z : 0 ≤ 1 = omega arith in lt_of_le_of_lt z nothing_wide
   where
-    zero_one : 0 ≤ 1
-    zero_one = omega arith
-
     nothing_wide : 1 < 2 ^ 127
     nothing_wide = leb-false (2 ^ 127) 1 refl
 factor_small (p ∷ ps) n a = by_test (nat_eq p.key n) (factor_small ps n a.1)

@@ -1,6 +1,6 @@
 -- Representatives: unique, least, and their own.
 use Rattle.std.proofs.Common.{◌≡◌, ℕ, zero, suc, ◌+◌, ◌<◌, ◌≤◌, List, [], ◌∷◌, length, Option, Some, None, slice_get, inl, inr, ◌⊎◌, refl, sym, ◌∙◌, ap, arith}
-use Rattle.std.proofs.lemmas.Option.{same_Some}
+use Rattle.std.proofs.lemmas.Option.{same_Some, none-some}
 use Rattle.ae_core.specs.Sorts.{sort_of}
 use Rattle.ae_base.specs.Options.{or_else}
 use Rattle.ae_core.specs.Decided.{Term_discrete}
@@ -62,10 +62,7 @@ found_by n k u t rest (yes e) h = inl (same_Some n k h, e)
 found_by n k u t rest (no e) h = inr h
 
 found_at : (n : ℕ) (us : List Term) (t : Term) (k : ℕ) → number_from n us t ≡ Some k → (i : ℕ) × (k ≡ n + i) × (i < length us) × (slice_get us i ≡ Some t)
-found_at n [] t k h = absurd (never h)
-  where
-    never : {A : Type 0} {a : A} → ◌≡◌ {A = Option A} None (Some a) → ⊥
-    never e = cc
+found_at n [] t k h = absurd (none-some k h)
 found_at n (u ∷ us) t k h =
     elim (found_by n k u t (number_from (suc n) us t) (Term_discrete u t) h) [
       | inl p ↦ (zero, omega (arith, p.0), omega arith, ap (λ w. Some w) p.1)

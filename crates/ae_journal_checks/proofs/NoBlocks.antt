@@ -3,6 +3,7 @@ use Rattle.std.proofs.Common.{◌≡◌, ℕ, List, [], ◌∷◌, map, nat_lt, 
 use Rattle.std.specs.List.{Contains}
 use Rattle.std.proofs.lemmas.Option.{same_Some}
 use Rattle.std.proofs.lemmas.Bool.Decides.{nat_tests}
+use Rattle.ae_base.proofs.Tests.{below_zero}
 use Rattle.ae_base.specs.Options.{only, ◌>>=◌}
 use Rattle.ae_base.proofs.Options.{when_some, bind_some, never_some}
 use Rattle.ae_core.specs.declared.terms.Sort.{Sort, out-Sort}
@@ -68,14 +69,11 @@ no_fresh _ m c (weak_order s t) e = never_some c (sym (ap (fresh_clause (Le s t)
 no_fresh _ m c (negation f n) e = never_some c (sym (ap (fresh_clause (Not f) m) (outs-Not f)) ∙ e)
 no_fresh _ m c (either f h n k) e = never_some c (sym (ap (fresh_clause (Or f h) m) (outs-Or f h)) ∙ e)
 
-not_below : (k : ℕ) → nat_lt k 0 ≡ false
-not_below k = grind (arith, nat_tests)
-
 pub none_below : {A B : Type 0} (b : Bool) (x : Option A) (f : A → Option B) (y : B) → b ≡ false → only b x >>= f ≡ Some y → ⊥
 none_below b x f y e h = never_some y (ap (λ c. only c x >>= f) (sym e) ∙ h)
 
 pub no_hypothesis : (p : Problem) (k : ℕ) (f : Formula) → hypothesis p 0 k [] ≡ Some f → ⊥
-no_hypothesis p k f e = none_below (nat_lt k 0) _ _ f (not_below k) e
+no_hypothesis p k f e = none_below (nat_lt k 0) _ _ f (below_zero k) e
 
 -- lines among which there is no instance
 abbrev pub NoInstance : List Line → Type 0

@@ -2,11 +2,11 @@
 use Rattle.std.specs.Prelude.{ℕ, Bool, true, false, not, nat_eq, List, [], ◌≡◌, length, slice_get, Option, Some}
 use Rattle.std.specs.List.{AllByRecursion, flat_map, list_all}
 use Rattle.std.proofs.Common.{refl, sym, ap, ◌∙◌, subst, inl, inr}
-use Rattle.std.proofs.lemmas.Bool.{eqb-true}
+use Rattle.std.proofs.lemmas.Bool.{eqb-true, not-false}
 use Rattle.std.proofs.lemmas.List.{nil_from_length}
 use Rattle.ae_base.specs.Options.{or_else, ◌>>=◌}
 use Rattle.ae_base.proofs.AllOf.{all_weaker}
-use Rattle.ae_codes.specs.Codes.{both, one, mapped, words}
+use Rattle.ae_codes.specs.Codes.{both, one, mapped, words, is_bracket}
 use Rattle.ae_codes.specs.Names.{Listed, Proper, names}
 use Rattle.ae_codes.specs.Rows.{alone}
 use Rattle.ae_core.specs.Signatures.{IsLawful}
@@ -26,7 +26,7 @@ use Rattle.ae_legal_texts.proofs.Lines.{sorts_has}
 use Rattle.ae_legal_texts.proofs.Named.{IsNamed, symbol_named}
 use Rattle.ae_legal_texts.proofs.Sorts.{proper_name}
 use Rattle.ae_legal_texts.proofs.Worded.{one_symbol, symbol_name_is}
-use Rattle.ae_prooftext.specs.SortTexts.{fine, blank, some_type, is_bracket}
+use Rattle.ae_prooftext.specs.SortTexts.{fine, blank, some_type}
 use Rattle.ae_prooftext.specs.Words.{symbol_name, symbols, has_variables}
 use Rattle.ae_rules.specs.Lines.{IsAc}
 use Rattle.ae_stategrammar.specs.Choices.{fits_left, fits_right}
@@ -135,11 +135,7 @@ module _ (sig : Signature) (lawful : IsLawful sig) where
   variables_of n e g = ap (λ (o : Option SymbolEntry). or_else (o >>= λ e. Some (not (nat_eq e.vars 0))) false) g
 
   none_for : (vars : ℕ) (ss : List Sort) → not (nat_eq vars 0) ≡ false → length ss ≡ vars → ss ≡ []
-  none_for vars ss q l = nil_from_length ss (l ∙ eqb-true vars 0 (twice (nat_eq vars 0) q))
-    where
-      twice : (b : Bool) → not b ≡ false → b ≡ true
-      twice true r = refl
-      twice false r = sym r
+  none_for vars ss q l = nil_from_length ss (l ∙ eqb-true vars 0 (not-false (nat_eq vars 0) q))
 
   by_variables : (b : Bool) (n : ℕ) (ss : List Sort) (e d : SymbolEntry) → has_variables sig n ≡ b → slice_get sig.symbols n ≡ Some e → e.nature ≡ Ac → slice_get sig.symbols n ≡ Some d → length ss ≡ d.vars
       → list_all (is_closed_sort sig) ss ≡ true → AreWithin (flat_map sort_numbers ss) → SymbolHas (head.Symbol n) ss

@@ -1,6 +1,7 @@
 -- Comments: where they end, and that they end in one place.
 use Rattle.std.proofs.Common.{ℕ, zero, suc, ◌+◌, ◌-◌, ◌≤◌, ◌<◌, true, false, List, [], ◌∷◌, ◌++◌, ◌≡◌, length, drop, refl, sym, ap, ◌∙◌, subst, append_assoc, arith}
 use Rattle.std.specs.Prelude.{MatchBool}
+use Rattle.std.proofs.lemmas.List.{append-nil}
 use Rattle.ae_lex.specs.Lexis.{Closes, is_opening, is_closing}
 use Rattle.ae_lex.specs.Inner.Pieces.{IsPart}
 use Rattle.ae_lex.proofs.Parts.{part_none, part_step, part_join, append_cancel}
@@ -114,11 +115,7 @@ passes_one text from at (suc d) b c i p l e f o k =
 pub ended_here : (text : List ℕ) (from at d : ℕ) → InComment text from at d → d ≡ 0 → (w : List ℕ) × IsPart text from at w × Closes 1 w
 ended_here text from at d i e =
     let none : Closes d [] = subst (λ z. Closes z []) (sym e) tt in
-    (i.w ++ [], subst (λ z. IsPart text from at z) (sym (append_none i.w)) i.part, i.go_on [] (drop at text) refl none)
-  where
-    append_none : (w : List ℕ) → w ++ [] ≡ w
-    append_none [] = refl
-    append_none (b ∷ w) = ap (λ z. b ∷ z) (append_none w)
+    (i.w ++ [], subst (λ z. IsPart text from at z) (sym (append-nil i.w)) i.part, i.go_on [] (drop at text) refl none)
 
 few_close : (d : ℕ) (u rest : List ℕ) → Closes (suc d) u → 2 ≤ length (u ++ rest)
 few_close d [] rest h = absurd h

@@ -7,6 +7,7 @@ use Rattle.ae_lex.specs.Spellings.{sign_bytes}
 use Rattle.ae_lex.specs.Lexis.{is_blank, is_digit, is_letter, is_inner, is_point, Begins, IsWord, IsTypeVar, IsWhole, IsPointed, IsNumeral, whole, pointed, IsToken, word, type_var, numeral, sign, IsLongest, IsOutsideMark, power, mapsto, quote, caret, at_sign, IsOutside, mark, suffix, IsWide, wide_whole, wide_digits, wide_power}
 use Rattle.ae_lex.specs.Inner.Pieces.{StopsAt, IsMark}
 use Rattle.std.proofs.lemmas.Bool.{and_parts}
+use Rattle.std.proofs.lemmas.List.{append-nil}
 use Rattle.ae_lex.proofs.Parts.{all_back}
 use Rattle.ae_lex.proofs.Tables.{sign_mark}
 
@@ -192,14 +193,10 @@ prefix_cases (b ∷ w) (c ∷ w') r r' e =
       | inr p ↦ inr (p.0, (λ i. h i ∷ p.1 i), p.2)
     ]
 
-append_nil : (w : List ℕ) → w ++ [] ≡ w
-append_nil [] = refl
-append_nil (b ∷ w) = ap (λ z. b ∷ z) (append_nil w)
-
 pub same_longest : (w w' r r' : List ℕ) → w ++ r ≡ w' ++ r' → IsToken w → IsToken w' → IsLongest w r → IsLongest w' r' → w ≡ w'
 same_longest w w' r r' e t t' l l' = elim (prefix_cases w w' r r' e) [
-  | inl p ↦ let n = l p.0 r' p.2 (subst IsToken p.1 t') in sym (p.1 ∙ ap (λ z. w ++ z) n ∙ append_nil w)
-  | inr p ↦ let n = l' p.0 r p.2 (subst IsToken p.1 t) in p.1 ∙ ap (λ z. w' ++ z) n ∙ append_nil w'
+  | inl p ↦ let n = l p.0 r' p.2 (subst IsToken p.1 t') in sym (p.1 ∙ ap (λ z. w ++ z) n ∙ append-nil w)
+  | inr p ↦ let n = l' p.0 r p.2 (subst IsToken p.1 t) in p.1 ∙ ap (λ z. w' ++ z) n ∙ append-nil w'
 ]
 
 -- ---- what the profile leaves out

@@ -9,6 +9,7 @@ use Rattle.ae_base.specs.Decided.{pick}
 use Rattle.ae_base.proofs.Decided.{pick_yes, pick_no}
 use Rattle.std.proofs.lemmas.Bool.{eqb-true, ltb-true}
 use Rattle.std.proofs.Math.Bool.{or_assoc}
+use Rattle.ae_base.proofs.Tests.{or_swap}
 use Rattle.ae_num.specs.declared.forms.Part.{Part}
 use Rattle.ae_num.specs.declared.pairs.Pair.{Pair}
 use Rattle.ae_num.specs.declared.numbers.Wide.{Wide}
@@ -66,11 +67,6 @@ member : ℕ → List ℕ → Bool
 member y [] = false
 member y (x ∷ xs) = nat_eq x y || member y xs
 
-or_comm : (a b c : Bool) → a || (b || c) ≡ b || (a || c)
-or_comm true true c = refl
-or_comm true false c = refl
-or_comm false b c = refl
-
 or_twice : (a b : Bool) → a || b ≡ a || (a || b)
 or_twice true b = refl
 or_twice false b = refl
@@ -86,7 +82,7 @@ member-with_key y x (z ∷ zs) =
   where
     same_or_later : member y (with_key x zs) ≡ nat_eq x y || member y zs → (b : Bool) → nat_eq x z ≡ b → member y (cond b (z ∷ zs) (z ∷ with_key x zs)) ≡ nat_eq x y || (nat_eq z y || member y zs)
     same_or_later ih true e = subst (λ w. nat_eq z y || member y zs ≡ nat_eq w y || (nat_eq z y || member y zs)) (sym (eqb-true x z e)) (or_twice (nat_eq z y) (member y zs))
-    same_or_later ih false e = ap (λ b. nat_eq z y || b) ih ∙ or_comm (nat_eq z y) (nat_eq x y) (member y zs)
+    same_or_later ih false e = ap (λ b. nat_eq z y || b) ih ∙ or_swap (nat_eq z y) (nat_eq x y) (member y zs)
 
 member-keys : (y : ℕ) (qs : List Part) → member y (map (λ q. q.key) qs) ≡ has_key qs y
 unfolding member

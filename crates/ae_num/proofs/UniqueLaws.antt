@@ -83,9 +83,6 @@ pub all_divide : (d : ℕ) (ps : List Part) → IsRising ps → ((k : ℕ) → d
 all_divide d [] r h = tt
 all_divide d (p ∷ ps) r h = (subst (λ z. d ∣ unsigned_abs z) (factor_head p ps) (h p.key), all_divide d ps r.1 (λ k. by_test k (nat_eq p.key k) refl))
   where
-    eqb-true : (m n : ℕ) → nat_eq m n ≡ true → m ≡ n
-    eqb-true m n h = grind (arith, nat_tests)
-
     by_test : (k : ℕ) (t : Bool) → nat_eq p.key k ≡ t → d ∣ unsigned_abs (factor_of ps k)
     by_test k true s = subst (λ z. d ∣ unsigned_abs z) (sym (ap (factor_of ps) (sym (eqb-true p.key k s)) ∙ absent p.key ps r.0)) (dvd-zero d)
     by_test k false s = subst (λ t. d ∣ unsigned_abs (cond t p.factor (factor_of ps k))) s (h k)

@@ -3,6 +3,7 @@ use Rattle.std.specs.Prelude.{ℕ, ℤ, pos, ◌≡◌, ◌<◌, ◌^◌, ◌*�
 use Rattle.std.specs.List.{flat_map, AllByRecursion}
 use Rattle.std.proofs.Common.{arith, refl, sym, ap, ◌∙◌, subst, ◌<ℤ◌}
 use Rattle.std.proofs.lemmas.Bool.Decides.{nat_tests}
+use Rattle.std.proofs.lemmas.Bool.{leb-false}
 use Rattle.ae_num.specs.declared.numbers.Wide.{Wide}
 use Rattle.ae_num.specs.declared.forms.Lin.{Lin}
 use Rattle.ae_num.specs.declared.forms.Part.{Part}
@@ -74,10 +75,7 @@ scale_stated top bottom p r = ap (λ t. Product p.den bottom ∷ t ++ Product p.
 
 -- ---- where no step is wide the numbers are within the limits
 inside : (s : Step) → is_wide s ≡ false → FitsLimits (outcome s)
-inside s e = below_limit (2 ^ 127) (unsigned_abs (outcome s)) e
-  where
-    below_limit : (m n : ℕ) → nat_le m n ≡ false → n < m
-    below_limit m n h = grind (arith, nat_tests)
+inside s e = leb-false (2 ^ 127) (unsigned_abs (outcome s)) e
 
 head_fits : (s : Step) (ss : List Step) → first_wide (s ∷ ss) ≡ None → FitsLimits (outcome s) × (first_wide ss ≡ None)
 head_fits s ss = by_test (is_wide s) refl

@@ -2,7 +2,7 @@
 use Rattle.std.specs.Prelude.{ℤ, Bool, true, false, ◌&&◌, ◌||◌, ◌≡◌, ◌↔◌, List, [], ◌∷◌, map, slice_get, Option, Some, None, Ok}
 use Rattle.std.specs.List.{list_all, AllByRecursion}
 use Rattle.std.proofs.Common.{refl, sym, ap, ◌∙◌, subst, true≢false, inl, inr}
-use Rattle.std.proofs.lemmas.Bool.{and_parts, and_from}
+use Rattle.std.proofs.lemmas.Bool.{and_parts, and_from, or_right}
 use Rattle.std.proofs.lemmas.Option.{same_Some, none-some}
 use Rattle.ae_math.specs.Fractions.{ℚ, one_ℚ, neg_ℚ, ◌+ℚ◌, ◌*ℚ◌, whole}
 use Rattle.ae_math.specs.Forms.{plus, minus, scale}
@@ -42,11 +42,7 @@ numeric_is s e = by_test (Sort_discrete s Int) e
 
 is_numeric_of : (s : Sort) → IsNumeric s → is_numeric s ≡ true
 is_numeric_of s (inl p) = ap (λ b. b || decided (Sort_discrete s Real)) (decided_of (Sort_discrete s Int) p)
-is_numeric_of s (inr p) = by_first (decided (Sort_discrete s Int)) (decided_of (Sort_discrete s Real) p)
-  where
-    by_first : (b : Bool) {c : Bool} → c ≡ true → b || c ≡ true
-    by_first true e = refl
-    by_first false e = e
+is_numeric_of s (inr p) = or_right (decided (Sort_discrete s Int)) (decided (Sort_discrete s Real)) (decided_of (Sort_discrete s Real) p)
 
 -- the one numeric sort of two terms
 pub one_sort : (a b : Option Sort) → same_numeric a b ≡ true → (s : Sort) × IsNumeric s × (a ≡ Some s) × (b ≡ Some s)

@@ -11,7 +11,7 @@ use lib.IntN.{one, *ℤ-one, *ℤ-zero, zero-*ℤ, *ℤ_comm}
 use std.Quotient.{/_rec}
 use Rattle.ae_base.specs.Decided.{pick}
 use Rattle.ae_base.proofs.Decided.{pick_yes, pick_no}
-use Rattle.ae_math.specs.Inner.Integers.{ring}
+use Rattle.ae_math.specs.Inner.Integers.{ring, mul_one_z}
 use Rattle.ae_math.specs.Fractions.{ℚ, zero_ℚ, one_ℚ, neg_ℚ, ◌+ℚ◌, ◌*ℚ◌, frac, ratio, whole}
 use Rattle.ae_math.specs.Inner.Respected.{cancel}
 use Rattle.ae_math.specs.Forms.{factor_in, minus}
@@ -23,7 +23,7 @@ use Rattle.ae_num.specs.declared.forms.Part.{Part}
 use Rattle.ae_num.specs.declared.forms.Lin.{Lin}
 use Rattle.ae_num.specs.Forms.{factor_of, IsRising, IsNormal, DividesAll, IsCommonDivisor, AllAbove, sizes}
 use Rattle.ae_num.proofs.PairLaws.{absent, factor_head}
-use Rattle.ae_base.proofs.Tests.{nat_eq_below}
+use Rattle.ae_base.proofs.Tests.{nat_eq_below, false_true}
 use Rattle.ae_base.proofs.Integers.{size_zero, size_neg}
 use Rattle.std.proofs.lemmas.Bool.{eq-eqb, ne_eqb, cases_lt}
 use Rattle.ae_num.proofs.UniqueLaws.{all_divide, same_parts}
@@ -330,17 +330,13 @@ multiplied_parts n ps qs r s y z h =
 regrouped : (z g d : ℤ) → (z *ℤ g) *ℤ d ≡ (z *ℤ d) *ℤ g
 regrouped z g d = simp ring
 
-times_one : (d : ℤ) → d *ℤ pos 1 ≡ d
-unfolding one
-times_one d = *ℤ-one d
-
 -- a quotient by a number that divides is whole
 whole_quotient : (b d z : ℤ) (n : ℕ) → pos 0 <ℤ d → whole (pos (suc n)) *ℚ ratio b d ≡ whole (z *ℤ pos (suc n)) → b ≡ z *ℤ d
 whole_quotient b d z n p e =
     let one : pos 0 <ℤ pos 1 = omega (arith, ints) in
     let over : ratio (b *ℤ pos (suc n)) (d *ℤ pos 1) ≡ whole (z *ℤ pos (suc n)) = ratio_times (pos (suc n)) (pos 1) b d one p ∙ e in
     let cross : b *ℤ pos (suc n) ≡ (z *ℤ pos (suc n)) *ℤ (d *ℤ pos 1) = ratio_whole (b *ℤ pos (suc n)) (d *ℤ pos 1) (z *ℤ pos (suc n)) (product_positive d (pos 1) p one) over in
-    cancel b (z *ℤ d) n (cross ∙ ap (λ t. (z *ℤ pos (suc n)) *ℤ t) (times_one d) ∙ regrouped z (pos (suc n)) d)
+    cancel b (z *ℤ d) n (cross ∙ ap (λ t. (z *ℤ pos (suc n)) *ℤ t) (mul_one_z d) ∙ regrouped z (pos (suc n)) d)
 
 -- ---- rounding
 module _ (rel : Relation) (ks : List Term) (x y : Lin) (from to : Linear) (i : IsFormOf ks x (lowered rel from)) (j : IsFormOf ks y to) where
@@ -472,20 +468,14 @@ apart_test f g h k b e s w c t = by_test b t
     back : unsigned_abs g ∣ unsigned_abs f.constant → unsigned_abs h ∣ unsigned_abs k
     back d = subst (λ z. unsigned_abs z ∣ unsigned_abs k) (sym e) (subst (λ z. unsigned_abs g ∣ unsigned_abs z) (sym s) d)
 
-    no : {A : Type 0} → false ≡ true → A
-    no e = cc
-
     by_test : (b : Bool) → (IsTrue b → unsigned_abs h ∣ unsigned_abs k) × (unsigned_abs h ∣ unsigned_abs k → IsTrue b) → (IsTrue (not b) → IsApart f) × (IsApart f → IsTrue (not b))
-    by_test true t = (λ z. no z, λ a. absurd (apart_from f g c a (read (t.0 refl))))
-    by_test false t = (λ z. apart_by f g w c (λ d. no (t.1 (back d))), λ a. refl)
+    by_test true t = (λ z. false_true z, λ a. absurd (apart_from f g c a (read (t.0 refl))))
+    by_test false t = (λ z. apart_by f g w c (λ d. false_true (t.1 (back d))), λ a. refl)
 
 -- what the tests of parts and of the constant say, with the divisor and the constants as they are read back
 module _ (x y : Lin) (g h : ℤ) (e : h ≡ g) (w : (x.den ≡ pos 1) × (x.parts ≢ [])) (d : y.den ≡ pos 1) (p : pos 0 <ℤ g) (c : IsCommonDivisor (factor_sizes x.parts) (unsigned_abs g)) where
   pub multiples_test : (a : Bool) → a ≡ false → (IsTrue a → x.parts ≡ map (times_part h) y.parts) × (x.parts ≡ map (times_part h) y.parts → IsTrue a) → (IsTrue a → IsQuotient x y) × (IsQuotient x y → IsTrue a)
-  multiples_test a f t = ((λ z. no (sym f ∙ z)), λ q. t.1 (subst (λ z. x.parts ≡ map (times_part z) y.parts) (sym e) (quotient_multiples x y g p c q)))
-    where
-      no : {A : Type 0} → false ≡ true → A
-      no e = cc
+  multiples_test a f t = ((λ z. false_true (sym f ∙ z)), λ q. t.1 (subst (λ z. x.parts ≡ map (times_part z) y.parts) (sym e) (quotient_multiples x y g p c q)))
 
   pub quotient_test : (a b : Bool) (k r : ℤ) → a ≡ true → k ≡ x.constant → r ≡ y.constant → (IsTrue a → x.parts ≡ map (times_part h) y.parts) × (x.parts ≡ map (times_part h) y.parts → IsTrue a)
       → (IsTrue b → IsFloor k (unsigned_abs h) r) × (IsFloor k (unsigned_abs h) r → IsTrue b) → (IsTrue b → IsQuotient x y) × (IsQuotient x y → IsTrue b)

@@ -2,6 +2,7 @@
 use Rattle.std.specs.Prelude.{ℕ, ◌≡◌, ◌≢◌, ◌⊎◌, Bool, true, false, ◌&&◌, ◌<◌, List, [], length, get_or, Option, Some, None}
 use Rattle.std.proofs.Common.{refl, sym, ap, ◌∙◌, subst, inl, inr}
 use Rattle.std.proofs.lemmas.Option.{slice_get_read, same_Some}
+use Rattle.std.proofs.lemmas.Bool.{and_right}
 use Rattle.ae_num.specs.Forms.{Step}
 use Rattle.ae_core.specs.Decided.{Sort_discrete}
 use Rattle.ae_core.specs.Sorts.{sort_of, same_sort, same_numeric}
@@ -125,11 +126,7 @@ module _ (sig : Signature) (lines : List EqLine) (s t : Term) (k : ℕ) (f : Fac
   pub round_none : of_one_sort sig (at_most s t) f ≡ false → line_steps sig lines (LeRound s t k) ≡ []
   round_none e =
       steps_none (fact_at lines k) f (λ g. is_inequality g && of_one_sort sig (at_most s t) g) (λ g. round_steps g (at_most s t)) there
-      (both_false (is_inequality f) (of_one_sort sig (at_most s t) f) e)
-    where
-      both_false : (a b : Bool) → b ≡ false → (a && b) ≡ false
-      both_false true b e = e
-      both_false false b e = refl
+      (and_right (is_inequality f) (of_one_sort sig (at_most s t) f) e)
 
   pub round_states : f.relation ≢ Equal → of_one_sort sig (at_most s t) f ≡ true → line_steps sig lines (LeRound s t k) ≡ round_steps f (at_most s t)
   round_states n e =

@@ -4,7 +4,7 @@ use Rattle.std.specs.List.{AllByRecursion, list_all}
 use Rattle.std.specs.Ordering.{int_eq}
 use Rattle.std.proofs.Common.{arith, refl, sym, ap, ◌∙◌, subst}
 use Rattle.std.proofs.lemmas.Bool.Decides.{nat_tests, Decides-int_eq, Decides-ltb}
-use Rattle.std.proofs.lemmas.Bool.{eqb-true}
+use Rattle.std.proofs.lemmas.Bool.{eqb-true, ltb-true}
 use Rattle.ae_math.specs.Inner.Integers.{ring}
 use borrow.Author.Differences.{ints}
 use lib.IntN.{*ℤ_comm}
@@ -178,10 +178,7 @@ args_sorted h ss ts (sig, e) = all_sorted sig ts (by_parts (list_all (is_closed_
     by_parts false o q = cc
 
 within_means : (z : ℤ) → within z ≡ true → unsigned_abs z < 2 ^ 127
-within_means z h = below (unsigned_abs z) (2 ^ 127) h
-  where
-    below : (m n : ℕ) → nat_lt m n ≡ true → m < n
-    below m n h = grind (arith, nat_tests)
+within_means z h = ltb-true (unsigned_abs z) (2 ^ 127) h
 
 -- what holds of the numbers of a numeral
 pub record AreNumbers (top bottom : ℤ) : Type 0 where

@@ -78,12 +78,9 @@ before_more xs x (wide r) = refl
 -- a number that a blank closes isn't the greatest
 pub closed_below : (low n e : ℕ) → may_close (place_span low) n e ≡ true → e ≡ 32 → n ≤ last_but_one
 closed_below low n e h q = elim (or_cases (nat_eq e 93 && true) (nat_eq e 32 && nat_le n last_but_one) h) [
-  | inl a ↦ (let x = eqb-true e 93 (sym (and-true (nat_eq e 93)) ∙ a) in absurd (no_both e x q))
+  | inl a ↦ (let x = eqb-true e 93 (sym (and-true (nat_eq e 93)) ∙ a) in absurd (omega (arith, x, q)))
   | inr b ↦ leb-true n last_but_one (and_two (nat_eq e 32) (nat_le n last_but_one) b)
 ]
-  where
-    no_both : (e : ℕ) → e ≡ 93 → e ≡ 32 → ⊥
-    no_both e x q = let z : nat_eq 93 32 ≡ true = eq-eqb 93 32 (sym x ∙ q) in cc
 
 pub below_where : (low : ℕ) (result : Result (Closed × ℕ) Fault) → IfOk result (λ v. may_close (place_span low) v.0.0 v.0.1 ≡ true) → IfOk result (λ v. v.0.1 ≡ 32 → v.0.0 ≤ last_but_one)
 below_where low (Ok v) h = closed_below low v.0.0 v.0.1 h

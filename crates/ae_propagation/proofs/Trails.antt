@@ -9,8 +9,8 @@ use Rattle.ae_core.specs.declared.formulas.Lit.{Lit}
 use Rattle.ae_explain.specs.declared.trail.Assigned.{Assigned}
 use Rattle.ae_explain.specs.Trail.{at, nothing, place_in, Apart, IsFalse, level_before}
 use Rattle.std.proofs.lemmas.Option.{none-some}
+use Rattle.ae_base.proofs.Tests.{not_itself}
 use Rattle.ae_explain.proofs.Places.{there}
-use Rattle.ae_explain.proofs.Hinting.{flipped}
 use Rattle.ae_propagation.specs.Settled.{Holds}
 
 -- two places with one formula are one
@@ -28,7 +28,7 @@ pub consistent : (t : List Assigned) → Apart t → (m : Lit) → Holds t m →
 consistent t apart m y n =
     let q : y.0 ≡ n.0 = same_place t apart y.0 n.0 y.1 n.1 (ap (λ (x : Lit). x.formula) y.2 ∙ sym (ap (λ (x : Lit). x.formula) n.2)) in
     let e : m ≡ opposite m = sym y.2 ∙ (ap (λ (k : ℕ). (at t k).lit) q ∙ n.2) in
-    flipped m.positive (ap (λ (x : Lit). x.positive) e)
+    not_itself m.positive (ap (λ (x : Lit). x.positive) e)
 
 -- what has a value has a place
 pub no_place : (t : List Assigned) → Apart t → (f : Formula) → place_in t f ≡ None → (j : ℕ) → j < length t → (at t j).lit.formula ≡ f → ⊥

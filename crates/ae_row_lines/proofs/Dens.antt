@@ -11,6 +11,7 @@ use Rattle.ae_math.specs.Fractions.{neg_ℚ, ◌+ℚ◌, ◌*ℚ◌, ratio}
 use Rattle.ae_math.proofs.FractionLaws.{same_frac}
 use Rattle.ae_math.proofs.Divisors.{gcd_exists, coprime_parts, euclid, divisor_positive, whole_part as whole_times}
 use Rattle.std.proofs.lemmas.Int.{unsigned_abs-mul}
+use Rattle.ae_base.proofs.Integers.{size_positive}
 use Rattle.ae_num.specs.declared.forms.Lin.{Lin}
 use Rattle.ae_num.specs.Forms.{meaning, SameMeaning, IsNormal, factor_of as lin_factor}
 use Rattle.ae_num.proofs.MeaningLaws.{factor_meaning, ratio_sum, ratio_scaled, ratio_times, product_positive}
@@ -111,11 +112,6 @@ module _ (n : ℕ) (p q r : Lin) (np : IsNormal p) (nq : IsNormal q) (nr : IsNor
   pub divides : unsigned_abs r.den ∣ unsigned_abs (p.den *ℤ q.den)
   unfolding big
   divides = divides_by_parts (unsigned_abs r.den) (unsigned_abs big) (size_positive r.den nr.positive) Number each_divides low
-    where
-      size_positive : (z : ℤ) → pos 0 <ℤ z → 0 < unsigned_abs z
-      size_positive (pos zero) h = absurd (omega (arith, ints))
-      size_positive (pos (suc n)) h = omega arith
-      size_positive (negsuc n) h = absurd (omega (arith, ints))
 
 quotient : (r b : ℤ) → pos 0 <ℤ r → pos 0 <ℤ b → unsigned_abs r ∣ unsigned_abs b → (d : ℤ) × (pos 0 <ℤ d) × (d *ℤ r ≡ b)
 quotient (pos zero) b p q h = absurd (omega (arith, ints))

@@ -4,7 +4,7 @@ use mathlib.Core.Logic.{inl, inr}
 use Rattle.std.proofs.lemmas.Bool.{eqb-true}
 use Rattle.ae_base.specs.Decided.{decided}
 use Rattle.ae_codes.specs.Closers.{by_blank, closers, square}
-use Rattle.ae_codes.specs.Codes.{Read, got, stops, wide, Code, Begins, both, one}
+use Rattle.ae_codes.specs.Codes.{Read, got, stops, wide, Code, Begins, both, one, is_bracket}
 use Rattle.ae_codes.specs.Listings.{listing_code, no_shape, no_sure, no_codes, no_inner, one_item, one_shaped, one_begins}
 use Rattle.ae_codes.specs.Names.{names}
 use Rattle.ae_codes.specs.Plans.{known}
@@ -15,7 +15,7 @@ use Rattle.ae_core.specs.declared.terms.Head.TheVariants as head
 use Rattle.ae_core.specs.declared.terms.Op.TheVariants as op
 use Rattle.ae_core.specs.declared.terms.Sort.{Sort, Int}
 use Rattle.ae_prooftext.specs.Clauses.{sorts}
-use Rattle.ae_prooftext.specs.SortTexts.{SomeType, some_type, sort_is_spelled, fine, blank, blank_end, is_bracket}
+use Rattle.ae_prooftext.specs.SortTexts.{SomeType, some_type, sort_is_spelled, fine, blank, blank_end}
 use Rattle.ae_prooftext.specs.TermTexts.{above_square, sort_in, sorts_begin, sorts_shaped}
 use Rattle.ae_prooftext.specs.Texts.{sort_text}
 use Rattle.ae_prooftext.specs.Words.{symbol_name, type_names}

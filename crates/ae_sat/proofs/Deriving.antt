@@ -3,6 +3,8 @@ use Rattle.std.proofs.Common.{◌≡◌, ℕ, zero, suc, ◌<◌, Bool, true, fa
 use Rattle.std.specs.Prelude.{slice_get, ◌&&◌}
 use Rattle.std.specs.List.{Contains, list_all}
 use Rattle.std.proofs.lemmas.Option.{slice_get_within, get_or_from_slice_get}
+use Rattle.std.proofs.lemmas.Bool.{and_parts, and_from}
+use Rattle.ae_base.proofs.ListFacts.{map_map}
 use Rattle.ae_base.specs.Options.{◌>>=◌, all_known}
 use Rattle.ae_core.specs.Sorts.{formula_ok}
 use Rattle.ae_rules.specs.Clauses.{Clause}
@@ -55,24 +57,12 @@ module _ (p : Problem) (g : ℕ) where
 -- ---- sorts of literals
 pub sorted_one : (P : Lit → Bool) (c : Clause) (m : Lit) → list_all P c ≡ true → Contains c m → P m ≡ true
 sorted_one P [] m a h = absurd (omega (arith, h.1))
-sorted_one P (x ∷ c) m a (zero, l, e) = subst (λ (w : Lit). P w ≡ true) e (left_true (P x) (list_all P c) a)
-  where
-    left_true : (a b : Bool) → (a && b) ≡ true → a ≡ true
-    left_true true b h = refl
-    left_true false b h = absurd (true≢false (sym h))
-sorted_one P (x ∷ c) m a (suc k, l, e) = sorted_one P c m (right_true (P x) (list_all P c) a) (k, omega (arith, l), e)
-  where
-    right_true : (a b : Bool) → (a && b) ≡ true → b ≡ true
-    right_true true b h = h
-    right_true false b h = absurd (true≢false (sym h))
+sorted_one P (x ∷ c) m a (zero, l, e) = subst (λ (w : Lit). P w ≡ true) e (and_parts (P x) (list_all P c) a).0
+sorted_one P (x ∷ c) m a (suc k, l, e) = sorted_one P c m (and_parts (P x) (list_all P c) a).1 (k, omega (arith, l), e)
 
 sorted_all : (P : Lit → Bool) (c : Clause) → ((m : Lit) → Contains c m → P m ≡ true) → list_all P c ≡ true
 sorted_all P [] h = refl
-sorted_all P (x ∷ c) h = both (P x) (list_all P c) (h x (zero, omega arith, refl)) (sorted_all P c (λ m r. h m (suc r.0, omega (arith, r.1), r.2)))
-  where
-    both : (a b : Bool) → a ≡ true → b ≡ true → (a && b) ≡ true
-    both true b h k = k
-    both false b h k = absurd (true≢false (sym h))
+sorted_all P (x ∷ c) h = and_from (P x) (list_all P c) (h x (zero, omega arith, refl)) (sorted_all P c (λ m r. h m (suc r.0, omega (arith, r.1), r.2)))
 
 -- each literal of the trail is one of a clause
 pub in_clause : (t : List Assigned) (u : List Clause) → IsLawful t u → ((j : ℕ) → j < length t → (at t j).by ≡ None → (c : Clause) × IsOneOf u c × Contains c (at t j).lit)
@@ -100,15 +90,11 @@ module _ (p : Problem) (g : ℕ) (t : List Assigned) (u : List Clause) (places :
   derived_by : (c : Clause) (hints : List ℕ) → Propagates u c hints → is_refuted (hinted_lines p g ls (map (λ h. get_or places h 0) hints)) c ≡ true
   derived_by c hints d = by_known (all_known (map (slice_get u) hints)) refl d
     where
-      maps : (f : ℕ → Option Clause) (v : ℕ → ℕ) (ns : List ℕ) → map f (map v ns) ≡ map (λ n. f (v n)) ns
-      maps f v [] = refl
-      maps f v (n ∷ ns) = ap (λ (w : List (Option Clause)). f (v n) ∷ w) (maps f v ns)
-
       by_known : (o : Option (List Clause)) → all_known (map (slice_get u) hints) ≡ o → is_refuted o c ≡ true → is_refuted (hinted_lines p g ls (map (λ h. get_or places h 0) hints)) c ≡ true
       by_known None e h = absurd (true≢false (sym h))
       by_known (Some cs) e h =
           let k : all_known (map (stated_by p g ls) (map (λ h. get_or places h 0) hints)) ≡ Some cs =
-          ap all_known (maps (stated_by p g ls) (λ h. get_or places h 0) hints) ∙ known_same (slice_get u) (λ n. stated_by p g ls (get_or places n 0)) hints cs reads e in
+          ap all_known (map_map (λ h. get_or places h 0) (stated_by p g ls) hints) ∙ known_same (slice_get u) (λ n. stated_by p g ls (get_or places n 0)) hints cs reads e in
           subst (λ (w : Option (List Clause)). is_refuted w c ≡ true) (sym k) h
 
   -- a line more, which derives what is false by the trail

@@ -2,7 +2,7 @@
 use Rattle.std.specs.Prelude.{ℕ, zero, suc, ◌<◌, Bool, true, false, not, ◌&&◌, ◌||◌, ◌≡◌, List, [], ◌∷◌}
 use Rattle.std.specs.List.{Contains, list_all, list_any}
 use Rattle.std.proofs.Common.{inl, inr}
-use Rattle.std.proofs.lemmas.Bool.{and_parts, and_from, or_cases, or_left}
+use Rattle.std.proofs.lemmas.Bool.{and_parts, and_from, or_cases, or_left, or_right}
 use mathlib.Core.Path.{refl, sym, ap, subst, ◌∙◌}
 use native.Mathlib.Omega.{arith}
 use Rattle.ae_base.specs.Decided.{decided}
@@ -34,12 +34,8 @@ module _ {A : Type 0} (t : A → Bool) where
   by_any [] x i e = absurd (omega (arith, i.1))
   by_any (z ∷ zs) x i e = elim (contains_cases z zs x i) as (λ _. t z || list_any t zs ≡ true) [
     | inl q ↦ or_left (t z) (list_any t zs) (ap t q ∙ e)
-    | inr j ↦ or_right (t z) (by_any zs x j e)
+    | inr j ↦ or_right (t z) (list_any t zs) (by_any zs x j e)
   ]
-    where
-      or_right : (b : Bool) {c : Bool} → c ≡ true → b || c ≡ true
-      or_right true h = refl
-      or_right false h = h
 
 pub stands_tells : (ls : List Lit) (l : Lit) → stands ls l ≡ true → Contains ls l
 stands_tells ls l e =

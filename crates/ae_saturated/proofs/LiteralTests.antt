@@ -3,7 +3,7 @@ use Rattle.std.proofs.Common.{drop, get_or, inl, inr}
 use Rattle.std.proofs.lemmas.List.{drop_more}
 use Rattle.std.specs.Prelude.{ℕ, zero, suc, ◌+◌, ◌<◌, Bool, true, false, cond, not, ◌&&◌, ◌||◌, nat_eq, ◌≡◌, ◌≢◌, ◌⊎◌, List, [], ◌∷◌, length, Option, Some, None}
 use Rattle.std.specs.List.{AllByRecursion, Contains, list_all, list_any}
-use Rattle.std.proofs.lemmas.Bool.{and_parts, and_from, or_cases, or_left, eqb-true, eq-eqb, cases_eq, false_from_ne_true}
+use Rattle.std.proofs.lemmas.Bool.{and_parts, and_from, or_cases, or_left, eqb-true, eq-eqb, cases_eq, false_from_ne_true, and_right, or_right}
 use mathlib.Core.Path.{refl, sym, ap, subst, ◌∙◌}
 use native.Mathlib.Omega.{arith}
 use Rattle.ae_base.specs.Decided.{decided}
@@ -35,7 +35,7 @@ use Rattle.ae_decide.proofs.NameTests.{named_of, of_named}
 use Rattle.ae_decide.proofs.ValueTests.{alike_of, of_alike, implied, by_implied}
 use Rattle.ae_saturated.specs.Literals.{is_consistent, are_named, some_stands, rows_stand, equation_by, equation_holds, are_same, all_same, denies_by, denies, predicate_by, predicate_holds}
 use Rattle.ae_decide.proofs.NameTests.{denied as untrue}
-use Rattle.ae_base.proofs.Tests.{not_where}
+use Rattle.ae_base.proofs.Tests.{not_where, false_true}
 use Rattle.ae_saturated.proofs.Elements.{all_tells, by_all, any_tells, by_any, stands_tells, by_stands}
 
 -- ---- the steps of the loops
@@ -61,10 +61,7 @@ by_rows ls f zero g = no_rows ls f
 by_rows ls f (suc n) g = more_rows ls f n ∙ and_from (some_stands ls (row n f)) (rows_stand ls f n) (g n) (by_rows ls f n g)
 
 pub one_row : (ls : List Lit) (f : Formula) (n r : ℕ) → r < n → some_stands ls (row r f) ≡ false → rows_stand ls f n ≡ false
-one_row ls f n r h e = false_from_ne_true (rows_stand ls f n) (λ t. differ (sym e ∙ rows_tell ls f n r t h))
-  where
-    differ : false ≡ true → ⊥
-    differ d = cc
+one_row ls f n r h e = false_from_ne_true (rows_stand ls f n) (λ t. false_true (sym e ∙ rows_tell ls f n r t h))
 
 pub same_step : (sig : Signature) (y : System) (ts us : List Term) (i : ℕ) (d : Term) → i < length ts → length ts ≡ length us
     → all_same sig y (drop i ts) (drop i us) ≡ are_same sig y (get_or ts i d) (get_or us i d) && all_same sig y (drop (i + 1) ts) (drop (i + 1) us)
@@ -75,11 +72,7 @@ pub same_lengths : (sig : Signature) (y : System) (ts us : List Term) → length
 same_lengths sig y [] [] n = absurd (n refl)
 same_lengths sig y [] (u ∷ us) n = refl
 same_lengths sig y (t ∷ ts) [] n = refl
-same_lengths sig y (t ∷ ts) (u ∷ us) n = last (are_same sig y t u) (all_same sig y ts us) (same_lengths sig y ts us (λ e. n (ap suc e)))
-  where
-    last : (b c : Bool) → c ≡ false → b && c ≡ false
-    last true c e = e
-    last false c e = refl
+same_lengths sig y (t ∷ ts) (u ∷ us) n = and_right (are_same sig y t u) (all_same sig y ts us) (same_lengths sig y ts us (λ e. n (ap suc e)))
 
 -- ---- rows have numbers up to 16
 step : (r : ℕ) (c : Clause) (n : ℕ) (d : Clause) (later : Option Clause) → n < 17 → (later ≡ Some c → r < 17)
@@ -196,12 +189,8 @@ module _ (sig : Signature) (y : System) (terms : HasTerms sig y) (leaves : HasLe
   same_of : (t u : Term) → AreSame sig y t u → are_same sig y t u ≡ true
   same_of t _ itself = or_left _ _ (decided_of (Term_discrete t t) refl)
   same_of t u (by_value s v a b x z) =
-      or_right (decided (Term_discrete t u))
+      or_right (decided (Term_discrete t u)) _
       (and_from _ _ ((λ i. same_known (a i) (b i)) ∙ decided_of (Sort_discrete s s) refl) (alike_of y terms.apart leaves.normal t u v x z))
-    where
-      or_right : (b : Bool) {c : Bool} → c ≡ true → b || c ≡ true
-      or_right true h = refl
-      or_right false h = h
 
   same_tells : (t u : Term) → are_same sig y t u ≡ true → AreSame sig y t u
   same_tells t u e = elim (or_cases (decided (Term_discrete t u)) _ e) as (λ _. AreSame sig y t u) [

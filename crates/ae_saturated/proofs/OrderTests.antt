@@ -1,7 +1,7 @@
 -- The tests of inequalities say `true` exactly where they hold at the point.
 use Rattle.std.proofs.Common.{drop, get_or, inl, inr}
 use Rattle.std.proofs.lemmas.List.{drop_more, drop_all}
-use Rattle.std.proofs.lemmas.Bool.{and_parts, and_from, or_cases, or_left, false_from_ne_true}
+use Rattle.std.proofs.lemmas.Bool.{and_parts, and_from, or_cases, or_left, false_from_ne_true, or_right}
 use Rattle.std.specs.Prelude.{ℕ, ℤ, pos, ◌+◌, ◌<◌, ◌≤◌, Bool, true, false, cond, not, ◌&&◌, ◌||◌, nat_eq, ◌≡◌, ◌↔◌, ◌⊎◌, List, [], ◌∷◌, map, length, Option, Some, None}
 use mathlib.Core.Path.{refl, sym, ap, subst, ◌∙◌}
 use native.Mathlib.Decide.{ℕ_discrete}
@@ -126,11 +126,7 @@ holds_tells ps strict v w e = elim (or_cases (not strict && are_even v w) (is_ab
 by_holds : (ps : List PointAt) (strict : Bool) (v w : Value) → HoldsAt ps strict (sum_in (difference v w)) → holds_at ps strict v w ≡ true
 by_holds ps strict v w (inl (z, s)) =
     or_left (not strict && are_even v w) (is_above ps v w) (and_from (not strict) (are_even v w) (ap not s) (by_even v w z))
-by_holds ps strict v w (inr r) = or_right (not strict && are_even v w) (sym (ap is_positive (difference_at ps v w)) ∙ r)
-  where
-    or_right : (b : Bool) {c : Bool} → c ≡ true → b || c ≡ true
-    or_right true h = refl
-    or_right false h = h
+by_holds ps strict v w (inr r) = or_right (not strict && are_even v w) (is_above ps v w) (sym (ap is_positive (difference_at ps v w)) ∙ r)
 
 -- ---- a literal
 module _ (y : System) (apart : AreApart y) (ps : List PointAt) (l : Lit) where

@@ -3,6 +3,7 @@ use Rattle.std.specs.Prelude.{ℕ, Bool, true, false, ◌&&◌, ◌≡◌, List,
 use Rattle.std.specs.List.{list_all}
 use mathlib.Core.Path.{refl, sym, ap, ◌∙◌}
 use Rattle.std.proofs.lemmas.List.Folds.{list_all-append}
+use Rattle.std.proofs.Math.Bool.{and-true}
 use Rattle.ae_core.proofs.Recursion.{fold_true, fold_false, fold_eq, fold_lt, fold_le, fold_pred, fold_not, fold_and, fold_or, fold_xor, fold_iff, fold_all, fold_ex}
 use Rattle.ae_core.specs.declared.formulas.Formula.{Formula, True, False, Eq, Lt, Le, Pred, Not, And, Or, Xor, Iff, All, Ex}
 use Rattle.ae_core.specs.declared.formulas.Quant.{Quant}
@@ -21,10 +22,6 @@ module _ (names : List Term) where
   two true true = refl
   two true false = refl
   two false c = refl
-
-  one : (b : Bool) → b && true ≡ b
-  one true = refl
-  one false = refl
 
   pub named-True : are_named names True ≡ true
   unfolding outside
@@ -50,7 +47,7 @@ module _ (names : List Term) where
   unfolding outside
   named-Pred p ss us =
       of (Pred p ss us) (Apply (head.Symbol p) ss us ∷ []) (fold_pred (List Term) (Unit {0}) outside_step (λ q. tt) p ss us)
-      ∙ one (stands_in names (Apply (head.Symbol p) ss us))
+      ∙ and-true (stands_in names (Apply (head.Symbol p) ss us))
 
   pub named-Not : (a : Formula) → are_named names (Not a) ≡ are_named names a
   unfolding outside

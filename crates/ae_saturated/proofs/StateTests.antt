@@ -2,6 +2,7 @@
 use Rattle.std.specs.Prelude.{ℕ, Bool, true, false, not, ◌&&◌, ◌≡◌, ◌↔◌, List, [], length, slice_get, Some}
 use Rattle.std.specs.List.{Contains, list_all}
 use Rattle.std.proofs.lemmas.Bool.{and_parts, and_from}
+use Rattle.ae_base.proofs.Tests.{false_true}
 use mathlib.Core.Path.{refl, sym, ap, ◌∙◌}
 use Rattle.ae_base.proofs.AllOf.{test_of_all, all_from_places}
 use Rattle.ae_base.proofs.ListFacts.{list_all_at}
@@ -162,10 +163,7 @@ module _ (p : Problem) (g : ℕ) (st : Saturated) where
     told_yes e = (not_open p g st closed plain, λ bound. saturated p g st free bound (flat_of e))
 
     pub told_no : state_fits p g st ≡ false → (¬ IsOpen p g st) × ((bound : ℕ) → ¬ IsSaturated p g st bound)
-    told_no e = (not_open p g st closed plain, λ bound s. differ (sym e ∙ fits_of (flat p g st free bound s)))
-      where
-        differ : false ≡ true → ⊥
-        differ d = cc
+    told_no e = (not_open p g st closed plain, λ bound s. false_true (sym e ∙ fits_of (flat p g st free bound s)))
 
   pub not_completed : list_all is_closed st.literals ≡ true → none_generic p g (length p.items) ≡ true → ¬ IsCompleted p.signature st.system
       → (¬ IsOpen p g st) × ((bound : ℕ) → ¬ IsSaturated p g st bound)

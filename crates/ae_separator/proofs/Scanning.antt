@@ -4,7 +4,7 @@ use mathlib.Core.List.{cons≢nil}
 use Rattle.std.proofs.Math.Seq.{take-append_seam, drop-length}
 use Rattle.std.proofs.lemmas.List.{length-take, take-append-drop, take_all, take_more}
 use Rattle.std.proofs.lemmas.Bool.{eqb-true, eqb-false}
-use Rattle.ae_codes.specs.Codes.{cuts}
+use Rattle.ae_codes.specs.Codes.{cuts, no_cons}
 use Rattle.ae_report.specs.Lines.{AreLines, none, ended}
 use Rattle.ae_separator.specs.Inner.Scans.{HasNoEnd, HasNone, LineIs, Scanned, line_with}
 use Rattle.ae_separator.specs.Separators.{HasNoSeparator, IsParted, Separates, line, last}
@@ -12,10 +12,6 @@ use Rattle.ae_separator.specs.declared.separator.Line.{Line}
 use Rattle.ae_separator.specs.declared.separator.Line.TheVariants.{Nothing, OneSign, TwoSigns, Other}
 
 -- ---- lists
-no_middle : {P : Type 0} (xs : List ℕ) (y : ℕ) (ys : List ℕ) → xs ++ y ∷ ys ≡ [] → P
-no_middle [] y ys e = absurd (cons≢nil e)
-no_middle (x ∷ xs) y ys e = absurd (cons≢nil e)
-
 heads : (x y : ℕ) (xs ys : List ℕ) → x ∷ xs ≡ y ∷ ys → (x ≡ y) × (xs ≡ ys)
 heads x y xs ys e = let p : x ≡ y = cc in let q : xs ≡ ys = cc in (p, q)
 
@@ -26,27 +22,27 @@ ends l (ended bs) = inr (bs, refl)
 -- the last bytes of two lists
 same_last : (xs ys : List ℕ) (x y : ℕ) → xs ++ x ∷ [] ≡ ys ++ y ∷ [] → x ≡ y
 same_last [] [] x y e = (heads x y [] [] e).0
-same_last [] (b ∷ ys) x y e = absurd (no_middle ys y [] (sym (heads x b [] (ys ++ y ∷ []) e).1))
-same_last (a ∷ xs) [] x y e = absurd (no_middle xs x [] (heads a y (xs ++ x ∷ []) [] e).1)
+same_last [] (b ∷ ys) x y e = absurd (no_cons ys y [] (sym (heads x b [] (ys ++ y ∷ []) e).1))
+same_last (a ∷ xs) [] x y e = absurd (no_cons xs x [] (heads a y (xs ++ x ∷ []) [] e).1)
 same_last (a ∷ xs) (b ∷ ys) x y e = same_last xs ys x y (heads a b (xs ++ x ∷ []) (ys ++ y ∷ []) e).1
 
 -- whole lines don't end with a sign
 no_sign_last : (l b : List ℕ) → AreLines l → l ≡ b ++ 37 ∷ [] → ⊥
 no_sign_last l b a e = elim (ends l a) [
-  | inl n ↦ no_middle b 37 [] (sym e ∙ n)
+  | inl n ↦ absurd (no_cons b 37 [] (sym e ∙ n))
   | inr m ↦ let s : 37 ≡ 10 = same_last b m.0 37 10 (sym e ∙ m.1) in omega (arith, s)
 ]
 
 -- an end stands in no list without one
 no_end_in : (own m r : List ℕ) → HasNoEnd own → own ≡ m ++ 10 ∷ r → ⊥
-no_end_in [] m r h e = no_middle m 10 r (sym e)
+no_end_in [] m r h e = absurd (no_cons m 10 r (sym e))
 no_end_in (x ∷ own) [] r h e = h.0 (heads x 10 own r e).0
 no_end_in (x ∷ own) (y ∷ m) r h e = no_end_in own m r h.1 (heads x y own (m ++ 10 ∷ r) e).1
 
 -- the first end of a line is its last byte
 no_end_before : (own m : List ℕ) (x : ℕ) (xs : List ℕ) → HasNoEnd own → own ++ 10 ∷ [] ≡ m ++ 10 ∷ x ∷ xs → ⊥
 no_end_before [] [] x xs h e = cons≢nil (sym (heads 10 10 [] (x ∷ xs) e).1)
-no_end_before [] (y ∷ m) x xs h e = no_middle m 10 (x ∷ xs) (sym (heads 10 y [] (m ++ 10 ∷ x ∷ xs) e).1)
+no_end_before [] (y ∷ m) x xs h e = absurd (no_cons m 10 (x ∷ xs) (sym (heads 10 y [] (m ++ 10 ∷ x ∷ xs) e).1))
 no_end_before (o ∷ own) [] x xs h e = h.0 (heads o 10 (own ++ 10 ∷ []) (x ∷ xs) e).0
 no_end_before (o ∷ own) (y ∷ m) x xs h e = no_end_before own m x xs h.1 (heads o y (own ++ 10 ∷ []) (m ++ 10 ∷ x ∷ xs) e).1
 
@@ -78,7 +74,7 @@ begun = record {
   are_lines = none;
   no_end = tt;
   is = refl;
-  none = λ b r a e. no_middle b 37 (37 ∷ 10 ∷ r) (sym e);
+  none = λ b r a e. absurd (no_cons b 37 (37 ∷ 10 ∷ r) (sym e));
 }
 
 no_end_more : (own : List ℕ) (b : ℕ) → HasNoEnd own → b ≢ 10 → HasNoEnd (own ++ b ∷ [])
@@ -138,13 +134,13 @@ none_last_within lines b x (y ∷ z ∷ m) rest a e f =
 -- whole lines behind whole lines end
 lines_behind : (lines m : List ℕ) (y : ℕ) → AreLines (lines ++ y ∷ m) → (bs : List ℕ) × (y ∷ m ≡ bs ++ 10 ∷ [])
 lines_behind lines m y a = elim (ends (lines ++ y ∷ m) a) [
-  | inl n ↦ absurd (no_middle lines y m n)
+  | inl n ↦ absurd (no_cons lines y m n)
   | inr e ↦ go lines m y e.0 e.1
 ]
   where
     go : (l k : List ℕ) (z : ℕ) (bs : List ℕ) → l ++ z ∷ k ≡ bs ++ 10 ∷ [] → (cs : List ℕ) × (z ∷ k ≡ cs ++ 10 ∷ [])
     go [] k z bs e = (bs, e)
-    go (x ∷ l) k z [] e = absurd (no_middle l z k (heads x 10 (l ++ z ∷ k) [] e).1)
+    go (x ∷ l) k z [] e = absurd (no_cons l z k (heads x 10 (l ++ z ∷ k) [] e).1)
     go (x ∷ l) k z (b ∷ bs) e = go l k z bs (heads x b (l ++ z ∷ k) (bs ++ 10 ∷ []) e).1
 
 pub line_ends_here : (bytes : List ℕ) (begin : ℕ) (l : Line) → l ≢ TwoSigns → Scanned bytes begin l → Scanned (bytes ++ 10 ∷ []) (length bytes + 1) Nothing
@@ -173,7 +169,7 @@ line_ends_here bytes begin l not_two s = record {
 -- ---- what was found
 longer_within : (x : ℕ) (m own : List ℕ) → 37 ∷ 37 ∷ [] ≡ x ∷ m ++ 37 ∷ 37 ∷ own → ⊥
 longer_within x [] own e = cons≢nil (sym (heads 37 37 [] (37 ∷ own) (heads 37 x (37 ∷ []) (37 ∷ 37 ∷ own) e).1).1)
-longer_within x (y ∷ m) own e = no_middle m 37 (37 ∷ own) (sym (heads 37 y [] (m ++ 37 ∷ 37 ∷ own) (heads 37 x (37 ∷ []) (y ∷ m ++ 37 ∷ 37 ∷ own) e).1).1)
+longer_within x (y ∷ m) own e = absurd (no_cons m 37 (37 ∷ own) (sym (heads 37 y [] (m ++ 37 ∷ 37 ∷ own) (heads 37 x (37 ∷ []) (y ∷ m ++ 37 ∷ 37 ∷ own) e).1).1))
 
 first_of_all : (lines own b a input : List ℕ) → AreLines lines → HasNone lines → input ≡ lines ++ 37 ∷ 37 ∷ own → Separates input b a → length lines ≤ length b
 first_of_all lines own b a input are none_there is (line before after c e) = elim (cuts lines before (37 ∷ 37 ∷ own) (37 ∷ 37 ∷ 10 ∷ after) (sym is ∙ e)) [

@@ -2,6 +2,7 @@
 use Rattle.std.specs.Prelude.{ℕ, ℤ, pos, negsuc, unsigned_abs, suc, neg_ℤ, ◌*ℤ◌, ◌<ℤ◌, ◌≡◌, ◌≢◌, Bool, true, false, List, [], ◌∷◌, map}
 use Rattle.std.specs.List.{AllByRecursion}
 use Rattle.std.proofs.Common.{arith, refl, sym, ap, ◌∙◌, subst, inl, inr}
+use Rattle.ae_base.proofs.Integers.{positive_nonzero}
 use native.Mathlib.Decide.{ℕ_discrete}
 use borrow.Author.Differences.{ints}
 use Rattle.ae_base.proofs.Decided.{pick_yes}
@@ -54,8 +55,6 @@ equal_stated : (ts : List Term) (steps : List Step) (id n m : ℕ) → StatesEqu
 equal_stated ts steps id n m s = stated_by ts steps id (record { left = side.Name n; right = side.Name m; rule = s.by }) s.there
 
 -- ---- a combination of earlier steps is allowed
-not_zero : (d : ℤ) → pos 0 <ℤ d → d ≢ pos 0
-not_zero d p e = let q : pos 0 <ℤ pos 0 = subst (λ z. pos 0 <ℤ z) e p in omega (arith, ints)
 
 fact_sorted : (sig : Signature) (ts : List Term) (real : Bool) (n : ℕ) (l : Lin) → IsWritten sig ts real n l → HaveSort sig (sort_for real) (fact ts real n l)
 fact_sorted sig ts real n l w = (name_sorted sig ts real n l w, value_sorted sig ts real n l w)
@@ -66,7 +65,7 @@ combined_by : (sig : Signature) (ts : List Term) (steps : List Step) (real : Boo
 combined_by sig ts steps real l r D parts fs both p combined equals sorted sums =
     record {
       sorted = one_sort (sort_for real) (sort_of sig (side_term ts l)) (sort_of sig (side_term ts r)) both.0 both.1;
-      allowed = (not_zero D p, fs, combined, equals, record { sort = sort_for real; numeric = numeric_sort real; sorted = both; all_sorted = sorted; sums = sums });
+      allowed = (positive_nonzero D p, fs, combined, equals, record { sort = sort_for real; numeric = numeric_sort real; sorted = both; all_sorted = sorted; sums = sums });
     }
 
 allowed_by : (sig : Signature) (ts : List Term) (steps : List Step) (real : Bool) (n : ℕ) (l : Lin) (D : ℤ) (parts : List Scaled) (fs : List (ℤ × Fact)) → IsWritten sig ts real n l → pos 0 <ℤ D

@@ -6,7 +6,7 @@ use mathlib.Core.Logic.{inl, inr}
 use mathlib.Core.List.{append_assoc}
 use Rattle.std.proofs.lemmas.Bool.{eqb-true, not-true, lt-ltb}
 use Rattle.ae_base.specs.Options.{or_else, ◌>>=◌}
-use Rattle.ae_codes.specs.Codes.{Code, Begins, both, one, mapped, words}
+use Rattle.ae_codes.specs.Codes.{Code, Begins, both, one, mapped, words, is_bracket}
 use Rattle.ae_codes.specs.Listings.{listed_text}
 use Rattle.ae_codes.specs.Names.{WordEnd, names}
 use Rattle.ae_codes.specs.Rising.{rising_spelled}
@@ -20,7 +20,7 @@ use Rattle.ae_core.specs.declared.terms.Head.TheVariants as head
 use Rattle.ae_core.specs.declared.terms.Op.TheVariants as op
 use Rattle.ae_core.specs.declared.terms.Sort.{Sort}
 use Rattle.ae_prooftext.specs.Clauses.{sorts, sorts_spelled}
-use Rattle.ae_prooftext.specs.SortTexts.{fine, fine_word, blank, blank_end, is_bracket, some_type, SomeType}
+use Rattle.ae_prooftext.specs.SortTexts.{fine, fine_word, blank, blank_end, some_type, SomeType}
 use Rattle.ae_prooftext.specs.Texts.{sort_text}
 use Rattle.ae_prooftext.specs.Words.{type_names, head_word, takes_sorts, symbol_name, has_variables, symbols, named}
 use Rattle.ae_prooftext.specs.WordLaws.{named_back, named_passes, filtered_pass}

@@ -1,5 +1,5 @@
 -- Points as the grammar reads them.
-use Rattle.std.proofs.Common.{ℕ, pos, suc, ◌+◌, ◌*◌, ◌-◌, ◌≤◌, ◌<◌, Bool, true, false, ◌&&◌, ◌||◌, nat_eq, nat_lt, List, [], ◌∷◌, ◌++◌, ◌≡◌, ◌≢◌, length, drop, refl, sym, ap, ◌∙◌, append_assoc, arith}
+use Rattle.std.proofs.Common.{ℕ, pos, suc, ◌+◌, ◌*◌, ◌-◌, ◌≤◌, ◌<◌, Bool, true, false, ◌&&◌, ◌||◌, nat_eq, nat_lt, List, [], ◌∷◌, ◌++◌, ◌≡◌, ◌≢◌, length, drop, refl, sym, ap, ◌∙◌, append_assoc, arith, length-append}
 use Rattle.std.proofs.Math.Bool.{or_self}
 use Rattle.std.proofs.Math.Seq.{drop-append_seam}
 use Rattle.std.proofs.lemmas.List.{length-drop, drop-drop}
@@ -173,13 +173,9 @@ one_back text w at behind x low high e =
     let cut : drop at text ≡ w ++ x ∷ drop behind text = e ∙ append_assoc w (x ∷ []) (drop behind text) in
     let all = length-drop at text in
     let rest = length-drop behind text in
-    let both : length (drop at text) ≡ length w + suc (length (drop behind text)) = ap length cut ∙ length_append w (x ∷ drop behind text) in
+    let both : length (drop at text) ≡ length w + suc (length (drop behind text)) = ap length cut ∙ length-append w (x ∷ drop behind text) in
     let place : behind - 1 ≡ at + length w = omega (arith, low, high, all, rest, both) in
     ap (λ n. drop n text) place ∙ sym (drop-drop (length w) at text) ∙ ap (drop (length w)) cut ∙ drop-append_seam w (x ∷ drop behind text)
-  where
-    length_append : (w r : List ℕ) → length (w ++ r) ≡ length w + length r
-    length_append [] r = omega arith
-    length_append (y ∷ w) r = let l = length_append w r in omega (arith, l)
 
 -- the byte that closed the digits stands there
 pub close_back : (negated : Bool) (text : List ℕ) (at behind : ℕ) (v : Closed) → ReadsExactly (long_at negated true by_line) text at (Ok (v, behind)) → at < behind → behind ≤ length text → drop (behind - 1) text ≡ v.1 ∷ drop behind text

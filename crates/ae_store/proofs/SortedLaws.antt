@@ -2,7 +2,7 @@
 use Rattle.std.specs.Prelude.{ℕ, ℤ, ◌<◌, Bool, true, false, cond, ◌||◌, List, [], ◌∷◌, ◌≡◌, map, length, slice_get, Option, Some, None}
 use Rattle.std.specs.List.{list_all}
 use Rattle.std.proofs.Common.{refl, sym, ap, ◌∙◌, subst, arith, inl, inr}
-use Rattle.std.proofs.lemmas.Bool.{and_parts, or_cases}
+use Rattle.std.proofs.lemmas.Bool.{and_parts, or_cases, or_right}
 use Rattle.ae_base.proofs.Tests.{false_true}
 use Rattle.ae_base.proofs.Options.{known_some}
 use Rattle.ae_core.proofs.ClosedSorts.{applied_is, field_sorted}
@@ -90,10 +90,6 @@ applied_of sig h ss us e = elim (or_cases (known (sort_of sig (Apply h ss us))) 
 pub of_enterable : (sig : Signature) (t : Term) (s : Sort) → IsOfSort sig t s → enterable sig t ≡ true
 of_enterable sig t s (inl e) = ap (λ o. known o || applied_ok sig (is_closed_sort sig) [] (out-Term t)) e
 of_enterable sig t s (inr e) = or_right (known (sort_of sig t)) (applied_ok sig (is_closed_sort sig) [] (out-Term t)) e.0
-  where
-    or_right : (a b : Bool) → b ≡ true → a || b ≡ true
-    or_right true b e = refl
-    or_right false b e = e
 
 -- ---- fields
 module _ (sig : Signature) (law : IsLawful sig) where

@@ -1,5 +1,6 @@
 -- A level is the tighter level with a chain.
 use Rattle.std.proofs.Common.{ℕ, ◌<◌, Bool, true, false, List, [], ◌∷◌, ◌++◌, ◌≡◌, refl, sym, ap, ◌∙◌, arith, append_assoc}
+use Rattle.ae_base.proofs.Tests.{false_true}
 use Rattle.ae_lex.specs.declared.kinds.Token.{Token}
 use Rattle.ae_lex.specs.declared.kinds.TokenKind.{TokenKind}
 use Rattle.ae_lex.specs.declared.kinds.TokenKind.TheVariants as kind
@@ -84,12 +85,6 @@ abbrev pub BeginsRel : List Token → Type 0
 BeginsRel [] = ⊥
 BeginsRel (t ∷ ts) = starts_rel t.kind ≡ true
 
-never : {A : Type 0} → ◌≡◌ {A = Bool} false true → A
-never e = absurd (go e)
-  where
-    go : ◌≡◌ {A = Bool} false true → ⊥
-    go e = cc
-
 pub atom_begins_rel : (k : TokenKind) → starts_atom k ≡ true → starts_rel k ≡ true
 atom_begins_rel (kind.Sign sign.Minus) e = refl
 atom_begins_rel k e = e
@@ -105,10 +100,10 @@ not_is_rel d v t (kind.Reserved word.Void) e = refl
 not_is_rel d v t (kind.Reserved word.Distinct) e = refl
 not_is_rel d v t (kind.Sign sign.OpenParen) e = refl
 not_is_rel d v t (kind.Sign sign.OpenBrace) e = refl
-not_is_rel d v t k e = never e
+not_is_rel d v t k e = false_true e
 
 unary_is_post : (d : ℕ) (v : List Part) (t : Token) (k : TokenKind) → starts_atom k ≡ true → act (a_unary d) v t k ≡ act (a_post d) v t k
-unary_is_post d v t (kind.Sign sign.Minus) e = never e
+unary_is_post d v t (kind.Sign sign.Minus) e = false_true e
 unary_is_post d v t k e = refl
 
 pub as_not : (d : ℕ) (rest : List Token) (ss : List Want) (v : List Part) → BeginsRel rest → run rest (an_not d ∷ ss) v ≡ run rest (a_rel d ∷ ss) v

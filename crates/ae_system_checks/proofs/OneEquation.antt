@@ -3,6 +3,7 @@ use Rattle.std.specs.Prelude.{ℕ, zero, suc, Bool, true, false, not, nat_eq, �
 use Rattle.std.specs.List.{AllByRecursion, Contains}
 use Rattle.std.proofs.Common.{inl, inr}
 use Rattle.std.proofs.lemmas.Option.{same_Some}
+use Rattle.ae_base.proofs.Tests.{not_itself}
 use mathlib.Core.Path.{refl, sym, ap, subst, ◌∙◌}
 use native.Mathlib.Omega.{arith}
 use Rattle.ae_base.proofs.Options.{never_some}
@@ -125,10 +126,6 @@ signs =
 
 consistent : (l : Lit) → Contains literals l → Contains literals (opposite l) → ⊥
 consistent l i j = not_itself l.positive (sym (signs l i) ∙ signs (opposite l) j)
-  where
-    not_itself : (c : Bool) → c ≡ not c → ⊥
-    not_itself true e = cc
-    not_itself false e = cc
 
 in_goal : outside goal ≡ constant 0 ∷ constant 1 ∷ constant 0 ∷ constant 2 ∷ []
 in_goal =

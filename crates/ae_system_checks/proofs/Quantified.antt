@@ -4,6 +4,7 @@ use Rattle.std.specs.List.{AllByRecursion, Contains}
 use Rattle.std.proofs.Common.{inl, inr}
 use Rattle.std.proofs.lemmas.Bool.{ltb-true}
 use Rattle.std.proofs.lemmas.Option.{same_Some}
+use Rattle.ae_base.proofs.Tests.{not_itself}
 use mathlib.Core.Path.{refl, sym, ap, subst, ◌∙◌}
 use native.Mathlib.Omega.{arith}
 use Rattle.ae_base.specs.Options.{or_else, only, all_known, ◌>>=◌}
@@ -144,10 +145,6 @@ signs =
 
 consistent : (l : Lit) → Contains literals l → Contains literals (opposite l) → ⊥
 consistent l i j = not_itself l.positive (sym (signs l i) ∙ signs (opposite l) j)
-  where
-    not_itself : (c : Bool) → c ≡ not c → ⊥
-    not_itself true e = cc
-    not_itself false e = cc
 
 outside_fixed : outside fixed ≡ []
 unfolding outside

@@ -4,6 +4,7 @@ use Rattle.std.specs.List.{Contains}
 use Rattle.std.proofs.Common.{inl, inr}
 use Rattle.std.proofs.lemmas.Bool.{ltb-true}
 use Rattle.std.proofs.lemmas.Option.{same_Some}
+use Rattle.ae_base.proofs.Tests.{false_true}
 use mathlib.Core.Path.{sym, ap, subst, ◌∙◌}
 use native.Mathlib.Omega.{arith}
 use Rattle.ae_base.specs.Options.{only}
@@ -38,10 +39,7 @@ pub formula_of : {c d : Bool} {f g : Formula} → ◌≡◌ {A = Lit} (record { 
 formula_of e = ap (λ (l : Lit). l.formula) e
 
 pub wrong_sign : {A : Type 0} {f g : Formula} → is_false f ≡ is_true g → A
-wrong_sign e = absurd (differ (ap (λ (l : Lit). l.positive) e))
-  where
-    differ : false ≡ true → ⊥
-    differ e = cc
+wrong_sign e = false_true (ap (λ (l : Lit). l.positive) e)
 
 -- ---- the terms in a formula
 pub outside_or : (f g : Formula) → outside (Or f g) ≡ outside f ++ outside g

@@ -3,6 +3,7 @@ use Rattle.std.specs.Prelude.{ℕ, zero, suc, Bool, true, false, not, nat_lt, �
 use Rattle.std.specs.List.{AllByRecursion, Contains}
 use Rattle.std.proofs.Common.{inl, inr}
 use Rattle.std.proofs.lemmas.Option.{same_Some}
+use Rattle.ae_base.proofs.Tests.{not_itself}
 use mathlib.Core.Path.{refl, sym, ap, subst, ◌∙◌}
 use native.Mathlib.Omega.{arith}
 use Rattle.ae_base.specs.Options.{all_known, only, ◌>>=◌}
@@ -388,10 +389,6 @@ signs =
 
 consistent : (l : Lit) → Contains literals l → Contains literals (opposite l) → ⊥
 consistent l i j = not_itself l.positive (sym (signs l i) ∙ signs (opposite l) j)
-  where
-    not_itself : (c : Bool) → c ≡ not c → ⊥
-    not_itself true e = cc
-    not_itself false e = cc
 
 -- ---- the terms in them
 in_rest : outside rest ≡ u 0 3 ∷ constant 4 ∷ u 2 3 ∷ u 4 1 ∷ []

@@ -5,7 +5,7 @@ use Rattle.std.specs.List.{list_any}
 use Rattle.std.specs.Str.{bytes_eq}
 use Rattle.std.proofs.lemmas.Bool.{eqb-true, eq-eqb, ne_eqb, false_from_ne_true}
 use Rattle.std.proofs.lemmas.Slice.Eq.{bytes_eq-Decides}
-use Rattle.ae_codes.specs.Codes.{Read, got, stops, wide, Code, both, one, mapped, words}
+use Rattle.ae_codes.specs.Codes.{Read, got, stops, wide, Code, both, one, mapped, words, is_bracket}
 use Rattle.ae_codes.specs.Closers.{Close, by_blank, closers, close_end, sizes, round, square}
 use Rattle.ae_codes.specs.Fractions.{or_two}
 use Rattle.ae_codes.specs.Names.{WordEnd, In, Proper, names, closing}
@@ -17,7 +17,7 @@ use Rattle.ae_core.specs.declared.terms.Sort.{Sort, Sort-F, Int, roll-Sort}
 use Rattle.ae_core.specs.declared.terms.Sort.TheOpen as layer
 use Rattle.ae_core.specs.declared.terms.Sort.TheVariants as sort
 use Rattle.ae_core.specs.declared.terms.Sort.TheVariants.{rolls-Int, rolls-Real, rolls-Bool, rolls-Unit, rolls-Named, rolls-Rigid}
-use Rattle.ae_prooftext.specs.SortTexts.{SortEnd, SomeType, some_type, some_of, RawSort, Compound, Leaf, fine, blank, blank_end, atoms, atom, place, here_or, list_dec, above_round, is_bracket, is_quote, quoted, atom_names, leaves, leaf_of, compound, compound_begins, leaves_other, quoted_begins, atom_other, int_first, raw_by, raw_back, to_layer, end_of, sort_to, sort_from, sort_layer, inner_sort, inner_is_shaped, inner_reads}
+use Rattle.ae_prooftext.specs.SortTexts.{SortEnd, SomeType, some_type, some_of, RawSort, Compound, Leaf, fine, blank, blank_end, atoms, atom, place, here_or, list_dec, above_round, is_quote, quoted, atom_names, leaves, leaf_of, compound, compound_begins, leaves_other, quoted_begins, atom_other, int_first, raw_by, raw_back, to_layer, end_of, sort_to, sort_from, sort_layer, inner_sort, inner_is_shaped, inner_reads}
 use Rattle.ae_prooftext.specs.SortTexts as sorts
 use Rattle.ae_prooftext.specs.TermTexts.{above_square, sort_in, sorts_shaped}
 use Rattle.ae_prooftext.specs.Words.{type_names}

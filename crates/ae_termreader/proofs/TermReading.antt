@@ -5,7 +5,7 @@ use Rattle.std.specs.List.{find}
 use Rattle.std.specs.Str.{bytes_eq}
 use Rattle.std.proofs.lemmas.Bool.{eqb-true, eq-eqb, ne_eqb}
 use Rattle.ae_base.specs.Options.{or_else}
-use Rattle.ae_codes.specs.Codes.{Read, got, stops, wide, Code, both, one, mapped, words, is_digit, limit, too_wide}
+use Rattle.ae_codes.specs.Codes.{Read, got, stops, wide, Code, both, one, mapped, words, is_digit, limit, too_wide, is_bracket}
 use Rattle.ae_codes.specs.Closers.{Close, closers, close_end, sizes, by_blank, by_bracket, round, square}
 use Rattle.ae_codes.specs.Integers.{negate}
 use Rattle.ae_codes.specs.Machines.{checked, machine}
@@ -28,7 +28,7 @@ use Rattle.ae_core.specs.declared.terms.Term.TheVariants as term
 use Rattle.ae_core.specs.declared.terms.Term.TheVariants.{rolls-Bound, rolls-Num, rolls-Fresh, rolls-Apply}
 use Rattle.ae_prooftext.specs.Grammar.{is_real}
 use Rattle.ae_prooftext.specs.Numbers.{Numeral, num_of, last_of, numeral_to, numeral_end}
-use Rattle.ae_prooftext.specs.SortTexts.{above_round, fine, blank, blank_end, is_bracket}
+use Rattle.ae_prooftext.specs.SortTexts.{above_round, fine, blank, blank_end}
 use Rattle.ae_prooftext.specs.TermTexts as terms
 use Rattle.ae_prooftext.specs.TermTexts.{TermEnd, TermValue, above_square, Arguments, LeafValue, FreshValue, AppliedValue, bracket_table, lone_table, head_fine, first_real, term_to, term_from, is_hash, is_figure, is_mark, plus_first, true_first}
 use Rattle.ae_prooftext.specs.WordLaws.{at_real}

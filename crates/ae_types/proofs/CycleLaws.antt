@@ -2,6 +2,7 @@
 use Rattle.std.proofs.Common.{◌≡◌, ◌≢◌, ℕ, zero, suc, ◌+◌, ◌<◌, ◌≤◌, List, [], ◌∷◌, map, length, get_or, refl, ap, sym, ◌∙◌, subst, arith, slice_get, slice_set, Some, Bool, true, false, nat_lt, if◌then◌else◌}
 use Rattle.std.proofs.lemmas.Bool.Decides.{nat_tests}
 use Rattle.std.proofs.lemmas.List.{length-map, get_or-map}
+use Rattle.std.proofs.Math.Nat.{le-add_right}
 use Rattle.ae_core.specs.declared.terms.Sort.{Sort, Var, Unit as UnitSort}
 use Rattle.ae_types.specs.declared.pairs.SortPair.{SortPair}
 use Rattle.ae_types.specs.declared.pairs.Clash.TheVariants.{Cycle}
@@ -35,10 +36,7 @@ set_length (x ∷ xs) (suc i) s = ap suc (set_length xs i s)
 
 count_set : (x : ℕ) (xs : List Sort) (i : ℕ) (s : Sort) → i < length xs → count_of x s ≤ total (map (count_of x) (slice_set xs i s))
 count_set x [] i s h = absurd (omega arith)
-count_set x (y ∷ ys) zero s h = let a = total (map (count_of x) ys) in at_least (count_of x s) a
-  where
-    at_least : (a b : ℕ) → a ≤ a + b
-    at_least a b = omega arith
+count_set x (y ∷ ys) zero s h = let a = total (map (count_of x) ys) in le-add_right (count_of x s) a
 count_set x (y ∷ ys) (suc i) s h = more (count_of x y) (total (map (count_of x) (slice_set ys i s))) (count_of x s) (count_set x ys i s (omega arith))
   where
     more : (a b c : ℕ) → c ≤ b → c ≤ a + b

@@ -6,6 +6,7 @@ use Rattle.std.specs.Int.{IsGcd, w128}
 use Rattle.std.proofs.lemmas.Int.{to_z-of_z, fits_signed_from_abs}
 use mir.Val.{of_z, to_z}
 use Rattle.std.proofs.lemmas.Bool.{eqb-true, eq-eqb, ne_eqb, leb-true, le-leb, ltb-true, lt-ltb}
+use Rattle.std.proofs.Math.Bool.{and-true}
 use Rattle.ae_codes.specs.Closers.{Close, by_blank, closers}
 use Rattle.ae_codes.specs.Codes.{Read, got, stops, wide, Code, both, wide_digits, limit, takes}
 use Rattle.ae_codes.specs.Fractions.{lives, lowest, lowest_bound, passing_by, or_cases}
@@ -76,15 +77,15 @@ const_is : (den : ℕ) (bytes : List ℕ) → (const_code den).read bytes ≡ co
 const_is den bytes = integer_is (consts den 0 zero_small) (consts den 1 one_small) (const_positive den) bytes ∙ same_signed _ _ (const_by den) bytes
 
 -- ---- factors with their names
+without : (b : Bool) → IsTrue (b || false) → IsTrue b
+without true h = refl
+without false h = h
+
 module _ (den : ℕ) (some : 1 ≤ den) where
   module _ (i : At) (g : ℕ) (all : GcdOf g den i.seen) where
     -- a factor
     may_low : (b : Bool) (n : ℕ) → nat_lt i.low top ≡ b → may_be_factor den i n ≡ cond b (lies 1 limit n) (lowest g n)
-    may_low true n e = ap (λ b. lies 1 limit n && (b || is_lowest den (i.seen ++ n ∷ []))) e ∙ and_truth (lies 1 limit n)
-      where
-        and_truth : (b : Bool) → b && true ≡ b
-        and_truth true = refl
-        and_truth false = refl
+    may_low true n e = ap (λ b. lies 1 limit n && (b || is_lowest den (i.seen ++ n ∷ []))) e ∙ and-true (lies 1 limit n)
     may_low false n e =
         ap (λ b. lies 1 limit n && (b || is_lowest den (i.seen ++ n ∷ []))) e
         ∙ ap (λ b. lies 1 limit n && b) (lowest_by_one den g n i.seen some all)
@@ -137,11 +138,7 @@ module _ (den : ℕ) (some : 1 ≤ den) where
 
       above : (b : Bool) → is_lowest den ns ≡ b → i.low ≤ high b
       above true e = i.room
-      above false e = let w = subst (λ b. IsTrue (nat_lt i.low top || b)) e (some_way den i k) in let l = ltb-true i.low top (or_left (nat_lt i.low top) w) in omega (arith, l)
-        where
-          or_left : (b : Bool) → IsTrue (b || false) → IsTrue b
-          or_left true h = refl
-          or_left false h = h
+      above false e = let w = subst (λ b. IsTrue (nat_lt i.low top || b)) e (some_way den i k) in let l = ltb-true i.low top (without (nat_lt i.low top) w) in omega (arith, l)
 
       name_by : (b : Bool) (n : ℕ) → is_lowest den ns ≡ b → may_be_name den i.low ns n ≡ lies i.low (high b) n
       name_by true n e = ap (λ b. from_low i.low n && (nat_lt n top || b)) e ∙ drop_true (from_low i.low n) (nat_lt n top)
@@ -152,14 +149,10 @@ module _ (den : ℕ) (some : 1 ≤ den) where
           drop_true false b = refl
       name_by false n e = ap (λ b. from_low i.low n && (nat_lt n top || b)) e ∙ both_ways (from_low i.low n && (nat_lt n top || false)) (lies i.low (top - 1) n)
           (λ h. let l = is_between i.low top n (and_one (from_low i.low n) (nat_lt n top || false) h) in
-          let u = ltb-true n top (or_left (nat_lt n top) (and_two (from_low i.low n) (nat_lt n top || false) h)) in
+          let u = ltb-true n top (without (nat_lt n top) (and_two (from_low i.low n) (nat_lt n top || false) h)) in
           lies_between i.low (top - 1) n l.0 (omega (arith, u)))
           (λ h. let l = is_between i.low (top - 1) n h in let q = l.1 in
           numbers.and_both (from_low i.low n) (nat_lt n top || false) (lies_between i.low top n l.0 (omega (arith, q))) (numbers.or_one (nat_lt n top) false (lt-ltb n top (omega (arith, q)))))
-        where
-          or_left : (b : Bool) → IsTrue (b || false) → IsTrue b
-          or_left true h = refl
-          or_left false h = h
 
       below_top : (n : ℕ) → nat_lt n top ≡ nat_le n (top - 1)
       below_top n = both_ways (nat_lt n top) (nat_le n (top - 1)) (λ h. let l = ltb-true n top h in le-leb n (top - 1) (omega (arith, l))) (λ h. let l = leb-true n (top - 1) h in lt-ltb n top (omega (arith, l)))

@@ -1,5 +1,5 @@
 -- Multisets as the grammar reads them.
-use Rattle.std.proofs.Common.{ℕ, ◌⊎◌, ◌≤◌, Bool, true, false, ◌&&◌, ◌||◌, nat_eq, nat_le, List, [], ◌∷◌, ◌++◌, ◌≡◌, ◌≢◌, drop, refl, sym, ap, ◌∙◌, append_assoc}
+use Rattle.std.proofs.Common.{ℕ, ◌⊎◌, ◌≤◌, Bool, true, false, ◌&&◌, ◌||◌, nat_eq, nat_le, List, [], ◌∷◌, ◌++◌, ◌≡◌, ◌≢◌, drop, refl, sym, ap, ◌∙◌, append_assoc, arith}
 use mathlib.Core.Logic.{inl, inr}
 use Rattle.std.proofs.lemmas.Bool.{eqb-true, eq-eqb, ne_eqb, leb-true}
 use Rattle.ae_codes.specs.Codes.{Read, got, stops, wide, Code, words, wide_digits}
@@ -72,12 +72,9 @@ before_more xs x (wide r) = refl
 -- a number that a blank closes is at most the greatest
 pub closed_within : (low n e : ℕ) → may_close (rising_span low) n e ≡ true → e ≡ 32 → n ≤ top
 closed_within low n e h q = elim (or_cases (nat_eq e 93 && true) (nat_eq e 32 && nat_le n top) h) [
-  | inl a ↦ (let x = eqb-true e 93 (and_true (nat_eq e 93) ∙ a) in absurd (no_both e x q))
+  | inl a ↦ (let x = eqb-true e 93 (and_true (nat_eq e 93) ∙ a) in absurd (omega (arith, x, q)))
   | inr b ↦ leb-true n top (and_two (nat_eq e 32) (nat_le n top) b)
 ]
-  where
-    no_both : (e : ℕ) → e ≡ 93 → e ≡ 32 → ⊥
-    no_both e x q = let z : nat_eq 93 32 ≡ true = eq-eqb 93 32 (sym x ∙ q) in cc
 
 -- ---- as far as a loop over numbers has come
 module _ (text : List ℕ) (from : ℕ) where

@@ -3,7 +3,7 @@ use Rattle.std.proofs.Common.{ℕ, suc, Bool, true, false, nat_eq, List, [], ◌
 use mathlib.Core.Logic.{inl, inr}
 use Rattle.std.proofs.lemmas.Bool.{eqb-true, eq-eqb, ne_eqb}
 use Rattle.ae_codes.specs.Closers.{Close, closers, close_end, round, sizes}
-use Rattle.ae_codes.specs.Codes.{Read, got, Code, both}
+use Rattle.ae_codes.specs.Codes.{Read, got, Code, both, is_bracket}
 use Rattle.ae_codes.specs.Names.{closing}
 use Rattle.ae_codes.specs.Nested.{Shaped, agree_same}
 use Rattle.ae_codes.specs.Numbers.{number}
@@ -125,8 +125,8 @@ module _ (k : Close) where
 
   raw_is : (bytes : List ℕ) → after_read (raw_code.read bytes) made ≡ value_turn k bytes
   unfolding choice fixed
-  raw_is [] = ap (λ r. after_read r made) (one_none (λ x. nat_eq x 40) bracket_code (number (sizes k)) (bracket_begins k value shapes) (name_begins k value shapes))
-  raw_is (x ∷ xs) = ap (λ r. after_read r made) (one_is (λ x. nat_eq x 40) bracket_code (number (sizes k)) (bracket_begins k value shapes) (name_begins k value shapes) x xs) ∙ side_is (nat_eq x 40) x xs refl
+  raw_is [] = ap (λ r. after_read r made) (one_none is_bracket bracket_code (number (sizes k)) (bracket_begins k value shapes) (name_begins k value shapes))
+  raw_is (x ∷ xs) = ap (λ r. after_read r made) (one_is is_bracket bracket_code (number (sizes k)) (bracket_begins k value shapes) (name_begins k value shapes) x xs) ∙ side_is (nat_eq x 40) x xs refl
 
   pub value_is : (bytes : List ℕ) → (value k).read bytes ≡ value_turn k bytes
   unfolding value sends

@@ -6,7 +6,7 @@ use mathlib.Core.List.{append-nil, append_assoc}
 use native.Mathlib.Omega.{arith}
 use Rattle.std.specs.List.{AllByRecursion, flat_map}
 use Rattle.std.proofs.lemmas.Bool.{ne_eqb, eq-eqb, eqb-true, le-leb}
-use Rattle.ae_codes.specs.Codes.{Code, Begins, StartsNumeral, is_digit, both, one, mapped, words}
+use Rattle.ae_codes.specs.Codes.{Code, Begins, StartsNumeral, is_digit, both, one, mapped, words, is_bracket}
 use Rattle.ae_codes.specs.Closers.{Close, close_end, closers, closes_round, end_long, round, sizes}
 use Rattle.ae_codes.specs.Fractions.{or_two, or_cases}
 use Rattle.ae_codes.specs.Listings.{joined, after_text, following, following_spelled}
@@ -106,7 +106,7 @@ name_code k = number (sizes k)
 abbrev pub name_plan : Close → ValuePlan Closed
 name_plan k = fixed {T = λ k. ValueEnd} value_shape value_sure (name_code k)
 
-pub bracket_begins : (k : Close) (c : ValueCodes) (h : ValueInner c) → Begins ((bracket k).make c h) (λ x. nat_eq x 40) true
+pub bracket_begins : (k : Close) (c : ValueCodes) (h : ValueInner c) → Begins ((bracket k).make c h) is_bracket true
 unfolding sequence fixed both alone words
 bracket_begins k c h a f = (40, _, refl, refl)
 
@@ -126,7 +126,7 @@ name_starts : (k : Close) (v : Closed) → (name_code k).Fits v → StartsNumera
 unfolding number checked
 name_starts k v f = starts (sizes k) v f
 
-pub name_begins : (k : Close) (c : ValueCodes) (h : ValueInner c) → Begins ((name_plan k).make c h) (λ x. nat_eq x 40) false
+pub name_begins : (k : Close) (c : ValueCodes) (h : ValueInner c) → Begins ((name_plan k).make c h) is_bracket false
 unfolding fixed
 name_begins k c h a f = figure_first ((name_code k).text a) (name_starts k a f)
 
@@ -134,14 +134,14 @@ abbrev pub RawValue : Type 0
 RawValue = Bracket ⊎ Closed
 
 abbrev pub raw_value : Close → ValuePlan RawValue
-raw_value k = choice {T = λ k. ValueEnd} value_shape value_sure (λ x. nat_eq x 40) (bracket k) (name_plan k) (bracket_begins k) (name_begins k)
+raw_value k = choice {T = λ k. ValueEnd} value_shape value_sure is_bracket (bracket k) (name_plan k) (bracket_begins k) (name_begins k)
 
 opening_long : (c : ValueCodes) (h : ValueInner c) (u : Unit {0}) → (opening.make c h).Fits u → 1 ≤ length ((opening.make c h).text u)
 unfolding fixed alone words
 opening_long c h u f = omega arith
 
 pub raw_tight : (k : Close) → Tight {T = λ k. ValueEnd} value_shape value_sure (raw_value k)
-raw_tight k = choice_tight {T = λ k. ValueEnd} value_shape value_sure (λ x. nat_eq x 40) (bracket k) (name_plan k) (bracket_begins k) (name_begins k)
+raw_tight k = choice_tight {T = λ k. ValueEnd} value_shape value_sure is_bracket (bracket k) (name_plan k) (bracket_begins k) (name_begins k)
     (sequence_tight {T = λ k. ValueEnd} value_shape value_sure opening _ (fixed_tight {T = λ k. ValueEnd} value_shape value_sure (alone tt (40 ∷ []))) opening_long)
     (fixed_tight {T = λ k. ValueEnd} value_shape value_sure (name_code k))
 

@@ -47,4 +47,7 @@ neg_mul_z a b = *ℤ_comm _ b ∙ mul_neg_z b a ∙ ap neg_ℤ (*ℤ_comm b a)
 pub one_mul_z : (a : ℤ) → pos 1 *ℤ a ≡ a
 one_mul_z a = omega (arith, ints)
 
+pub mul_one_z : (a : ℤ) → a *ℤ pos 1 ≡ a
+mul_one_z a = omega (arith, ints)
+
 pub ruleset ring = (mul_assoc_z, *ℤ_comm, mul_left_comm_z, +ℤ_assoc, +ℤ_comm, add_left_comm_z, mul_add_z, add_mul_z, mul_neg_z, neg_mul_z, neg_ℤ-+ℤ, neg_ℤ-neg_ℤ)

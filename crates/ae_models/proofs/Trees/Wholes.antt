@@ -11,7 +11,7 @@ use native.Mathlib.Omega.{arith}
 use std.Quotient.{cls, eq/, effective, /_elim_prop}
 use Rattle.ae_math.specs.Fractions.{ℚ, ℚ_set, Frac, frac, whole}
 use Rattle.ae_math.specs.Inner.Respected.{Same_prop, Same-IsEquivRel}
-use Rattle.ae_math.specs.Inner.Integers.{one_mul_z}
+use Rattle.ae_math.specs.Inner.Integers.{one_mul_z, mul_one_z}
 use lib.IntN.{*ℤ_comm}
 use Rattle.std.proofs.lemmas.Int.{unsigned_abs-mul}
 use Rattle.ae_math.proofs.Wholes.{whole_same}
@@ -28,14 +28,11 @@ whole_class : (a : Frac) → Dec (IsWholeFraction (cls a))
 unfolding frac
 whole_class a =
     elim (dec_dvd (suc a.1) (unsigned_abs a.0)) [
-      | yes d ↦ yes (int_div a.0 (pos (suc a.1)), eq/ a (int_div a.0 (pos (suc a.1)), 0) (*ℤ_one a.0 ∙ sym (divided a.0 (suc a.1) (omega arith) d)))
+      | yes d ↦ yes (int_div a.0 (pos (suc a.1)), eq/ a (int_div a.0 (pos (suc a.1)), 0) (mul_one_z a.0 ∙ sym (divided a.0 (suc a.1) (omega arith) d)))
       | no n ↦ no (λ w.
           let cross : a.0 *ℤ pos 1 ≡ w.0 *ℤ pos (suc a.1) = effective Same_prop Same-IsEquivRel a (w.0, 0) w.1 in
-          n (subst (λ k. suc a.1 ∣ k) (sym (ap unsigned_abs (sym (*ℤ_one a.0) ∙ cross) ∙ unsigned_abs-mul w.0 (pos (suc a.1)))) (dvd-mul_left (suc a.1) (unsigned_abs w.0))))
+          n (subst (λ k. suc a.1 ∣ k) (sym (ap unsigned_abs (sym (mul_one_z a.0) ∙ cross) ∙ unsigned_abs-mul w.0 (pos (suc a.1)))) (dvd-mul_left (suc a.1) (unsigned_abs w.0))))
     ]
-  where
-    *ℤ_one : (z : ℤ) → z *ℤ pos 1 ≡ z
-    *ℤ_one z = *ℤ_comm z (pos 1) ∙ one_mul_z z
 
 pub whole_or_not : (q : ℚ) → Dec (IsWholeFraction q)
 whole_or_not = /_elim_prop (λ q. Dec (IsWholeFraction q)) (λ q. Dec-prop (is_whole_prop q)) whole_class
