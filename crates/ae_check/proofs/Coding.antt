@@ -1,6 +1,6 @@
 -- Codes say what literals say: tests, what becomes false, and refutations.
-use Rattle.std.specs.Prelude.{ℕ, zero, suc, ◌+◌, ◌<◌, ◌≤◌, Bool, true, false, cond, not, nat_eq, ◌&&◌, ◌||◌, List, [], ◌∷◌, ◌++◌, ◌≡◌, length, set, slice_get, slice_index_or, Option, Some, None}
-use Rattle.std.specs.List.{list_any, list_all}
+use Rattle.std.specs.Prelude.{ℕ, zero, suc, ◌<◌, Bool, true, false, cond, not, nat_eq, ◌&&◌, ◌||◌, List, [], ◌∷◌, ◌++◌, ◌≡◌, length, set, slice_get, Option, Some, None}
+use Rattle.std.specs.List.{list_all}
 use Rattle.std.proofs.Common.{refl, sym, ap, ◌∙◌, subst, arith, inl, inr, append_assoc, append-nil, get_or-set_same, get_or-set_other, length-set}
 use Rattle.std.proofs.lemmas.Bool.{and_parts, and_from, cases_eq, cases_lt, eqb-true, eq-eqb, ne_eqb}
 use Rattle.std.proofs.Math.Bool.{or-true, or-false}
@@ -8,7 +8,7 @@ use Rattle.std.proofs.lemmas.List.{set_past}
 use Rattle.std.proofs.lemmas.List.Folds.{list_any-append}
 use Rattle.std.proofs.lemmas.Option.{same_Some}
 use Rattle.ae_base.specs.Decided.{decided}
-use Rattle.ae_base.specs.Options.{when, only, or_else, ◌>>=◌, all_known}
+use Rattle.ae_base.specs.Options.{when, or_else, ◌>>=◌}
 use Rattle.ae_base.specs.Relations.{Pairwise}
 use Rattle.ae_base.proofs.Decided.{decided_yes, decided_of}
 use Rattle.ae_base.proofs.Options.{bind_some}
@@ -20,10 +20,10 @@ use Rattle.ae_core.specs.declared.problems.Problem.{Problem}
 use Rattle.ae_core.specs.declared.proofs.ClauseLine.{ClauseLine}
 use Rattle.ae_rules.specs.Clauses as rules
 use Rattle.ae_rules.specs.Clauses.{Clause, opposite, stands, is_or_stands}
-use Rattle.ae_rules.specs.Derivations.{conclusion, stated_by, hinted, is_refuted}
+use Rattle.ae_rules.specs.Derivations.{stated_by, hinted, is_refuted}
 use Rattle.ae_check.specs.declared.codes.Code.{Code}
 use Rattle.ae_check.specs.declared.codes.Stamp.{Stamp}
-use Rattle.ae_check.specs.Inner.Coding.{IsTable, IsCode, AreCodes, turned, unstamped, stamp_at, side, with_side, is_false, stamped, AreBefore, AreFalse, has_true, all_false, same_code, is_settled, next_false, all_stamped, advanced, ends_false, refutes, AreConcluded}
+use Rattle.ae_check.specs.Inner.Coding.{IsTable, IsCode, AreCodes, turned, unstamped, stamp_at, side, with_side, is_false, stamped, AreBefore, AreFalse, has_true, all_false, same_code, is_settled, next_false, all_stamped, advanced, refutes, AreConcluded}
 
 -- ---- signs
 same_sign : (a b : Bool) → cond a b (not b) ≡ true → a ≡ b

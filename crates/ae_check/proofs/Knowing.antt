@@ -1,13 +1,11 @@
 -- What is kept of earlier lines, one line after another.
-use Rattle.std.specs.Prelude.{ℕ, ◌+◌, ◌<◌, ◌↔◌, IsTrue, Bool, true, false, List, [], ◌∷◌, ◌++◌, ◌≡◌, length, Option, Some, None}
-use Rattle.std.proofs.Common.{refl, sym, ap, ◌∙◌, subst, arith}
+use Rattle.std.specs.Prelude.{ℕ, ◌+◌, IsTrue, Bool, List, [], ◌∷◌, ◌++◌, ◌≡◌, length, Option, Some, None}
+use Rattle.std.proofs.Common.{sym, ap, ◌∙◌, subst}
 use Rattle.std.proofs.lemmas.List.{length_push}
 use Rattle.ae_base.specs.Relations.{Pairwise}
 use Rattle.ae_base.proofs.Relations.{pairwise_push}
 use Rattle.std.proofs.lemmas.Option.{same_Some}
-use Rattle.ae_base.specs.Options.{only}
 use Rattle.ae_base.proofs.Options.{never_some, only_some}
-use Rattle.ae_core.specs.declared.formulas.Formula.{Formula}
 use Rattle.ae_core.specs.declared.problems.Problem.{Problem}
 use Rattle.ae_core.specs.declared.proofs.ClauseLine.{ClauseLine}
 use Rattle.ae_core.specs.declared.proofs.ClauseLine.TheVariants.{Rup}
@@ -17,9 +15,10 @@ use Rattle.ae_check.specs.declared.codes.Code.{Code}
 use Rattle.ae_check.specs.declared.codes.Stamp.{Stamp}
 use Rattle.ae_check.specs.declared.known.Known.{Known}
 use Rattle.ae_check.specs.Inner.Coding.{number_in, IsTable, AreKept, AreCodes, stamp_at, AreBefore, all_stamped, refutes, AreConcluded}
+use Rattle.ae_check.specs.Inner.ConstantSets.{IsOfLines}
 use Rattle.ae_check.specs.Inner.Knowing.{IsKnown, AreReady}
 use Rattle.ae_check.proofs.Coding.{refuted_by_codes}
-use Rattle.ae_check.proofs.Numbering.{before_kept, concluded_kept, table_sized}
+use Rattle.ae_check.proofs.Numbering.{before_kept, concluded_kept}
 
 -- a line without a clause isn't allowed
 pub no_conclusion : (p : Problem) (g : ℕ) (l : ClauseLine) → conclusion p g l ≡ None → ¬ (HasConclusion p g l)
@@ -58,8 +57,9 @@ rup_truth p g earlier l c hs read ks stamps clauses b r e f q =
 
 -- one line more
 pub known_more : (p : Problem) (g : ℕ) (earlier : List ClauseLine) (l : ClauseLine) (ks : List Code) (clauses : List (List Code)) (new : Known) → IsTable (number_in new.table.numbers.entries) new.table.stamps.items → AreBefore (length earlier + 1 + 1) new.table.stamps.items
-    → AreConcluded p g (number_in new.table.numbers.entries) l ks → Pairwise (AreConcluded p g (number_in new.table.numbers.entries)) earlier clauses → new.clauses ≡ clauses ++ ks ∷ [] → IsKnown p g (earlier ++ l ∷ []) new
-known_more p g earlier l ks clauses new t b s w e = record {
+    → AreConcluded p g (number_in new.table.numbers.entries) l ks → Pairwise (AreConcluded p g (number_in new.table.numbers.entries)) earlier clauses → new.clauses ≡ clauses ++ ks ∷ [] → IsOfLines p g (earlier ++ l ∷ []) new.constants → IsKnown p g (earlier ++ l ∷ []) new
+known_more p g earlier l ks clauses new t b s w e of = record {
+  constants = of;
   table = t;
   before = subst (λ n. AreBefore n new.table.stamps.items) (ap (λ n. n + 1) (sym (length_push earlier l))) b;
   clauses = subst (Pairwise (AreConcluded p g (number_in new.table.numbers.entries)) (earlier ++ l ∷ [])) (sym e)

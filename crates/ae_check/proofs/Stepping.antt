@@ -1,13 +1,11 @@
 -- One step of unit propagation by codes.
-use Rattle.std.specs.Prelude.{ℕ, zero, suc, ◌+◌, ◌<◌, ◌≤◌, Bool, true, false, cond, List, [], ◌∷◌, ◌++◌, ◌≡◌, length, drop, get_or, slice_get, Option, Some, None}
+use Rattle.std.specs.Prelude.{ℕ, zero, suc, ◌+◌, ◌<◌, ◌≤◌, Bool, true, false, cond, List, [], ◌∷◌, ◌≡◌, length, drop, get_or, Option, Some, None}
 use Rattle.std.specs.List.{list_all}
-use Rattle.std.proofs.Common.{add-one, refl, sym, ap, ◌∙◌, subst, arith}
-use Rattle.std.proofs.lemmas.Option.{none-some, same_Some}
+use Rattle.std.proofs.Common.{add-one, refl, sym, ap, ◌∙◌, arith}
 use Rattle.ae_base.specs.Options.{when, or_else, ◌>>=◌}
 use Rattle.ae_check.specs.declared.codes.Code.{Code}
 use Rattle.ae_check.specs.declared.codes.Stamp.{Stamp}
-use Rattle.ae_check.specs.Inner.Coding.{turned, is_false, stamped, AreBefore, has_true, is_settled, next_false, all_stamped, advanced, ends_false, refutes}
-use Rattle.ae_check.proofs.Coding.{before_stamped}
+use Rattle.ae_check.specs.Inner.Coding.{turned, is_false, stamped, is_settled, next_false, all_stamped, advanced, ends_false, refutes}
 
 module _ (now : ℕ) where
   -- ---- what becomes false with a clause

@@ -2,6 +2,8 @@
 #![tactic(auto)]
 
 mod codes;
+mod constants;
+mod gathering;
 mod known;
 mod propagation;
 pub mod verdict;

@@ -1,4 +1,4 @@
-use Rattle.std.proofs.Common.{◌≡◌, ◌∙◌, ◌+◌, ◌<◌, refl, sym, ap, subst, arith, length, get_or, Some}
+use Rattle.std.proofs.Common.{◌≡◌, ◌∙◌, refl, sym, ap, subst, arith, length, get_or, Some}
 use Rattle.ae_check.specs.Inner.Coding as spec
 use Rattle.ae_check.specs.Inner.Coding.{AreBefore}
 use Rattle.ae_check.proofs.Coding.{before_all_stamped, all_stamped_size, advanced_size, advanced_before}

@@ -1,4 +1,4 @@
-use Rattle.std.proofs.Common.{◌≡◌, ◌∷◌, ◌++◌, [], true, false, sym, ◌∙◌, subst, take, get_or}
+use Rattle.std.proofs.Common.{◌≡◌, ◌∷◌, ◌++◌, [], true, false, sym, ◌∙◌, subst, take}
 use Rattle.ae_num.proofs.StepLaws.{same_err}
 use Rattle.ae_calc.specs.Reached.{Fit, FirstWide, LineReaches, ProofReaches}
 use Rattle.ae_calc.proofs.AllowedLines.{clause_lines_more}
