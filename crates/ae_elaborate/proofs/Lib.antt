@@ -1,0 +1,3 @@
+mod DraftLaws
+mod DraftNames
+mod ElaborateLaws

@@ -1,0 +1,4 @@
+mod CaseLaws
+mod NodeRules
+mod PlaceLaws
+mod VariableLaws
