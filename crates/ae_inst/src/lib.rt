@@ -1,0 +1,4 @@
+//! Which matches were instantiated.
+#![tactic(auto)]
+
+pub mod instances;

@@ -1,0 +1,4 @@
+//! Matching over a store.
+#![tactic(auto)]
+
+pub mod laws;

@@ -1,0 +1,6 @@
+use Rattle.std.proofs.Common.{◌≡◌, take, true}
+use Rattle.ae_trigger.specs.Inner.Choices as spec
+use Rattle.ae_trigger.proofs.choice.have_all.Given as goal
+
+abbrev pub invariant-loop-one : goal.invariant-loop-one
+invariant-loop-one l = spec.have_all (take l.one-index l.wanted) l.terms ≡ true
