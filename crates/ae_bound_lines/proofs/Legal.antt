@@ -1,7 +1,8 @@
 -- The lines of combinations are legal, and the rows stand after them.
-use Rattle.std.specs.Prelude.{ℕ, ◌<◌, ◌≤◌, Bool, true, ◌||◌, List, [], ◌∷◌, ◌++◌, ◌≡◌, ◌⊎◌, length, Some}
+use Rattle.std.specs.Prelude.{ℕ, ◌<◌, ◌≤◌, Bool, true, false, ◌&&◌, ◌||◌, List, [], ◌∷◌, ◌++◌, ◌≡◌, ◌≢◌, ◌⊎◌, length, slice_get, Some}
 use Rattle.std.specs.List.{AllByRecursion, Contains}
 use Rattle.std.proofs.Common.{refl, arith, sym, ap, ◌∙◌, subst, inl, inr, append_assoc}
+use Rattle.std.proofs.lemmas.Bool.{and_parts}
 use Rattle.std.proofs.lemmas.List.{append-nil}
 use Rattle.std.proofs.lemmas.List.Elements.{Contains-append_left, Contains-append_right}
 use native.Mathlib.Decide.{dec_lt}
@@ -10,12 +11,18 @@ use Rattle.ae_base.proofs.Tests.{true_false}
 use Rattle.ae_math.specs.Fractions.{is_positive}
 use Rattle.ae_math.proofs.FractionOrder.{positive_zero}
 use Rattle.ae_num.specs.declared.forms.Lin.{Lin}
-use Rattle.ae_num.specs.Forms.{meaning, IsNormal, first_wide}
+use Rattle.ae_num.specs.Forms.{meaning, SameMeaning, IsNormal, first_wide}
 use Rattle.ae_rows.specs.Rows.{combination, IsOver, IsLower, IsUpper}
 use Rattle.ae_rows.proofs.Elimination.{over_combination}
 use Rattle.ae_journal.specs.Values.{Sum, sum_of_lin}
-use Rattle.ae_journal.specs.Standing.{Setting}
+use Rattle.ae_core.specs.Sorts.{sort_of}
+use Rattle.ae_core.specs.declared.terms.Term.{Term}
+use Rattle.ae_core.specs.declared.terms.Sort.{Int}
+use Rattle.ae_journal.specs.Sides.{AreWhole}
+use Rattle.ae_journal.specs.Standing.{Setting, IsWholeRow}
+use Rattle.ae_journal.specs.Standing.IsWholeRow.{of_rounding}
 use Rattle.ae_journal.specs.Rows.{IsRow, IsMultiple, MayCombine}
+use Rattle.ae_journal.specs.Rows.IsRow.{of_whole}
 use Rattle.ae_journal.specs.Legal.{IsLegalLine, AreLegal}
 use Rattle.ae_journal.specs.Licences.{stated_steps, IsLicensedStep, IsLicensed}
 use Rattle.ae_journal.specs.Licences.IsLicensedStep.{a_combine}
@@ -30,7 +37,13 @@ use Rattle.ae_combine_lines.proofs.Legal.{legal, are_combined}
 use Rattle.ae_combine_lines.proofs.Standing.{row_stays, own_row, sure_less}
 use Rattle.ae_combine_lines.proofs.Sums.{multiple_form}
 use Rattle.ae_bounds.specs.declared.rows.Row.{Row}
-use Rattle.ae_bound_lines.specs.Standing.{AreStanding}
+use Rattle.ae_bound_lines.specs.Standing.{AreStanding, MayBeAssumed}
+use Rattle.ae_rounding.proofs.Legal.{rounded_legal}
+use Rattle.ae_rounding.proofs.Whole.{combined_whole, divided_keys}
+use Rattle.ae_bounds.specs.Rounding.{IsRowOf, IsAssumed}
+use Rattle.ae_bounds.specs.Rounding.IsRowOf.{as_it_is, rounded}
+use Rattle.ae_bounds.specs.Rounding.HasForm.{own}
+use Rattle.ae_bounds.proofs.Rounded.{rounded_over}
 use Rattle.ae_bounds.specs.Combinations.{IsThere, IsCombined, IsExtended, IsWideIn}
 use Rattle.ae_bounds.specs.Combinations.IsExtended.{as_it_was, one_more, zero_more}
 use Rattle.ae_math.specs.Fractions.{ℚ, zero_ℚ, neg_ℚ}
@@ -68,22 +81,57 @@ module _ (x : Setting) (js : List Line) (rows : List Row) (st : AreStanding x js
   no_multiple : (r : Row) → ¬ IsThere rows (meaning r.lin) → (g : Sum) → IsSure x js g → ¬ IsMultiple (sum_of_lin r.lin) g
   no_multiple r none g s m =
       let a = st.all g s in
-      let k = multiple_form r.lin a.0.lin (subst (IsMultiple (sum_of_lin r.lin)) (sym a.2) m) in
-      none (record { row = a.0; among = a.1; times = k.0; positive = k.1; same = k.2 })
+      let k = multiple_form r.lin a.1 (subst (IsMultiple (sum_of_lin r.lin)) (sym a.4) m) in
+      none (record { row = a.0; among = a.2; form = a.1; of = a.3; times = k.0; positive = k.1; same = k.2 })
 
-  pub legal_line : (r : Row) → IsCombined rows r → ¬ IsThere rows (meaning r.lin) → MayCombine x js r.strict r.lin
-  legal_line r c none =
-      subst (λ b. MayCombine x js b r.lin) (sym c.strict)
-      (legal x js c.name c.first.strict c.second.strict c.first.lin c.second.lin r.lin
-      (opposed_rows c.name c.first c.second (contains_at rows c.lower c.first c.opposed.first_at) (contains_at rows c.upper c.second c.opposed.second_at) c.opposed.below c.opposed.above)
-      c.normal c.same (no_multiple r none))
+  abbrev Whole : Row → Type 0
+  Whole r = r.integral ≡ true → AreWhole x.problem.signature x.names r.lin
 
-  new_named : (r : Row) → IsCombined rows r → IsOver (length x.names) (meaning r.lin)
-  new_named r c =
-      let h : c.name < length x.names = named_below c.name (length x.names) c.first.lin c.opposed.below
-      (all_contained (λ (t : Row). IsOver (length x.names) (meaning t.lin)) rows c.first st.named (contains_at rows c.lower c.first c.opposed.first_at)) in
-      let over = over_combination c.name (meaning c.first.lin) (meaning c.second.lin) c.opposed.below.largest c.opposed.above.largest in
-      record { absent = λ k l. c.same.factors k ∙ over.absent k (omega (arith, h, l)) }
+  module _ (r : Row) (c : IsCombined rows r) where
+    opposed : AreOpposed x js c.name c.first.strict c.first.lin c.second.strict c.second.lin
+    opposed = opposed_rows c.name c.first c.second (contains_at rows c.lower c.first c.opposed.first_at) (contains_at rows c.upper c.second c.opposed.second_at) c.opposed.below c.opposed.above
+
+    -- a combination of sort `int` has such names
+    form_whole : r.integral ≡ true → AreWhole x.problem.signature x.names c.of.form
+    form_whole e =
+        let b = and_parts c.first.integral c.second.integral (sym c.of.sort ∙ e) in
+        combined_whole x.problem.signature x.names c.name c.first.lin c.second.lin c.of.form c.of.form_normal c.of.same
+        (all_contained Whole rows c.first st.whole (contains_at rows c.lower c.first c.opposed.first_at) b.0)
+        (all_contained Whole rows c.second st.whole (contains_at rows c.upper c.second c.opposed.second_at) b.1)
+
+    form_named : IsOver (length x.names) (meaning c.of.form)
+    form_named =
+        let h : c.name < length x.names = named_below c.name (length x.names) c.first.lin c.opposed.below
+        (all_contained Named rows c.first st.named (contains_at rows c.lower c.first c.opposed.first_at)) in
+        let over = over_combination c.name (meaning c.first.lin) (meaning c.second.lin) c.opposed.below.largest c.opposed.above.largest in
+        record { absent = λ k l. c.of.same.factors k ∙ over.absent k (omega (arith, h, l)) }
+
+    pub legal_line : ¬ IsThere rows (meaning r.lin) → MayCombine x js r.strict r.lin
+    legal_line none = by_row c.of.of
+      where
+        by_row : IsRowOf c.of.form (c.first.strict || c.second.strict) r → MayCombine x js r.strict r.lin
+        by_row (as_it_is e s u stays) =
+            subst (λ b. MayCombine x js b r.lin) (sym s)
+            (legal x js c.name c.first.strict c.second.strict c.first.lin c.second.lin r.lin opposed c.of.normal
+            (subst (λ (l : Lin). SameMeaning (meaning l) (combination c.name (meaning c.first.lin) (meaning c.second.lin))) (sym e) c.of.same) (no_multiple r none))
+        by_row (rounded i m d s u) =
+            subst (λ b. MayCombine x js b r.lin) (sym s)
+            (rounded_legal x js c.name c.first.strict c.second.strict c.first.lin c.second.lin c.of.form r.lin opposed c.of.form_normal c.of.same (form_whole i) c.of.normal d (no_multiple r none))
+
+  -- what a row has of the form that it is the row of
+  module _ (l : Lin) (strict : Bool) (r : Row) (normal : IsNormal l) (fine : IsNormal r.lin) where
+    row_named : IsRowOf l strict r → IsOver (length x.names) (meaning l) → IsOver (length x.names) (meaning r.lin)
+    row_named (as_it_is e s u stays) o = subst (λ (k : Lin). IsOver (length x.names) (meaning k)) (sym e) o
+    row_named (rounded i m d s u) o = rounded_over strict l r.lin normal m fine d (length x.names) o
+
+    row_whole : IsRowOf l strict r → (r.integral ≡ true → AreWhole x.problem.signature x.names l) → r.integral ≡ true → AreWhole x.problem.signature x.names r.lin
+    row_whole (as_it_is e s u stays) w i = subst (AreWhole x.problem.signature x.names) (sym e) (w i)
+    row_whole (rounded j m d s u) w i = divided_keys (λ k. (t : Term) × (slice_get x.names k ≡ Some t) × (sort_of x.problem.signature t ≡ Some Int)) d.divisor l.parts r.lin.parts d.divided (w i)
+
+    row_stands : IsRowOf l strict r → IsOver 0 (meaning l) ⊎ IsRow x js strict (sum_of_lin l) → (r.integral ≡ true → l.parts ≢ [] → IsWholeRow x js strict l) → IsOver 0 (meaning r.lin) ⊎ IsRow x js r.strict (sum_of_lin r.lin)
+    row_stands (as_it_is e s u stays) h w =
+        subst (λ b. IsOver 0 (meaning r.lin) ⊎ IsRow x js b (sum_of_lin r.lin)) (sym s) (subst (λ (k : Lin). IsOver 0 (meaning k) ⊎ IsRow x js strict (sum_of_lin k)) (sym e) h)
+    row_stands (rounded i m d s u) h w = inr (subst (λ b. IsRow x js b (sum_of_lin r.lin)) (sym s) (of_whole r.lin (of_rounding js strict l r.lin (w i m) d fine)))
 
   pub standing_more : (r : Row) → IsCombined rows r → AreStanding x (js ++ line.Combine r.strict r.lin ∷ []) (rows ++ r ∷ [])
   standing_more r c = record {
@@ -91,19 +139,31 @@ module _ (x : Setting) (js : List Line) (rows : List Row) (st : AreStanding x js
         (all_weaker (λ (t : Row). IsOver 0 (meaning t.lin) ⊎ IsRow x js t.strict (sum_of_lin t.lin)) (λ (t : Row). IsOver 0 (meaning t.lin) ⊎ IsRow x (js ++ line.Combine r.strict r.lin ∷ []) t.strict (sum_of_lin t.lin))
         (λ t h. elim h [ inl o ↦ inl o | inr k ↦ inr (row_stays x js r.strict r.lin t.strict (sum_of_lin t.lin) k) ]) rows st.stand)
         (inr (own_row x js r.strict r.lin), tt);
-    named = all_append (λ (t : Row). IsOver (length x.names) (meaning t.lin)) rows (r ∷ []) st.named (new_named r c, tt);
+    named = all_append Named rows (r ∷ []) st.named (row_named c.of.form (c.first.strict || c.second.strict) r c.of.form_normal c.of.normal c.of.of (form_named r c), tt);
+    whole = all_append Whole rows (r ∷ []) st.whole (row_whole c.of.form (c.first.strict || c.second.strict) r c.of.form_normal c.of.normal c.of.of (form_whole r c), tt);
     all = λ g s. elim (sure_less x js r.strict r.lin g s) [
-      | inl h ↦ (let a = st.all g h in (a.0, Contains-append_left rows (r ∷ []) a.0 a.1, a.2))
-      | inr e ↦ (r, Contains-append_right rows (r ∷ []) r (contains_here r []), sym e)
+      | inl h ↦ (let a = st.all g h in (a.0, a.1, Contains-append_left rows (r ∷ []) a.0 a.2, a.3, a.4))
+      | inr e ↦ (r, r.lin, Contains-append_right rows (r ∷ []) r (contains_here r []), own, sym e)
     ];
   }
 
-  standing_zero : (r : Row) → IsZero (meaning r.lin) → AreStanding x js (rows ++ r ∷ [])
-  standing_zero r z = record {
-    stand = all_append (λ (t : Row). IsOver 0 (meaning t.lin) ⊎ IsRow x js t.strict (sum_of_lin t.lin)) rows (r ∷ []) st.stand (inl z.over, tt);
-    named = all_append (λ (t : Row). IsOver (length x.names) (meaning t.lin)) rows (r ∷ []) st.named (record { absent = λ k l. z.over.absent k (omega arith) }, tt);
-    all = λ g s. let a = st.all g s in (a.0, Contains-append_left rows (r ∷ []) a.0 a.1, a.2);
+  -- a row more, while the journal is as it was
+  standing_with : (r : Row) → IsOver 0 (meaning r.lin) ⊎ IsRow x js r.strict (sum_of_lin r.lin) → Named r → Whole r → AreStanding x js (rows ++ r ∷ [])
+  standing_with r a b w = record {
+    stand = all_append (λ (t : Row). IsOver 0 (meaning t.lin) ⊎ IsRow x js t.strict (sum_of_lin t.lin)) rows (r ∷ []) st.stand (a, tt);
+    named = all_append Named rows (r ∷ []) st.named (b, tt);
+    whole = all_append Whole rows (r ∷ []) st.whole (w, tt);
+    all = λ g s. let a = st.all g s in (a.0, a.1, Contains-append_left rows (r ∷ []) a.0 a.2, a.3, a.4);
   }
+
+  standing_zero : (r : Row) → IsCombined rows r → IsZero (meaning r.lin) → AreStanding x js (rows ++ r ∷ [])
+  standing_zero r c z =
+      standing_with r (inl z.over) (record { absent = λ k l. z.over.absent k (omega arith) })
+      (row_whole c.of.form (c.first.strict || c.second.strict) r c.of.form_normal c.of.normal c.of.of (form_whole r c))
+
+  pub standing_assumed : (l : Lin) (strict integral : Bool) (tag : ℕ) (r : Row) → IsNormal l → MayBeAssumed x js l strict integral → IsAssumed l strict integral tag r → AreStanding x js (rows ++ r ∷ [])
+  standing_assumed l strict integral tag r n m a =
+      standing_with r (row_stands l strict r n a.normal a.of m.stands (λ i. m.whole (sym a.sort ∙ i))) (row_named l strict r n a.normal a.of m.named) (row_whole l strict r n a.normal a.of (λ i. m.names (sym a.sort ∙ i)))
 
 legal_push : (x : Setting) (bound : ℕ) (before a : List Line) (j : Line) → AreLegal x bound before a → IsLegalLine x bound (before ++ a) j → AreLegal x bound before (a ++ j ∷ [])
 legal_push x bound before [] j l h = (subst (λ (w : List Line). IsLegalLine x bound w j) (append-nil before) h, tt)
@@ -125,7 +185,7 @@ extended_by x bound rows js st _ _ (one_more rs ks r e c none) =
     )
 extended_by x bound rows js st _ _ (zero_more rs ks r e c z) =
     let a = extended_by x bound rows js st rs ks e in
-    (a.0, standing_zero x ks rs a.1 r z)
+    (a.0, standing_zero x ks rs a.1 r c z)
 
 pub extended : (x : Setting) (bound : ℕ) (rows rs : List Row) (js ks : List Line) → AreStanding x js rows → IsExtended rows js rs ks → ((added : List Line) × (ks ≡ js ++ added) × AreLegal x bound js added) × AreStanding x ks rs
 extended x bound rows rs js ks st e = extended_by x bound rows js st rs ks e

@@ -1,1 +1,5 @@
+pub mod Weaker
 pub mod Closed
+pub mod Same
+pub mod Staging
+pub mod Points

@@ -11,13 +11,13 @@ use Rattle.ae_math.specs.Forms.{Form}
 use Rattle.ae_num.specs.declared.forms.Part.{Part}
 use Rattle.ae_num.specs.declared.forms.Lin.{Lin}
 use Rattle.ae_num.specs.Forms.{meaning}
-use Rattle.ae_rows.specs.Rows.{combination, IsLower, IsUpper}
+use Rattle.ae_rows.specs.Rows.{IsLower, IsUpper}
 use Rattle.ae_journal.specs.declared.lines.Line.{Line}
 use Rattle.ae_ineq.proofs.LastLaws.{lower_means, upper_means}
 use Rattle.ae_num.specs.Forms.{IsNormal}
 use Rattle.ae_bounds.specs.declared.rows.Row.{Row}
 use Rattle.ae_bounds.specs.declared.combining.Opposed.{Opposed}
-use Rattle.ae_bounds.specs.Combinations.{IsThere, IsExtended, HasZero, IsDone}
+use Rattle.ae_bounds.specs.Combinations.{IsThere, IsExtended, HasZero, IsHeld, IsDone}
 use Rattle.ae_bounds.specs.Combinations.IsExtended.{as_it_was, one_more, zero_more}
 use Rattle.ae_bounds.specs.Inner.Pairs.{HaveLast, IsPairThere, AreClosedBelow}
 
@@ -69,21 +69,24 @@ extended_on a js b ks _ _ e (one_more rs ms r f c n) = one_more rs ms r (extende
 extended_on a js b ks _ _ e (zero_more rs ms r f c z) = zero_more rs ms r (extended_on a js b ks rs ms e f) c z
 
 pub there_append : (rows more : List Row) (f : Form ℕ) → IsThere rows f → IsThere (rows ++ more) f
-there_append rows more f t = record { row = t.row; among = Contains-append_left rows more t.row t.among; times = t.times; positive = t.positive; same = t.same }
+there_append rows more f t = record { row = t.row; among = Contains-append_left rows more t.row t.among; form = t.form; of = t.of; times = t.times; positive = t.positive; same = t.same }
 
-pub done_append : (rows more : List Row) (f : Form ℕ) → IsDone rows f → IsDone (rows ++ more) f
-done_append rows more f d = record {
+held_append : (rows more : List Row) (f : Form ℕ) → IsHeld rows f → IsHeld (rows ++ more) f
+held_append rows more f d = record {
   there = there_append rows more f d.there;
   zero = λ z. let h = d.zero z in record { row = h.row; among = Contains-append_left rows more h.row h.among; zero = h.zero; lower = h.lower; upper = h.upper; from = h.from };
 }
 
-pub done_more : (rows rs : List Row) (js ks : List Line) (f : Form ℕ) → IsExtended rows js rs ks → IsDone rows f → IsDone rs f
-done_more rows rs js ks f e t =
+pub done_append : (rows more : List Row) (p q : Row) (n : ℕ) → IsDone rows p q n → IsDone (rows ++ more) p q n
+done_append rows more p q n d = record { row = d.row; of = d.of; held = held_append rows more (meaning d.row.lin) d.held }
+
+pub done_more : (rows rs : List Row) (js ks : List Line) (p q : Row) (n : ℕ) → IsExtended rows js rs ks → IsDone rows p q n → IsDone rs p q n
+done_more rows rs js ks p q n e t =
     let g = grown rows js rs ks e in
-    subst (λ (w : List Row). IsDone w f) (sym g.1) (done_append rows g.0 f t)
+    subst (λ (w : List Row). IsDone w p q n) (sym g.1) (done_append rows g.0 p q n t)
 
 pub pair_more : (rows : List Row) (i j : ℕ) (new rs : List Row) (js ks : List Line) → IsExtended new js rs ks → IsPairThere rows i j new → IsPairThere rows i j rs
-pair_more rows i j new rs js ks e h p q o a b c = done_more new rs js ks (combination o.name (meaning p.lin) (meaning q.lin)) e (h p q o a b c)
+pair_more rows i j new rs js ks e h p q o a b c = done_more new rs js ks p q o.name e (h p q o a b c)
 
 -- the same rows at these places of the longer list
 pub pair_up : (rows rs : List Row) (js ks : List Line) (i j : ℕ) (new : List Row) → IsExtended rows js rs ks → i < length rows → j < length rows → IsPairThere rows i j new → IsPairThere rs i j new

@@ -1,11 +1,13 @@
 pub mod Zeros
+pub mod Rounded
 pub mod SameDirection
 pub mod Indexing
+pub mod Pushed
 pub mod Closing
 pub mod Lasts
 pub mod Made
 pub mod Noted
 pub mod Feeding
-pub mod Keeping
 pub mod Sums
+pub mod Keeping
 pub mod Found

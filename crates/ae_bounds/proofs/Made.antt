@@ -1,17 +1,16 @@
 -- The combination of two rows at places of a list.
-use Rattle.std.specs.Prelude.{ℕ, ◌<◌, Bool, ◌||◌, ◌≡◌, List, Some, None, length, slice_get}
+use Rattle.std.specs.Prelude.{ℕ, ◌<◌, ◌≡◌, List, Some, None, length, slice_get}
 use Rattle.std.specs.List.{AllByRecursion, Contains}
 use Rattle.std.proofs.Common.{sym, ap, ◌∙◌, subst, get_or}
 use Rattle.std.proofs.lemmas.Option.{get_or_from_slice_get, slice_get-get_or}
 use Rattle.ae_num.specs.declared.forms.Lin.{Lin}
-use Rattle.ae_num.specs.Forms.{meaning, SameMeaning, IsNormal, first_wide, combine_steps}
-use Rattle.ae_rows.specs.Rows.{combination}
+use Rattle.ae_num.specs.Forms.{IsNormal, first_wide, combine_steps}
 use Rattle.ae_journal.specs.declared.answers.WideAt.{WideAt}
 use Rattle.ae_journal.proofs.Splits.{all_contained}
 use Rattle.ae_bounds.specs.declared.rows.Row.{Row}
 use Rattle.ae_bounds.specs.declared.rows.Origin.TheVariants.{Combined}
 use Rattle.ae_bounds.specs.declared.combining.Opposed.{Opposed}
-use Rattle.ae_bounds.specs.Combinations.{AreOpposed, IsCombined, IsWideIn}
+use Rattle.ae_bounds.specs.Combinations.{AreOpposed, IsCombinationOf, IsCombined, IsWideIn}
 use Rattle.ae_bounds.specs.Inner.Pairs.{HaveLast, IsCombineWide, IsMadeOf}
 use Rattle.ae_bounds.proofs.Closing.{opposed_lower, opposed_upper, one_opposed}
 
@@ -50,19 +49,17 @@ module _ (rows : List Row) (i j : ℕ) (p q : Row) (normal : AllByRecursion (λ 
     wide = h.wide;
   }
 
-  pub combined_in : (o : Opposed) (l : Lin) (strict : Bool) → HaveLast p.lin q.lin o → strict ≡ p.strict || q.strict → IsNormal l → SameMeaning (meaning l) (combination o.name (meaning p.lin) (meaning q.lin))
-      → first_wide (combine_steps p.lin o.name q.lin) ≡ None → IsCombined rows (record { lin = l; strict = strict; from = Combined i j })
-  combined_in o l strict a s n m f = record { name = o.name; lower = i; upper = j; first = p; second = q; opposed = opposed o a; from = λ k. Combined i j; strict = s; normal = n; same = m; fits = f }
+  pub combined_in : (o : Opposed) (r : Row) → HaveLast p.lin q.lin o → r.from ≡ Combined i j → IsCombinationOf p q o.name r → first_wide (combine_steps p.lin o.name q.lin) ≡ None → IsCombined rows r
+  combined_in o r a e m f = record { name = o.name; lower = i; upper = j; first = p; second = q; opposed = opposed o a; from = e; of = m; fits = f }
 
-  pub made_of : (o : Opposed) (l : Lin) → HaveLast p.lin q.lin o → SameMeaning (meaning l) (combination o.name (meaning p.lin) (meaning q.lin)) → IsMadeOf rows i j l
-  made_of o l a m = record {
+  pub made_of : (o : Opposed) (r : Row) → HaveLast p.lin q.lin o → IsCombinationOf p q o.name r → IsMadeOf rows i j r
+  made_of o r a m = record {
     each = λ s t u f g h.
         let x : p ≡ s = same_row rows i p s ei f in
         let y : q ≡ t = same_row rows j q t ej g in
         let back : HaveLast p.lin q.lin u = subst (λ (k : Row). HaveLast k.lin q.lin u) (sym x) (subst (λ (k : Row). HaveLast s.lin k.lin u) (sym y) h) in
         let n : o.name ≡ u.name = one_opposed p.lin q.lin o u a back in
-        subst (λ (k : ℕ). SameMeaning (meaning l) (combination k (meaning s.lin) (meaning t.lin))) n
-        (subst (λ (k : Row). SameMeaning (meaning l) (combination o.name (meaning k.lin) (meaning t.lin))) x (subst (λ (k : Row). SameMeaning (meaning l) (combination o.name (meaning p.lin) (meaning k.lin))) y m));
+        subst (λ (k : ℕ). IsCombinationOf s t k r) n (subst (λ (k : Row). IsCombinationOf k t o.name r) x (subst (λ (k : Row). IsCombinationOf p k o.name r) y m));
   }
 
   pub not_opposed : ((o : Opposed) → ¬ HaveLast p.lin q.lin o) → (s t : Row) (u : Opposed) → slice_get rows i ≡ Some s → slice_get rows j ≡ Some t → HaveLast s.lin t.lin u → ⊥

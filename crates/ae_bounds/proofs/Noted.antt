@@ -16,30 +16,32 @@ use Rattle.ae_ineq.specs.Sums.{IsZero}
 use Rattle.ae_bounds.specs.declared.rows.Row.{Row}
 use Rattle.ae_bounds.specs.declared.rows.Origin.TheVariants.{Combined}
 use Rattle.ae_theory.specs.declared.theory.Fail.{Fail}
-use Rattle.ae_bounds.specs.Combinations.{IsThere, IsCombined, IsExtended, HasZero, IsDone}
+use Rattle.ae_bounds.specs.Combinations.{IsThere, IsCombined, IsExtended, HasZero, IsHeld}
+use Rattle.ae_bounds.specs.Rounding.HasForm.{own}
+use Rattle.ae_bounds.specs.Inner.Pairs.{IsMadeOf, IsPairThere}
 use Rattle.ae_bounds.proofs.Zeros.{form_zero}
 use Rattle.ae_bounds.specs.Combinations.IsExtended.{as_it_was, one_more, zero_more}
 
 there_last : (rows : List Row) (r : Row) → IsThere (rows ++ r ∷ []) (meaning r.lin)
 there_last rows r =
-    record { row = r; among = Contains-append_right rows (r ∷ []) r (contains_here r []); times = one_ℚ; positive = positive_one; same = scale_one ℕ_discrete (meaning r.lin) }
+    record { row = r; among = Contains-append_right rows (r ∷ []) r (contains_here r []); form = r.lin; of = own; times = one_ℚ; positive = positive_one; same = scale_one ℕ_discrete (meaning r.lin) }
 
 zero_last : (rows : List Row) (r : Row) (i j : ℕ) → r.from ≡ Combined i j → IsZero (meaning r.lin) → HasZero (rows ++ r ∷ [])
 zero_last rows r i j e z = record { row = r; among = Contains-append_right rows (r ∷ []) r (contains_here r []); zero = z; lower = i; upper = j; from = e }
 
-done_last : (rows : List Row) (r : Row) (i j : ℕ) → r.from ≡ Combined i j → IsDone (rows ++ r ∷ []) (meaning r.lin)
-done_last rows r i j e = record { there = there_last rows r; zero = λ z. zero_last rows r i j e z }
+held_last : (rows : List Row) (r : Row) (i j : ℕ) → r.from ≡ Combined i j → IsHeld (rows ++ r ∷ []) (meaning r.lin)
+held_last rows r i j e = record { there = there_last rows r; zero = λ z. zero_last rows r i j e z }
 
-pub done_noted : {T : Type 0} (rows new : List Row) (r : Row) (i j : ℕ) (result : Result T Fail) → r.from ≡ Combined i j → OnOk result (new ≡ rows ++ r ∷ []) → OnOk result (IsDone new (meaning r.lin))
-done_noted rows new r i j (Ok x) f e = subst (λ (rs : List Row). IsDone rs (meaning r.lin)) (sym e) (done_last rows r i j f)
-done_noted rows new r i j (Err x) f e = tt
+pub held_noted : {T : Type 0} (rows new : List Row) (r : Row) (i j : ℕ) (result : Result T Fail) → r.from ≡ Combined i j → OnOk result (new ≡ rows ++ r ∷ []) → OnOk result (IsHeld new (meaning r.lin))
+held_noted rows new r i j (Ok x) f e = subst (λ (rs : List Row). IsHeld rs (meaning r.lin)) (sym e) (held_last rows r i j f)
+held_noted rows new r i j (Err x) f e = tt
 
-pub done_added : (rows new : List Row) (r : Row) (i j : ℕ) → r.from ≡ Combined i j → new ≡ rows ++ r ∷ [] → IsDone new (meaning r.lin)
-done_added rows new r i j f e = subst (λ (rs : List Row). IsDone rs (meaning r.lin)) (sym e) (done_last rows r i j f)
+pub held_added : (rows new : List Row) (r : Row) (i j : ℕ) → r.from ≡ Combined i j → new ≡ rows ++ r ∷ [] → IsHeld new (meaning r.lin)
+held_added rows new r i j f e = subst (λ (rs : List Row). IsHeld rs (meaning r.lin)) (sym e) (held_last rows r i j f)
 
-pub done_seen : (rows new : List Row) (r : Row) → new ≡ rows → IsNormal r.lin → IsThere rows (meaning r.lin) → (r.lin.parts ≡ [] → r.lin.constant ≢ pos 0) → IsDone new (meaning r.lin)
-done_seen rows new r e n t h =
-    subst (λ (rs : List Row). IsDone rs (meaning r.lin)) (sym e) (record { there = t; zero = λ z. absurd (let g = form_zero r.lin n z in h g.0 g.1) })
+pub held_seen : (rows new : List Row) (r : Row) → new ≡ rows → IsNormal r.lin → IsThere rows (meaning r.lin) → (r.lin.parts ≡ [] → r.lin.constant ≢ pos 0) → IsHeld new (meaning r.lin)
+held_seen rows new r e n t h =
+    subst (λ (rs : List Row). IsHeld rs (meaning r.lin)) (sym e) (record { there = t; zero = λ z. absurd (let g = form_zero r.lin n z in h g.0 g.1) })
 
 pub extended_added : (rows new : List Row) (js : List Line) (r : Row) → IsCombined rows r → IsZero (meaning r.lin) → new ≡ rows ++ r ∷ [] → IsExtended rows js new js
 extended_added rows new js r c z e = subst (λ (rs : List Row). IsExtended rows js rs js) (sym e) (zero_more rows js r as_it_was c z)
@@ -51,3 +53,7 @@ extended_noted rows new j k r (Ok x) c n e f g =
     (subst (λ (ls : List Line). IsExtended rows j.lines (rows ++ r ∷ []) ls) (sym (ap (λ (m : Noted). m.lines) f)) (one_more rows j.lines r as_it_was c n))
 extended_noted rows new j k r (Err x) c n e f g =
     subst (λ (rs : List Row). IsExtended rows j.lines rs k.lines) (sym g.0) (subst (λ (ls : List Line). IsExtended rows j.lines rows ls) (sym (ap (λ (m : Noted). m.lines) g.1)) as_it_was)
+
+pub pair_done : {T : Type 0} (rows : List Row) (i j : ℕ) (new : List Row) (r : Row) (result : Result T Fail) → IsMadeOf rows i j r → OnOk result (IsHeld new (meaning r.lin)) → OnOk result (IsPairThere rows i j new)
+pair_done rows i j new r (Ok x) m h = λ p q o a b c. record { row = r; of = m.each p q o a b c; held = h }
+pair_done rows i j new r (Err x) m h = tt

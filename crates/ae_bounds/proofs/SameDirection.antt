@@ -36,15 +36,15 @@ direction_equal l d k e (inr y) (inr z) m = z.own ∙ zeros_same k l z.normal y.
 direction_same : (d e : Direction) → d.form ≡ e.form → d ≡ e
 direction_same d e h = λ i. record { form = h i }
 
--- a form of a direction that is there is a positive multiple of a row, and the other way round
+-- a form of a direction that is there is a positive multiple of a row's, and the other way round
 pub there_by_direction : (rows : List Row) (ds : List Direction) (l : Lin) (d : Direction) → AreIndexed rows ds → IsDirectionOf l d.form → Contains ds d → IsThere rows (meaning l)
 there_by_direction rows ds l d x i c =
     let o = x.own d c in
-    let k = multiples_meet (meaning (o.0).lin) (meaning l) (meaning d.form) (directed (o.0).lin d.form o.2) (directed l d.form i) in
-    record { row = o.0; among = o.1; times = k.times; positive = k.positive; same = k.same }
+    let k = multiples_meet (meaning o.1) (meaning l) (meaning d.form) (directed o.1 d.form o.4) (directed l d.form i) in
+    record { row = o.0; among = o.2; form = o.1; of = o.3; times = k.times; positive = k.positive; same = k.same }
 
 pub direction_by_there : (rows : List Row) (ds : List Direction) (l : Lin) (d : Direction) → AreIndexed rows ds → IsDirectionOf l d.form → IsThere rows (meaning l) → Contains ds d
 direction_by_there rows ds l d x i t =
-    let e = x.each t.row t.among in
-    let h : d.form ≡ (e.0).form = direction_equal t.row.lin (e.0).form l d.form e.2 i (record { times = t.times; positive = t.positive; same = t.same }) in
+    let e = x.each t.row t.form t.among t.of in
+    let h : d.form ≡ (e.0).form = direction_equal t.form (e.0).form l d.form e.2 i (record { times = t.times; positive = t.positive; same = t.same }) in
     subst (λ (z : Direction). Contains ds z) (sym (direction_same d e.0 h)) e.1

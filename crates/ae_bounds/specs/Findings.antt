@@ -1,22 +1,24 @@
--- What kept rows come to: the rows that can't hold, the combinations that are 0, and the sums of assumed rows that both are.
-use Rattle.std.specs.Prelude.{ℕ, false, Some, List, [], ◌∷◌, ◌≡◌, take, slice_get}
+-- What kept rows come to: the rows that can't hold, the combinations that are 0, and the sums of rows assumed or rounded that both are.
+use Rattle.std.specs.Prelude.{ℕ, false, Option, Some, None, List, [], ◌∷◌, ◌≡◌, take, slice_get}
 use Rattle.std.specs.List.{Contains}
 use Rattle.ae_num.specs.Forms.{meaning}
 use Rattle.ae_ineq.specs.declared.solving.Inequality.{Inequality}
 use Rattle.ae_ineq.specs.Sums.{IsZero, IsRefuted}
 use Rattle.ae_bounds.specs.declared.rows.Row.{Row}
+use Rattle.ae_bounds.specs.declared.rows.Unrounded.{Unrounded}
 use Rattle.ae_bounds.specs.declared.rows.Origin.{Origin}
 use Rattle.ae_bounds.specs.declared.rows.Origin.TheVariants.{Assumed, Combined}
 use Rattle.ae_bounds.specs.Combinations.{IsCombined}
 
--- the assumed rows
-abbrev pub with_assumed : Origin → Row → List Inequality → List Inequality
-with_assumed (Assumed tag) r given = record { lin = r.lin; strict = r.strict } ∷ given
-with_assumed (Combined lower upper) r given = given
+-- the rows that were assumed or rounded
+abbrev pub with_given : Origin → Option Unrounded → Row → List Inequality → List Inequality
+with_given (Assumed tag) u r given = record { lin = r.lin; strict = r.strict } ∷ given
+with_given (Combined lower upper) (Some u) r given = record { lin = r.lin; strict = r.strict } ∷ given
+with_given (Combined lower upper) None r given = given
 
-abbrev pub assumed_in : List Row → List Inequality
-assumed_in [] = []
-assumed_in (r ∷ rows) = with_assumed r.from r (assumed_in rows)
+abbrev pub given_in : List Row → List Inequality
+given_in [] = []
+given_in (r ∷ rows) = with_given r.from r.unrounded r (given_in rows)
 
 -- each combination is one of two rows before it
 abbrev pub AreFounded : List Row → Type 0

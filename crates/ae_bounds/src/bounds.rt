@@ -1,6 +1,6 @@
 //! The rows that were assumed, and the combinations that were noted.
 
-ghost use Rattle.std.specs.Prelude.{ℕ, ◌≡◌, ◌<◌, ◌≤◌, ◌+◌, ◌^◌, true, false, List, ◌||◌, ◌++◌, ◌∷◌, [], length, OnOk, OnErr, IfOk, IfSome, IfNone, Err};
+ghost use Rattle.std.specs.Prelude.{ℕ, ◌≡◌, ◌<◌, ◌≤◌, ◌+◌, ◌^◌, true, false, List, ◌&&◌, ◌||◌, ◌++◌, ◌∷◌, [], length, OnOk, OnErr, IfOk, IfSome, IfNone, Err};
 ghost use Rattle.std.specs.List.{AllByRecursion};
 ghost use Rattle.ae_num.specs.Forms.{IsNormal, meaning};
 ghost use Rattle.ae_journal.specs.Journals.{counted_in};
@@ -8,18 +8,20 @@ ghost use Rattle.ae_journal.specs.declared.answers.WideAt.{WideAt};
 ghost use Rattle.ae_journal.specs.declared.lines.Line.{Line};
 ghost use Rattle.indexmap.specs.IndexSet.{contains};
 ghost use Rattle.ae_theory.specs.declared.theory.Fail.TheVariants.{Steps, Number};
-ghost use Rattle.ae_bounds.specs.declared.rows.Origin.TheVariants.{Assumed};
+ghost use Rattle.ae_bounds.specs.declared.rows.Row.{Row};
+ghost use Rattle.ae_bounds.specs.Rounding.{IsAssumed, AreRounded};
 ghost use Rattle.ae_bounds.specs.declared.finding.Found.TheVariants.{Open, Tight, Contradiction};
 ghost use Rattle.ae_ineq.specs.Sums.{HasTightSum, HasRefutedSum};
-ghost use Rattle.ae_bounds.specs.Findings.{assumed_in, IsRefutedAt, IsTightAt, NoneIsRefuted};
-ghost use Rattle.ae_bounds.specs.Combinations.{IsDone, IsCombined, IsExtended, AreClosed, HasZero, IsWideIn};
+ghost use Rattle.ae_bounds.specs.Findings.{given_in, AreFounded, IsRefutedAt, IsTightAt, NoneIsRefuted};
+ghost use Rattle.ae_bounds.specs.Combinations.{IsHeld, IsCombined, IsExtended, AreClosed, HasZero, IsWideIn};
 ghost use Rattle.ae_bounds.specs.Inner.Directions.{AreIndexed, IsDirectionOf, is_same};
 ghost use Rattle.ae_bounds.specs.Inner.Pairs.{IsMadeOf, IsPairThere, IsKept};
 
 use crate::combining::{combined, opposed_at};
-use crate::directions::{Direction, direction_of, is_zero};
+use crate::directions::{Direction, direction_of, earlier_direction, is_zero};
 use crate::finding::{Found, found_in};
-use crate::noting::{add, has_direction, note};
+use crate::noting::{add, add_assumed, has_direction, note};
+use crate::rounding::row_of;
 use crate::rows::{Origin, Row};
 use ae_journal::journal::Journal;
 use ae_num::forms::Lin;
@@ -36,13 +38,20 @@ fn one_strict(left: &Row, right: &Row) -> bool
     left.strict || right.strict
 }
 
+/// Whether two rows are of sort `int`.
+fn both_integral(left: &Row, right: &Row) -> bool
+    ensures { result ≡ (left.now.integral && right.now.integral) }
+{
+    left.integral && right.integral
+}
+
 /// The combination of two rows, where the largest name of both has a positive factor in the first and a negative one in the second.
 fn made(alloc: Global, rows: &[Row], lower: usize, upper: usize) -> Result<Option<Row>, Fail>
     requires normal { AllByRecursion (λ row. IsNormal row.lin) rows.now }
     requires lower { lower < length rows.now }
     requires upper { upper < length rows.now }
     ensures some { IfOk result (λ found. IfSome found (λ row. IsCombined rows.now row)) }
-    ensures pair { IfOk result (λ found. IfSome found (λ row. IsMadeOf rows.now lower upper row.lin)) }
+    ensures pair { IfOk result (λ found. IfSome found (λ row. IsMadeOf rows.now lower upper row)) }
     ensures none { IfOk result (λ found. IfNone found (IsPairThere rows.now lower upper rows.now)) }
     ensures number { (wide : WideAt) → result ≡ Err (Number wide) → IsWideIn rows.now wide }
     ensures steps { result ≡ Err Steps → ⊥ }
@@ -52,18 +61,18 @@ fn made(alloc: Global, rows: &[Row], lower: usize, upper: usize) -> Result<Optio
     match opposed_at(&low.lin, &high.lin) {
         Some(at) => {
             let strict = one_strict(low, high);
-            match combined(alloc, at, &low.lin, &high.lin) {
-                Ok(lin) => Ok(Some(Row {
-                    lin,
-                    strict,
-                    from: Origin::Combined { lower, upper },
-                })),
-                Err(failed) => Err(failed),
-            }
+            let integral = both_integral(low, high);
+            let lin = combined(alloc, at, &low.lin, &high.lin)?;
+            let from = Origin::Combined { lower, upper };
+            let row = row_of(alloc, lin, strict, integral, from)?;
+            Ok(Some(row))
         }
         None => Ok(None),
     }
 }
+
+/// Lets go a combination that isn't kept.
+fn let_go(_row: Row, _direction: Direction) {}
 
 /// Adds a combination that is a positive multiple of a row, without a line, where it is 0.
 fn keep_zero(
@@ -76,15 +85,17 @@ fn keep_zero(
     requires seen { contains is_same directions.old direction ≡ true }
     requires indexed { AreIndexed rows.old directions.old.keys }
     requires combined { IsCombined rows.old row }
-    ensures done { OnOk result (IsDone rows.new (meaning row.lin)) }
+    ensures held { OnOk result (IsHeld rows.new (meaning row.lin)) }
     ensures indexed { AreIndexed rows.new directions.new.keys }
     ensures extended { (js : List Line) → IsExtended rows.old js rows.new js }
     ensures steps { result ≡ Err Steps → ⊥ }
     ensures number { (wide : WideAt) → result ≡ Err (Number wide) → ⊥ }
 {
-    if is_zero(&row.lin) {
-        add(rows, directions, row, direction)?;
+    if !is_zero(&row.lin) {
+        let_go(row, direction);
+        return Ok(());
     }
+    add(rows, directions, row, direction)?;
     Ok(())
 }
 
@@ -98,7 +109,7 @@ fn note_new(
 ) -> Result<(), Fail>
     requires indexed { AreIndexed rows.old directions.old.keys }
     requires combined { IsCombined rows.old row }
-    ensures done { OnOk result (IsDone rows.new (meaning row.lin)) }
+    ensures held { OnOk result (IsHeld rows.new (meaning row.lin)) }
     ensures indexed { AreIndexed rows.new directions.new.keys }
     ensures extended { IsExtended rows.old journal.old.lines rows.new journal.new.lines }
     ensures limit { journal.new.limit ≡ journal.old.limit }
@@ -243,30 +254,37 @@ impl Bounds {
 
     /// The rows.
     pub fn rows(&self) -> &[Row]
-        ensures { result.now ≡ self.now }
+        ensures rows { result.now ≡ self.now }
+        ensures normal { AllByRecursion (λ row. IsNormal row.lin) self.now }
+        ensures founded { AreFounded self.now }
+        ensures rounded { AreRounded self.now }
     {
         self.rows.as_slice()
     }
 
-    /// Adds a row: `lin >= 0`, or `lin > 0` where `strict`.
+    /// Adds a row: `lin >= 0`, or `lin > 0` where `strict`. Where `integral`, its sides have the sort `int`, and so have its names: it is rounded at once.
     pub fn assume(
         &mut self,
         alloc: Global,
         lin: Lin,
         strict: bool,
+        integral: bool,
         tag: usize,
     ) -> Result<(), AllocError>
         requires normal { IsNormal lin }
-        ensures added { OnOk result (self.new ≡ self.old ++ record { lin = lin; strict = strict; from = Assumed tag } ∷ []) }
+        ensures added { OnOk result ((row : Row) × (self.new ≡ self.old ++ row ∷ []) × IsAssumed lin strict integral tag row) }
         ensures kept { OnErr result (self.new ≡ self.old) }
     {
-        let direction = direction_of(alloc, &lin)?;
-        let row = Row {
-            lin,
-            strict,
-            from: Origin::Assumed(tag),
-        };
-        add(&mut self.rows, &mut self.directions, row, direction)
+        let row = row_of(alloc, lin, strict, integral, Origin::Assumed(tag))?;
+        let direction = direction_of(alloc, &row.lin)?;
+        let earlier = earlier_direction(alloc, &row, tag)?;
+        add_assumed(
+            &mut self.rows,
+            &mut self.directions,
+            row,
+            direction,
+            earlier,
+        )
     }
 
     /// Notes and adds the combinations of two rows on the largest name of both that are no positive multiples of a row, until there are none. One that is 0
@@ -293,9 +311,9 @@ impl Bounds {
     /// What the rows come to. A contradiction comes before a tight sum.
     pub fn found(&self) -> Found
         ensures refuted { (place : ℕ) → result ≡ Contradiction place → IsRefutedAt self.now place }
-        ensures refuted_sum { (place : ℕ) → result ≡ Contradiction place → HasRefutedSum (assumed_in self.now) }
+        ensures refuted_sum { (place : ℕ) → result ≡ Contradiction place → HasRefutedSum (given_in self.now) }
         ensures tight { (place : ℕ) → result ≡ Tight place → IsTightAt self.now place }
-        ensures tight_sum { (place : ℕ) → result ≡ Tight place → HasTightSum (assumed_in self.now) }
+        ensures tight_sum { (place : ℕ) → result ≡ Tight place → HasTightSum (given_in self.now) }
         ensures tight_last { (place : ℕ) → result ≡ Tight place → NoneIsRefuted self.now }
         ensures open { result ≡ Open → NoneIsRefuted self.now }
         ensures open_loose { result ≡ Open → HasZero self.now → ⊥ }

@@ -1,9 +1,11 @@
 //! The directions of forms: equal ones for forms that are positive multiples of one another, found by their hash.
-ghost use Rattle.std.specs.Prelude.{◌≡◌, ◌≢◌, ◌↔◌, [], IsTrue, IfOk, Some, pos, true, false, fold, length, slice_get, ◌<◌};
+ghost use Rattle.std.specs.Prelude.{◌≡◌, ◌≢◌, ◌↔◌, [], IsTrue, IfOk, IfSome, Some, pos, true, false, fold, length, slice_get, ◌<◌};
 ghost use Rattle.std.specs.List.{flat_map};
 ghost use Rattle.ae_num.specs.Forms.{IsNormal};
-ghost use Rattle.ae_bounds.specs.Inner.Directions.{IsDirectionOf, part_written};
+ghost use Rattle.ae_bounds.specs.Inner.Directions.{IsDirectionOf, IsEarlier, part_written};
+ghost use Rattle.ae_bounds.specs.declared.rows.Origin.TheVariants.{Assumed};
 
+use crate::rows::Row;
 use ae_ineq::rows::{direction, same_form};
 use ae_num::forms::{Lin, Part};
 use sqlite_items::Items;
@@ -112,4 +114,23 @@ pub fn direction_of(alloc: Global, form: &Lin) -> Result<Direction, AllocError>
     }
     let form = direction(alloc, form)?;
     Ok(Direction { form })
+}
+
+/// The direction of the form that an assumed row had before it was rounded.
+pub fn earlier_direction(
+    alloc: Global,
+    row: &Row,
+    tag: usize,
+) -> Result<Option<Direction>, AllocError>
+    requires assumed { row.now.from ≡ Assumed tag }
+    requires normal { IfSome row.now.unrounded (λ u. IsNormal u.lin) }
+    ensures { IfOk result (λ found. IsEarlier row.now found) }
+{
+    match &row.unrounded {
+        Some(earlier) => {
+            let found = direction_of(alloc, &earlier.lin)?;
+            Ok(Some(found))
+        }
+        None => Ok(None),
+    }
 }

@@ -4,7 +4,7 @@ ghost use Rattle.std.specs.Prelude.{ℕ, ◌≡◌, ◌<ℤ◌, ◌⊎◌, [], p
 ghost use Rattle.std.specs.List.{AllByRecursion};
 ghost use Rattle.ae_num.specs.Forms.{IsNormal};
 ghost use Rattle.ae_bounds.specs.Combinations.{HasZero};
-ghost use Rattle.ae_bounds.specs.Findings.{assumed_in, AreFounded, IsRefutedAt, IsTightAt, NoneIsRefuted};
+ghost use Rattle.ae_bounds.specs.Findings.{given_in, AreFounded, IsRefutedAt, IsTightAt, NoneIsRefuted};
 ghost use Rattle.ae_ineq.specs.Sums.{HasTightSum, HasRefutedSum};
 ghost use Rattle.ae_bounds.specs.declared.finding.Found.TheVariants.{Open, Tight, Contradiction};
 ghost use Rattle.ae_bounds.specs.declared.rows.Origin.TheVariants.{Combined};
@@ -48,7 +48,7 @@ fn first_refuted(rows: &[Row]) -> Option<usize>
     requires normal { AllByRecursion (λ row. IsNormal row.lin) rows.now }
     requires founded { AreFounded rows.now }
     ensures some { IfSome result (λ place. IsRefutedAt rows.now place) }
-    ensures sum { IfSome result (λ place. HasRefutedSum (assumed_in rows.now)) }
+    ensures sum { IfSome result (λ place. HasRefutedSum (given_in rows.now)) }
     ensures none { IfNone result (NoneIsRefuted rows.now) }
 {
     for place in 0..rows.len() {
@@ -66,7 +66,7 @@ fn first_tight(rows: &[Row]) -> Option<usize>
     requires founded { AreFounded rows.now }
     requires none { NoneIsRefuted rows.now }
     ensures some { IfSome result (λ place. IsTightAt rows.now place) }
-    ensures sum { IfSome result (λ place. HasTightSum (assumed_in rows.now)) }
+    ensures sum { IfSome result (λ place. HasTightSum (given_in rows.now)) }
     ensures none { IfNone result (HasZero rows.now → ⊥) }
 {
     for place in 0..rows.len() {
@@ -83,9 +83,9 @@ pub fn found_in(rows: &[Row]) -> Found
     requires normal { AllByRecursion (λ row. IsNormal row.lin) rows.now }
     requires founded { AreFounded rows.now }
     ensures refuted { (place : ℕ) → result ≡ Contradiction place → IsRefutedAt rows.now place }
-    ensures refuted_sum { (place : ℕ) → result ≡ Contradiction place → HasRefutedSum (assumed_in rows.now) }
+    ensures refuted_sum { (place : ℕ) → result ≡ Contradiction place → HasRefutedSum (given_in rows.now) }
     ensures tight { (place : ℕ) → result ≡ Tight place → IsTightAt rows.now place }
-    ensures tight_sum { (place : ℕ) → result ≡ Tight place → HasTightSum (assumed_in rows.now) }
+    ensures tight_sum { (place : ℕ) → result ≡ Tight place → HasTightSum (given_in rows.now) }
     ensures tight_last { (place : ℕ) → result ≡ Tight place → NoneIsRefuted rows.now }
     ensures open { result ≡ Open → NoneIsRefuted rows.now }
     ensures open_loose { result ≡ Open → HasZero rows.now → ⊥ }

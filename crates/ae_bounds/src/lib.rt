@@ -6,4 +6,5 @@ mod combining;
 mod directions;
 pub mod finding;
 mod noting;
+mod rounding;
 pub mod rows;

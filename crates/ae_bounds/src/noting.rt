@@ -1,14 +1,12 @@
 //! Rows that are added, with their directions and their lines.
 
-ghost use Rattle.std.specs.Prelude.{◌≡◌, ◌≢◌, ◌++◌, ◌∷◌, [], OnOk, OnErr, IfOk, IsTrue, true, false, Err, not, take, length, ◌+◌, if◌then◌else◌};
-ghost use Rattle.indexmap.specs.IndexSet.{contains};
-ghost use Rattle.ae_num.specs.Forms.{meaning};
+ghost use Rattle.std.specs.Prelude.{◌≡◌, ◌≢◌, ◌++◌, ◌∷◌, [], OnOk, OnErr, IfOk, IsTrue, true, false, Err, not, Some, None, take, length, ◌+◌, if◌then◌else◌};
+ghost use Rattle.indexmap.specs.IndexSet.{contains, insert_key};
 ghost use Rattle.ae_journal.specs.Journals.{counted_in};
 ghost use Rattle.ae_journal.specs.declared.lines.Line.TheVariants.{Combine};
 ghost use Rattle.ae_journal.specs.declared.answers.WideAt.{WideAt};
 ghost use Rattle.ae_theory.specs.declared.theory.Fail.TheVariants.{Steps, Number};
-ghost use Rattle.ae_bounds.specs.Combinations.{IsThere};
-ghost use Rattle.ae_bounds.specs.Inner.Directions.{AreIndexed, IsDirectionOf, is_same};
+ghost use Rattle.ae_bounds.specs.Inner.Directions.{AreIndexed, IsDirectionOf, IsEarlier, is_same};
 
 use crate::directions::{Direction, copied};
 use crate::rows::Row;
@@ -34,19 +32,16 @@ pub fn has_direction(directions: &IndexSet<Direction>, direction: &Direction) ->
     directions.contains(direction)
 }
 
-/// Adds a row with its direction. Refused memory leaves the rows as they were.
-pub fn add(
+/// Adds a row and a direction. Refused memory leaves both as they were.
+fn push(
     rows: &mut Items<Row>,
     directions: &mut IndexSet<Direction>,
     row: Row,
     direction: Direction,
 ) -> Result<(), AllocError>
-    requires direction { IsDirectionOf row.lin direction.form }
-    requires indexed { AreIndexed rows.old directions.old.keys }
-    ensures added { OnOk result (rows.new ≡ rows.old ++ row ∷ []) }
+    ensures rows { OnOk result (rows.new ≡ rows.old ++ row ∷ []) }
+    ensures directions { OnOk result (directions.new.keys ≡ insert_key is_same directions.old.keys direction) }
     ensures kept { OnErr result ((rows.new ≡ rows.old) × (directions.new.keys ≡ directions.old.keys)) }
-    ensures new { OnOk result (contains is_same directions.old direction ≡ false → directions.new.keys ≡ directions.old.keys ++ direction ∷ []) }
-    ensures indexed { AreIndexed rows.new directions.new.keys }
 {
     rows.push(row)?;
     match directions.insert(direction) {
@@ -55,6 +50,87 @@ pub fn add(
             take_last(rows);
             Err(AllocError::from(failed))
         }
+    }
+}
+
+/// Adds a direction. Where there is no memory for it, the last row and all but the first directions are taken off.
+fn push_more(
+    rows: &mut Items<Row>,
+    directions: &mut IndexSet<Direction>,
+    direction: Direction,
+    count: usize,
+) -> Result<(), AllocError>
+    requires { rows.old ≢ [] }
+    ensures rows { OnOk result (rows.new ≡ rows.old) }
+    ensures directions { OnOk result (directions.new.keys ≡ insert_key is_same directions.old.keys direction) }
+    ensures taken { OnErr result ((front : _) (row : _) → rows.old ≡ front ++ row ∷ [] → rows.new ≡ front) }
+    ensures cut { OnErr result (directions.new.keys ≡ take count directions.old.keys) }
+{
+    match directions.insert(direction) {
+        Ok(_) => Ok(()),
+        Err(failed) => {
+            take_last(rows);
+            directions.truncate(count);
+            Err(AllocError::from(failed))
+        }
+    }
+}
+
+/// Adds a row with its direction, where its own form alone counts. Refused memory leaves the rows as they were.
+pub fn add(
+    rows: &mut Items<Row>,
+    directions: &mut IndexSet<Direction>,
+    row: Row,
+    direction: Direction,
+) -> Result<(), AllocError>
+    requires direction { IsDirectionOf row.lin direction.form }
+    requires alone { IsEarlier row None }
+    requires indexed { AreIndexed rows.old directions.old.keys }
+    ensures added { OnOk result (rows.new ≡ rows.old ++ row ∷ []) }
+    ensures kept { OnErr result ((rows.new ≡ rows.old) × (directions.new.keys ≡ directions.old.keys)) }
+    ensures indexed { AreIndexed rows.new directions.new.keys }
+{
+    push(rows, directions, row, direction)
+}
+
+/// Adds a row with its direction and that of the form that it had before it was rounded. Refused memory leaves the rows as they were.
+fn add_both(
+    rows: &mut Items<Row>,
+    directions: &mut IndexSet<Direction>,
+    row: Row,
+    direction: Direction,
+    earlier: Direction,
+) -> Result<(), AllocError>
+    requires direction { IsDirectionOf row.lin direction.form }
+    requires earlier { IsEarlier row (Some earlier) }
+    requires indexed { AreIndexed rows.old directions.old.keys }
+    ensures added { OnOk result (rows.new ≡ rows.old ++ row ∷ []) }
+    ensures kept { OnErr result ((rows.new ≡ rows.old) × (directions.new.keys ≡ directions.old.keys)) }
+    ensures indexed { AreIndexed rows.new directions.new.keys }
+{
+    let count = directions.len();
+    push(rows, directions, row, direction)?;
+    push_more(rows, directions, earlier, count)
+}
+
+/// Adds a row that was assumed. Refused memory leaves the rows as they were.
+pub fn add_assumed(
+    rows: &mut Items<Row>,
+    directions: &mut IndexSet<Direction>,
+    row: Row,
+    direction: Direction,
+    earlier: Option<Direction>,
+) -> Result<(), AllocError>
+    requires direction { IsDirectionOf row.lin direction.form }
+    requires earlier { IsEarlier row earlier }
+    requires indexed { AreIndexed rows.old directions.old.keys }
+    ensures added { OnOk result (rows.new ≡ rows.old ++ row ∷ []) }
+    ensures kept { OnErr result ((rows.new ≡ rows.old) × (directions.new.keys ≡ directions.old.keys)) }
+    ensures indexed { AreIndexed rows.new directions.new.keys }
+{
+    match earlier {
+        Some(earlier) => add_both(rows, directions, row, direction, earlier),
+        None => add(rows, directions, row, direction),
     }
 }
 
@@ -72,30 +148,40 @@ fn take_both(rows: &mut Items<Row>, directions: &mut IndexSet<Direction>)
     }
 }
 
-/// Notes the line of a row, and adds the row, which no row has the direction of; where the line isn't noted, nothing changes.
-pub fn note(
-    alloc: Global,
+/// Adds a row and a direction that isn't there yet. Refused memory leaves both as they were.
+fn push_new(
+    rows: &mut Items<Row>,
+    directions: &mut IndexSet<Direction>,
+    row: Row,
+    direction: Direction,
+) -> Result<(), AllocError>
+    requires new { contains is_same directions.old direction ≡ false }
+    ensures rows { OnOk result (rows.new ≡ rows.old ++ row ∷ []) }
+    ensures directions { OnOk result (directions.new.keys ≡ directions.old.keys ++ direction ∷ []) }
+    ensures kept { OnErr result (rows.new ≡ rows.old) }
+    ensures cut { OnErr result (directions.new.keys ≡ directions.old.keys) }
+{
+    push(rows, directions, row, direction)
+}
+
+/// Notes the line of the last row; where it isn't noted, the last row and the last direction are taken off.
+fn note_last(
     rows: &mut Items<Row>,
     directions: &mut IndexSet<Direction>,
     journal: &mut Journal,
-    row: Row,
-    direction: Direction,
+    line: Line,
 ) -> Result<(), Fail>
-    requires direction { IsDirectionOf row.lin direction.form }
-    requires new { contains is_same directions.old direction ≡ false }
-    requires indexed { AreIndexed rows.old directions.old.keys }
-    ensures rows { OnOk result (rows.new ≡ rows.old ++ row ∷ []) }
-    ensures lines { OnOk result (journal.new ≡ record journal.old { lines = journal.old.lines ++ Combine row.strict row.lin ∷ [] }) }
-    ensures kept { OnErr result ((rows.new ≡ rows.old) × (journal.new ≡ journal.old)) }
-    ensures indexed { AreIndexed rows.new directions.new.keys }
+    requires rows { rows.old ≢ [] }
+    requires directions { directions.old.keys ≢ [] }
+    ensures rows { OnOk result (rows.new ≡ rows.old) }
+    ensures directions { OnOk result (directions.new.keys ≡ directions.old.keys) }
+    ensures lines { OnOk result (journal.new ≡ record journal.old { lines = journal.old.lines ++ line ∷ [] }) }
+    ensures taken { OnErr result ((front : _) (row : _) → rows.old ≡ front ++ row ∷ [] → rows.new ≡ front) }
+    ensures cut { OnErr result ((front : _) (last : _) → directions.old.keys ≡ front ++ last ∷ [] → directions.new.keys ≡ front) }
+    ensures kept { OnErr result (journal.new ≡ journal.old) }
     ensures steps { result ≡ Err Steps → counted_in journal.new.lines ≡ journal.new.limit }
     ensures number { (wide : WideAt) → result ≡ Err (Number wide) → ⊥ }
 {
-    let line = Line::Combine {
-        strict: row.strict,
-        row: copied(alloc, &row.lin)?,
-    };
-    add(rows, directions, row, direction)?;
     match journal.note(line) {
         Ok(()) => Ok(()),
         Err(JournalFail::Full) => {
@@ -107,4 +193,62 @@ pub fn note(
             Err(Fail::Memory(failed))
         }
     }
+}
+
+/// Adds a row with a direction that isn't there yet, and notes its line; where it isn't noted, nothing changes.
+fn note_line(
+    rows: &mut Items<Row>,
+    directions: &mut IndexSet<Direction>,
+    journal: &mut Journal,
+    row: Row,
+    direction: Direction,
+    line: Line,
+) -> Result<(), Fail>
+    requires new { contains is_same directions.old direction ≡ false }
+    ensures rows { OnOk result (rows.new ≡ rows.old ++ row ∷ []) }
+    ensures directions { OnOk result (directions.new.keys ≡ directions.old.keys ++ direction ∷ []) }
+    ensures lines { OnOk result (journal.new ≡ record journal.old { lines = journal.old.lines ++ line ∷ [] }) }
+    ensures taken { OnErr result (rows.new ≡ rows.old) }
+    ensures cut { OnErr result (directions.new.keys ≡ directions.old.keys) }
+    ensures kept { OnErr result (journal.new ≡ journal.old) }
+    ensures steps { result ≡ Err Steps → counted_in journal.new.lines ≡ journal.new.limit }
+    ensures number { (wide : WideAt) → result ≡ Err (Number wide) → ⊥ }
+{
+    push_new(rows, directions, row, direction)?;
+    note_last(rows, directions, journal, line)
+}
+
+/// The line of a row.
+fn line_of(alloc: Global, row: &Row) -> Result<Line, AllocError>
+    ensures { IfOk result (λ line. line ≡ Combine row.now.strict row.now.lin) }
+{
+    let form = copied(alloc, &row.lin)?;
+    Ok(Line::Combine {
+        strict: row.strict,
+        row: form,
+    })
+}
+
+/// Notes the line of a row, and adds the row, which no row has the direction of; where the line isn't noted, nothing changes.
+pub fn note(
+    alloc: Global,
+    rows: &mut Items<Row>,
+    directions: &mut IndexSet<Direction>,
+    journal: &mut Journal,
+    row: Row,
+    direction: Direction,
+) -> Result<(), Fail>
+    requires direction { IsDirectionOf row.lin direction.form }
+    requires alone { IsEarlier row None }
+    requires new { contains is_same directions.old direction ≡ false }
+    requires indexed { AreIndexed rows.old directions.old.keys }
+    ensures rows { OnOk result (rows.new ≡ rows.old ++ row ∷ []) }
+    ensures lines { OnOk result (journal.new ≡ record journal.old { lines = journal.old.lines ++ Combine row.strict row.lin ∷ [] }) }
+    ensures kept { OnErr result ((rows.new ≡ rows.old) × (journal.new ≡ journal.old)) }
+    ensures indexed { AreIndexed rows.new directions.new.keys }
+    ensures steps { result ≡ Err Steps → counted_in journal.new.lines ≡ journal.new.limit }
+    ensures number { (wide : WideAt) → result ≡ Err (Number wide) → ⊥ }
+{
+    let line = line_of(alloc, &row)?;
+    note_line(rows, directions, journal, row, direction, line)
 }

@@ -11,10 +11,21 @@ pub enum Origin {
     Combined { lower: usize, upper: usize },
 }
 
+/// What a row was before it was rounded: `lin >= 0`, or `lin > 0` where `strict`.
+#[derive(Debug, Drop)]
+pub struct Unrounded {
+    pub lin: Lin,
+    pub strict: bool,
+}
+
 /// `lin >= 0`, or `lin > 0` where `strict`.
 #[derive(Debug, Drop)]
 pub struct Row {
     pub lin: Lin,
     pub strict: bool,
+    /// Its sides have the sort `int`, and so have the names in it.
+    pub integral: bool,
+    /// What it was before it was rounded, where it was.
+    pub unrounded: Option<Unrounded>,
     pub from: Origin,
 }

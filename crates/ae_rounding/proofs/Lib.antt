@@ -1,4 +1,4 @@
 pub mod Quotients
-mod Whole
-mod Legal
+pub mod Whole
+pub mod Legal
 mod Lines

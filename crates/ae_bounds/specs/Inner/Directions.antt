@@ -1,5 +1,5 @@
 -- The directions of forms: equal ones for forms that are positive multiples of one another.
-use Rattle.std.specs.Prelude.{ℕ, Bool, true, pos, List, [], ◌++◌, ◌≡◌, ◌⊎◌}
+use Rattle.std.specs.Prelude.{ℕ, Bool, true, pos, Option, Some, None, List, [], ◌++◌, ◌≡◌, ◌⊎◌}
 use Rattle.std.specs.List.{AllByRecursion, Contains, flat_map}
 use Rattle.std.specs.Bool.{Decides}
 use Rattle.std.specs.Cmp as cmp
@@ -13,6 +13,9 @@ use Rattle.ae_num.specs.Forms.{meaning, IsNormal}
 use Rattle.ae_ineq.specs.Inner.Primitive.{IsPrimitive}
 use Rattle.ae_ineq.specs.Inner.Sets.{IsMultiple}
 use Rattle.ae_bounds.specs.declared.rows.Row.{Row}
+use Rattle.ae_bounds.specs.declared.rows.Unrounded.{Unrounded}
+use Rattle.ae_bounds.specs.declared.rows.Origin.TheVariants.{Assumed}
+use Rattle.ae_bounds.specs.Rounding.{HasForm}
 use Rattle.ae_bounds.specs.declared.directions.Direction.{Direction}
 use Rattle.ae_bounds.specs.contracts.directions.Direction as direction_contract
 
@@ -33,11 +36,16 @@ pub record IsOfSome (l d : Lin) : Type 0 where
 abbrev pub IsDirectionOf : Lin → Lin → Type 0
 IsDirectionOf l d = IsOfSome l d ⊎ IsOfZero l d
 
--- the directions are those of the rows, whose forms are in the normal form
+-- the directions are those of the forms of the rows, which are in the normal form
 pub record AreIndexed (rows : List Row) (ds : List Direction) : Type 0 where
   pub normal : AllByRecursion (λ r. IsNormal r.lin) rows
-  pub each : (r : Row) → Contains rows r → (d : Direction) × Contains ds d × IsDirectionOf r.lin d.form
-  pub own : (d : Direction) → Contains ds d → (r : Row) × Contains rows r × IsDirectionOf r.lin d.form
+  pub each : (r : Row) (l : Lin) → Contains rows r → HasForm r l → (d : Direction) × Contains ds d × IsDirectionOf l d.form
+  pub own : (d : Direction) → Contains ds d → (r : Row) × (l : Lin) × Contains rows r × HasForm r l × IsDirectionOf l d.form
+
+-- the direction of the form that a row had before it was rounded, where that counts
+abbrev pub IsEarlier : Row → Option Direction → Type 0
+IsEarlier r None = (tag : ℕ) (u : Unrounded) → r.from ≡ Assumed tag → r.unrounded ≡ Some u → ⊥
+IsEarlier r (Some d) = (tag : ℕ) × (u : Unrounded) × (r.from ≡ Assumed tag) × (r.unrounded ≡ Some u) × IsDirectionOf u.lin d.form
 
 -- ---- equality as a test, and what a hash reads
 pub Direction_discrete : Discrete Direction

@@ -1,8 +1,7 @@
 -- Pairs of rows at places, and the last parts of their forms.
 use Rattle.std.specs.Prelude.{ℕ, ◌<◌, ◌≤◌, length, pos, ◌<ℤ◌, ◌≡◌, List, Some, slice_get}
-use Rattle.ae_rows.specs.Rows.{combination}
 use Rattle.ae_num.specs.declared.forms.Lin.{Lin}
-use Rattle.ae_num.specs.Forms.{meaning, SameMeaning, first_wide, combine_steps}
+use Rattle.ae_num.specs.Forms.{first_wide, combine_steps}
 use Rattle.ae_journal.specs.declared.answers.NumStep.TheVariants.{Combine}
 use Rattle.ae_journal.specs.declared.answers.WideAt.{WideAt}
 use Rattle.ae_ineq.specs.Inner.Sets.{last_part}
@@ -10,7 +9,8 @@ use Rattle.ae_bounds.specs.declared.rows.Row.{Row}
 use Rattle.ae_bounds.specs.declared.directions.Direction.{Direction}
 use Rattle.ae_bounds.specs.Inner.Directions.{AreIndexed}
 use Rattle.ae_bounds.specs.declared.combining.Opposed.{Opposed}
-use Rattle.ae_bounds.specs.Combinations.{IsDone}
+use Rattle.ae_bounds.specs.Combinations.{IsCombinationOf, IsDone}
+use Rattle.ae_bounds.specs.Rounding.{AreRounded}
 use Rattle.ae_bounds.specs.Findings.{AreFounded}
 
 -- the name is the last one of both forms, with these factors
@@ -28,13 +28,13 @@ pub record IsCombineWide (lower upper : Lin) (name : ℕ) (w : WideAt) : Type 0 
   pub right : w.right ≡ upper
   pub wide : first_wide (combine_steps lower name upper) ≡ Some w.wide
 
--- the form is the combination of rows number i and j, where these can be combined
-pub record IsMadeOf (rows : List Row) (i j : ℕ) (l : Lin) : Type 0 where
-  pub each : (p q : Row) (o : Opposed) → slice_get rows i ≡ Some p → slice_get rows j ≡ Some q → HaveLast p.lin q.lin o → SameMeaning (meaning l) (combination o.name (meaning p.lin) (meaning q.lin))
+-- the row is the combination of rows number i and j, where these can be combined
+pub record IsMadeOf (rows : List Row) (i j : ℕ) (r : Row) : Type 0 where
+  pub each : (p q : Row) (o : Opposed) → slice_get rows i ≡ Some p → slice_get rows j ≡ Some q → HaveLast p.lin q.lin o → IsCombinationOf p q o.name r
 
 -- where rows number i and j can be combined, these rows have their combination
 abbrev pub IsPairThere : List Row → ℕ → ℕ → List Row → Type 0
-IsPairThere rows i j new = (p q : Row) (o : Opposed) → slice_get rows i ≡ Some p → slice_get rows j ≡ Some q → HaveLast p.lin q.lin o → IsDone new (combination o.name (meaning p.lin) (meaning q.lin))
+IsPairThere rows i j new = (p q : Row) (o : Opposed) → slice_get rows i ≡ Some p → slice_get rows j ≡ Some q → HaveLast p.lin q.lin o → IsDone new p q o.name
 
 -- so it is with the first k rows
 abbrev pub AreClosedBelow : ℕ → List Row → Type 0
@@ -45,4 +45,5 @@ pub record IsKept (rows : List Row) (ds : List Direction) (closed : ℕ) : Type 
   pub indexed : AreIndexed rows ds
   pub within : closed ≤ length rows
   pub founded : AreFounded rows
+  pub rounded : AreRounded rows
   pub pairs : AreClosedBelow closed rows

@@ -1,7 +1,7 @@
 use Rattle.std.proofs.Common.{◌≡◌, ◌∙◌, sym}
 use Rattle.ae_bounds.specs.Combinations.IsExtended.{as_it_was}
 use Rattle.ae_bounds.proofs.Indexing.{unseen_there}
-use Rattle.ae_bounds.proofs.Noted.{done_noted, extended_noted}
+use Rattle.ae_bounds.proofs.Noted.{held_noted, extended_noted}
 use Rattle.ae_bounds.proofs.bounds.note_new.Goals as goal
 
 pub returns-in_err-direction-clause-extended : goal.returns-in_err-direction-clause-extended
@@ -10,8 +10,8 @@ returns-in_err-direction-clause-extended c = as_it_was
 pub returns-then-has_direction-clause-extended : goal.returns-then-has_direction-clause-extended
 returns-then-has_direction-clause-extended c = c.keep_zero.ensures.extended c.args.journal.now.lines
 
-pub returns-clause-done : goal.returns-clause-done
-returns-clause-done c = done_noted c.args.rows.now c.note.new.rows c.args.row c.requires.combined.lower c.requires.combined.upper c.note.result c.requires.combined.from c.note.ensures.rows
+pub returns-clause-held : goal.returns-clause-held
+returns-clause-held c = held_noted c.args.rows.now c.note.new.rows c.args.row c.requires.combined.lower c.requires.combined.upper c.note.result c.requires.combined.from c.note.ensures.rows
 
 pub returns-clause-extended : goal.returns-clause-extended
 returns-clause-extended c =

@@ -1,6 +1,7 @@
-use Rattle.ae_bounds.proofs.Indexing.{indexed_added}
+use Rattle.ae_bounds.proofs.Pushed.{indexed_pushed}
 use Rattle.ae_bounds.proofs.noting.add.Goals as goal
 
-pub returns-in-Ok-clause-indexed : goal.returns-in-Ok-clause-indexed
-returns-in-Ok-clause-indexed c =
-    indexed_added c.args.rows.now c.push.new.self c.args.directions.now.keys c.insert.new.self.keys c.args.row c.args.direction c.requires.indexed c.requires.direction c.in_ok-push.ensures.ok c.in-Ok.ensures.keys
+pub returns-clause-indexed : goal.returns-clause-indexed
+returns-clause-indexed c =
+    indexed_pushed c.push.result c.args.rows.now c.push.new.rows c.args.directions.now.keys c.push.new.directions.keys c.args.row c.args.direction c.requires.indexed c.requires.direction c.requires.alone
+    c.push.ensures.rows c.push.ensures.directions c.push.ensures.kept

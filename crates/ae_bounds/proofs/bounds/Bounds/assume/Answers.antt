@@ -1,8 +1,13 @@
-use Rattle.ae_bounds.specs.declared.rows.Origin.TheVariants.{Assumed}
-use Rattle.ae_bounds.proofs.Keeping.{kept_added, not_combined}
+use Rattle.ae_bounds.proofs.Keeping.{kept_added, assumed_rounded, unrounded_normal, not_combined}
+use Rattle.std.proofs.Common.{sym, ◌∙◌}
 use Rattle.ae_bounds.proofs.bounds.Bounds.assume.Goals as goal
 
 pub invariant_of-self : goal.invariant_of-self
 invariant_of-self c =
-    kept_added c.add.result c.self.inside.rows c.add.new.rows (record { lin = c.args.lin; strict = c.args.strict; from = Assumed c.args.tag }) c.self.inside.directions.keys c.add.new.directions.keys c.self.inside.closed
-    c.add.ensures.added c.add.ensures.kept (λ lower upper e. not_combined c.args.tag lower upper e) c.self.invariant c.add.ensures.indexed
+    kept_added c.add_assumed.result c.self.inside.rows c.add_assumed.new.rows c.in_ok-row.row c.self.inside.directions.keys c.add_assumed.new.directions.keys c.self.inside.closed
+    c.add_assumed.ensures.added c.add_assumed.ensures.kept (λ lower upper e. not_combined c.args.tag lower upper (sym c.in_ok-row.ensures.from ∙ e))
+    (assumed_rounded c.args.lin c.args.strict c.in_ok-row.row c.requires.normal c.in_ok-row.ensures.normal c.in_ok-row.ensures.row) c.self.invariant c.add_assumed.ensures.indexed
+
+pub earlier_direction-requires-clause-normal : goal.earlier_direction-requires-clause-normal
+earlier_direction-requires-clause-normal c =
+    unrounded_normal c.in_ok-row.row (assumed_rounded c.args.lin c.args.strict c.in_ok-row.row c.requires.normal c.in_ok-row.ensures.normal c.in_ok-row.ensures.row)
