@@ -2,6 +2,7 @@
 use Rattle.std.specs.Prelude.{ℕ, zero, suc, ◌+◌, ◌<◌, ◌≤◌, ◌⊎◌, Bool, false, List, [], ◌∷◌, ◌++◌, ◌≡◌, length, get_or, take, slice_get, ◌≢◌, Option, Some, None, IfSome}
 use Rattle.std.specs.List.{AllByRecursion}
 use Rattle.std.proofs.Common.{refl, sym, ap, ◌∙◌, subst, arith, inl, inr, ⊎_elim, append_assoc, append-nil, length-append}
+use Rattle.std.proofs.lemmas.Option.{slice_get-get_or}
 use Rattle.ae_base.specs.Options.{◌>>=◌, or_else}
 use Rattle.ae_rules.specs.Derivations.{Derives, goal_body}
 use Rattle.ae_core.specs.declared.formulas.Formula.{Formula}
@@ -128,11 +129,11 @@ front_of : (xs ys : List ℕ) (n : ℕ) → take (length xs + n) (xs ++ ys) ≡ 
 front_of [] ys n = ap (λ m. take m ys) (let e : 0 + n ≡ n = omega arith in e)
 front_of (x ∷ xs) ys n = ap (λ m. take m (x ∷ xs ++ ys)) (let e : length {A = ℕ} (x ∷ xs) + n ≡ suc (length xs + n) = omega arith in e) ∙ ap (λ z. x ∷ z) (front_of xs ys n)
 
-prefix_then : (a b c : Written) (xs ys : List ℕ) → Gets a b xs → GetsPrefix b c ys → GetsPrefix a c (xs ++ ys)
+pub prefix_then : (a b c : Written) (xs ys : List ℕ) → Gets a b xs → GetsPrefix b c ys → GetsPrefix a c (xs ++ ys)
 prefix_then a b c xs ys h (n, lt, k) =
     (length xs + n, omega (arith, lt, length-append xs ys), subst (λ z. Gets a c z) (sym (front_of xs ys n)) (gets_then a b c xs (take n ys) h k))
 
-gets_nothing : (a : Written) → Gets a a []
+pub gets_nothing : (a : Written) → Gets a a []
 gets_nothing Lost = tt
 gets_nothing Untold = tt
 gets_nothing (Told xs) = sym (append-nil xs)
@@ -194,15 +195,10 @@ rose_later a b c le r = ⊎_elim (λ lt. inl (omega (arith, le, lt))) (λ e. inr
 
 -- an item of a list at a place, read in two ways
 pub item_at : {X : Type 0} (xs ys : List X) (i : ℕ) (x : X) → x ≡ get_or xs i x → i < length xs → xs ≡ ys → (slice_get ys i ≡ Some x) × (i < length ys)
-item_at xs ys i x e lt same = (subst (λ zs. slice_get zs i ≡ Some x) same (go xs i x lt ∙ ap Some (sym e)), subst (λ zs. i < length zs) same lt)
-  where
-    go : {X : Type 0} (xs : List X) (i : ℕ) (d : X) → i < length xs → slice_get xs i ≡ Some (get_or xs i d)
-    go [] i d lt = absurd (omega (arith, lt))
-    go (x ∷ xs) zero d lt = refl
-    go (x ∷ xs) (suc i) d lt = go xs i d (omega (arith, lt))
+item_at xs ys i x e lt same = (subst (λ zs. slice_get zs i ≡ Some x) same (slice_get-get_or xs i x lt ∙ ap Some (sym e)), subst (λ zs. i < length zs) same lt)
 
 -- a text that was told
-told_is : (left : Option (List ℕ)) (text told : List ℕ) → left ≡ Some told → IfSome left (λ xs. text ≡ xs) → text ≡ told
+pub told_is : (left : Option (List ℕ)) (text told : List ℕ) → left ≡ Some told → IfSome left (λ xs. text ≡ xs) → text ≡ told
 told_is None text told e h = absurd (never_some _ e)
 told_is (Some xs) text told e h = h ∙ ap (λ o. or_else o xs) e
 
@@ -222,7 +218,7 @@ nothing_written text a = ([], inl refl, gets_nothing a)
 file_one : (text : List ℕ) (f g : File) → IsFileOf text f → IsFileOf text g → f ≡ g
 file_one text f g p q = one_tree p.tokens f g p.parsed (subst (λ ts. IsParsed ts g) (one_list text q.tokens p.tokens q.tokenized p.tokenized) q.parsed)
 
-not_refused : (text : List ℕ) (first : FirstText) (why : Refusal) → Reads text first → IsRefused text why → ⊥
+pub not_refused : (text : List ℕ) (first : FirstText) (why : Refusal) → Reads text first → IsRefused text why → ⊥
 not_refused text first why r (by_lexis f h) = never_both_in_lexis text r.is_file.tokens f r.is_file.tokenized h
 not_refused text first why r (by_syntax ts f t h) = never_both text ts r.file f (subst (λ us. IsParsed us r.file) (one_list text r.is_file.tokens ts r.is_file.tokenized t) r.is_file.parsed) h
 not_refused text first why r (by_form file h none) = none first (subst (λ g. IsFirstTextOf text g first) (file_one text r.file file r.is_file h) r.is_first)

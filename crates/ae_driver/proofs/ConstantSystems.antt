@@ -40,6 +40,7 @@ use Rattle.ae_base.proofs.Decided.{decided_of, decided_not}
 use Rattle.ae_base.proofs.ListFacts.{get_map}
 use Rattle.ae_base.proofs.Options.{never_some}
 use Rattle.std.proofs.lemmas.Option.{same_Some}
+use Rattle.std.proofs.Math.Bool.{and-false}
 
 -- ---- different constants are different terms, and no constant is anything else
 number_layer : Term-F Term → ℕ
@@ -129,10 +130,6 @@ name_at [] c lt = absurd (omega (arith, lt))
 name_at (x ∷ xs) zero lt = (x, refl)
 name_at (x ∷ xs) (suc c) lt = name_at xs c (omega (arith, lt))
 
-and_false : (b : Bool) → b && false ≡ false
-and_false true = refl
-and_false false = refl
-
 entry_of : (cs : List (List ℕ)) (c : ℕ) (e : SymbolEntry) → slice_get (map symbol_entry cs) c ≡ Some e → (name : List ℕ) × (symbol_entry name ≡ e)
 entry_of [] c e h = absurd (never_some _ h)
 entry_of (x ∷ xs) zero e h = (x, same_Some (symbol_entry x) e h)
@@ -170,7 +167,7 @@ module _ (f : FirstText) where
           let m = name_at f.constants c lt in
           let entry = ap (slice_get (signature f).symbols) (sym same) ∙ get_map symbol_entry f.constants c m.0 m.1 in
           let wrong = ap (λ o. list_all (is_closed_sort (signature f)) ss && or_else (o >>= λ e. Some (predicate_fits ss args e)) false) entry in
-          true≢false (sym h ∙ wrong ∙ and_false (list_all (is_closed_sort (signature f)) ss))
+          true≢false (sym h ∙ wrong ∙ and-false (list_all (is_closed_sort (signature f)) ss))
 
   pub no_constructor : (c : ℕ) (h : Head) → Symbol c ≡ h → IsConstructor (signature f) h → ⊥
   no_constructor c h e is = free (subst (IsConstructor (signature f)) (sym e) is)

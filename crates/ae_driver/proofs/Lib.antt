@@ -13,4 +13,5 @@ pub mod ConstantSystems
 pub mod Saturated
 pub mod ConstantTruth
 pub mod Answered
+pub mod Checked
 pub mod Existence

@@ -14,7 +14,8 @@ use Rattle.ae_core.specs.declared.formulas.Quant.{Quant}
 use Rattle.ae_core.specs.declared.formulas.Lit.{Lit}
 use Rattle.ae_driver.specs.declared.first_text.Equation.{Equation}
 use Rattle.ae_driver.specs.Problems.{equation, chain}
-use Rattle.std.proofs.lemmas.Bool.{and_from, or_left, or_right, or_cases, cases_Bool}
+use Rattle.std.proofs.lemmas.Bool.{and_from, or_left, or_right, or_cases, cases_Bool, and_parts}
+use Rattle.std.proofs.Math.Bool.{or-false}
 use Rattle.ae_base.proofs.Decided.{decided_yes, decided_of}
 
 -- ---- which literals become false on the way
@@ -76,13 +77,6 @@ unfolding may
 may_opposite l e = may_one l.positive (out-Formula l.formula) e
 
 -- ---- what stands among the false literals
-and_left : (a b : Bool) → a && b ≡ true → a ≡ true
-and_left true b e = refl
-and_left false b e = e
-
-and_right : (a b : Bool) → a && b ≡ true → b ≡ true
-and_right true b e = e
-and_right false b e = absurd (true≢false (sym e))
 
 -- each of the false literals is one that may be
 pub AllMay : List Lit → Type 0
@@ -93,8 +87,8 @@ unfolding AllMay
 stands_may [] l a s = absurd (true≢false (sym s))
 stands_may (m ∷ fs) l a s =
     ⊎_elim
-    (λ same. ap may (sym (decided_yes (Lit_discrete m l) same)) ∙ and_left (may m) (list_all may fs) a)
-    (λ later. stands_may fs l (and_right (may m) (list_all may fs) a) later)
+    (λ same. ap may (sym (decided_yes (Lit_discrete m l) same)) ∙ (and_parts (may m) (list_all may fs) a).0)
+    (λ later. stands_may fs l (and_parts (may m) (list_all may fs) a).1 later)
     (or_cases (decided (Lit_discrete m l)) (stands fs l) s)
 
 stands_not : (fs : List Lit) (l : Lit) → AllMay fs → may l ≡ false → stands fs l ≡ false
@@ -115,7 +109,7 @@ stands_last (m ∷ fs) l = or_right (decided (Lit_discrete m l)) (stands (fs ++ 
 all_may_more : (fs : List Lit) (l : Lit) → AllMay fs → may l ≡ true → AllMay (fs ++ l ∷ [])
 unfolding AllMay
 all_may_more [] l a m = and_from (may l) true m refl
-all_may_more (x ∷ fs) l a m = and_from (may x) _ (and_left (may x) (list_all may fs) a) (all_may_more fs l (and_right (may x) (list_all may fs) a) m)
+all_may_more (x ∷ fs) l a m = and_from (may x) _ (and_parts (may x) (list_all may fs) a).0 (all_may_more fs l (and_parts (may x) (list_all may fs) a).1 m)
 
 -- ---- one clause: all its literals but the last are false
 -- the false literals after the clause whose last literal is l
@@ -127,21 +121,17 @@ AllStand fs ls = list_all (stands fs) ls ≡ true
 
 no_true : (fs pre : List Lit) (l : Lit) → AllMay fs → AllStand fs pre → has_true fs (pre ++ l ∷ []) ≡ stands fs (opposite l)
 unfolding AllStand
-no_true fs [] l a s = or_false (stands fs (opposite l))
-  where
-    or_false : (b : Bool) → b || false ≡ b
-    or_false true = refl
-    or_false false = refl
+no_true fs [] l a s = or-false (stands fs (opposite l))
 no_true fs (m ∷ pre) l a s =
-    ap (λ b. b || has_true fs (pre ++ l ∷ [])) (stands_not fs (opposite m) a (may_opposite m (stands_may fs m a (and_left (stands fs m) _ s))))
-    ∙ no_true fs pre l a (and_right (stands fs m) _ s)
+    ap (λ b. b || has_true fs (pre ++ l ∷ [])) (stands_not fs (opposite m) a (may_opposite m (stands_may fs m a (and_parts (stands fs m) _ s).0)))
+    ∙ no_true fs pre l a (and_parts (stands fs m) _ s).1
 
 one_open : (fs pre : List Lit) (l : Lit) → AllStand fs pre → stands fs l ≡ false → next_false fs (pre ++ l ∷ []) ≡ Some (opposite l)
 unfolding AllStand
 one_open fs [] l s o = ap (λ b. cond b (next_false fs []) (Some (opposite l))) o
 one_open fs (m ∷ pre) l s o =
-    ap (λ b. cond b (next_false fs (pre ++ l ∷ [])) (when (list_all (is_or_stands fs m) (pre ++ l ∷ [])) (opposite m))) (and_left (stands fs m) _ s)
-    ∙ one_open fs pre l (and_right (stands fs m) _ s) o
+    ap (λ b. cond b (next_false fs (pre ++ l ∷ [])) (when (list_all (is_or_stands fs m) (pre ++ l ∷ [])) (opposite m))) (and_parts (stands fs m) _ s).0
+    ∙ one_open fs pre l (and_parts (stands fs m) _ s).1 o
 
 go_on : List Lit → List Clause → Option Lit → Bool
 go_on fs cs o = elim o [ Some l ↦ refutes (fs ++ l ∷ []) cs | None ↦ false ]
@@ -219,12 +209,12 @@ will_after fs fs' x later ls keeps has w m h =
 last_false : (fs pre : List Lit) (l : Lit) → AllStand fs pre → stands fs l ≡ true → refutes fs ((pre ++ l ∷ []) ∷ []) ≡ true
 unfolding AllStand
 last_false fs [] l a s = and_from (stands fs l) true s refl
-last_false fs (m ∷ pre) l a s = and_from (stands fs m) _ (and_left (stands fs m) _ a) (last_false fs pre l (and_right (stands fs m) _ a) s)
+last_false fs (m ∷ pre) l a s = and_from (stands fs m) _ (and_parts (stands fs m) _ a).0 (last_false fs pre l (and_parts (stands fs m) _ a).1 s)
 
 keeps_all : (fs fs' pre : List Lit) → ((m : Lit) → stands fs m ≡ true → stands fs' m ≡ true) → AllStand fs pre → AllStand fs' pre
 unfolding AllStand
 keeps_all fs fs' [] keeps a = refl
-keeps_all fs fs' (m ∷ pre) keeps a = and_from (stands fs' m) _ (keeps m (and_left (stands fs m) _ a)) (keeps_all fs fs' pre keeps (and_right (stands fs m) _ a))
+keeps_all fs fs' (m ∷ pre) keeps a = and_from (stands fs' m) _ (keeps m (and_parts (stands fs m) _ a).0) (keeps_all fs fs' pre keeps (and_parts (stands fs m) _ a).1)
 
 single : (gs : List Lit) (m : Lit) → stands gs m ≡ true → AllStand gs (m ∷ [])
 unfolding AllStand

@@ -40,11 +40,9 @@ use Rattle.ae_driver.proofs.ConstantSystems.{number, number_is, no_choices, no_c
 use Rattle.ae_base.proofs.AllOf.{all_append}
 use Rattle.ae_journal.proofs.Splits.{contains_at, all_contained}
 use Rattle.ae_base.proofs.Options.{never_some}
-use Rattle.std.proofs.lemmas.Bool.{eq-eqb}
+use Rattle.std.proofs.lemmas.Bool.{eq-eqb, ne_eqb}
 
 -- ---- equality of numbers
-nat_eq_apart : (a b : ℕ) → a ≢ b → nat_eq a b ≡ false
-nat_eq_apart a b n = ⊎_elim (λ s. absurd (n s.1)) (λ d. d.0) (eqb_tells a b)
 
 -- ---- the first literal denies the chain
 pub first_literal : (es : List Equation) (g : Equation) → slice_get (state_literals es g) 0 ≡ Some (is_false (chain es g))
@@ -114,7 +112,7 @@ module _ (n : ℕ) (vs : List ℕ) (same : Term → Term → Bool) (said : ℕ �
 
   module _ (g : Equation) (w : IsEquationOver n g) (differ : get_or vs g.left 0 ≢ get_or vs g.right 0) where
     end_false : truth same said (equation g) ≡ false
-    end_false = true_eq (constant g.left) (constant g.right) ∙ agrees g.left g.right w.0 w.1 ∙ nat_eq_apart _ _ differ
+    end_false = true_eq (constant g.left) (constant g.right) ∙ agrees g.left g.right w.0 w.1 ∙ ne_eqb _ _ differ
 
     pub chain_false : (hs : List Equation) → AllByRecursion (IsEquationOver n) hs → AllByRecursion (Same vs) hs → truth same said (chain hs g) ≡ false
     chain_false [] v h = end_false

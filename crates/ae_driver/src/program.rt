@@ -1,33 +1,27 @@
 //! The top call.
 
 ghost use Rattle.std.specs.Prelude.{◌≡◌, ◌≢◌, ◌⊎◌, ◌≤◌, length, map, string_bytes, IfOk, IfSome};
-ghost use Rattle.std.specs.Bool.{MatchBool};
 ghost use Rattle.std.specs.Io.KnownBytes.{IsAtEnd};
 ghost use Rattle.ae_io.specs.Moves.{Rose, Gets, GetsPrefix};
-ghost use Rattle.ae_lex.specs.Lexis.{IsTokenized, IsFault};
-ghost use Rattle.ae_lex.specs.declared.kinds.LexFault.TheVariants.{Memory as NoMemoryForTokens};
-ghost use Rattle.ae_syntax.specs.Files.{IsSyntaxFault};
-ghost use Rattle.ae_syntax.specs.declared.faults.SyntaxFault.TheVariants.{Memory as NoMemoryForTree};
 ghost use Rattle.ae_report.specs.Lines.{refused_at};
 ghost use Rattle.ae_driver.specs.Inner.Places.{IsWellPlaced, IsGoalOver};
-ghost use Rattle.ae_driver.specs.Output.{IsFileOf, IsDone, IsOffered, IsRefusedText, IsRefusedByLength, IsOutOfMemory, IsCutOff, usage_line};
+ghost use Rattle.ae_driver.specs.Output.{IsDone, IsOffered, IsRefusedText, IsRefusedByLength, IsOutOfMemory, IsCutOff, usage_line};
 ghost use Rattle.ae_driver.specs.Problems as problems;
-ghost use Rattle.ae_driver.specs.Words.{AskToProve};
-ghost use Rattle.ae_driver.specs.Inner.Endings.{PartEnds, GoalsEnd, RefusalEnds, TextEnds};
+ghost use Rattle.ae_driver.specs.Checking.{IsDoneChecking, IsOfferedChecking, IsRefusedChecking, IsOutOfMemoryChecking, IsCutOffChecking};
+ghost use Rattle.ae_driver.specs.Words.{AskToProve, AskToCheck, AskForNeither};
+ghost use Rattle.ae_driver.specs.Inner.Endings.{IsAsked, PartEnds, GoalsEnd, RefusalEnds, TextEnds};
 ghost use Rattle.ae_driver.specs.declared.program.Status.TheVariants.{Done, Refused, ReadFault, WriteFault, Memory, Usage};
 
+use crate::checking::check_input;
 use crate::first_text::{Chain, FirstText};
 use crate::parts::goal_part;
-use crate::reader::first_text_of;
 use crate::signatures::signature_of;
+use crate::texts::{NoText, read_first};
 use ae_cli::options::{CliFail, Mode};
 use ae_cli::words::options;
 use ae_core::problems::Signature;
 use ae_io::{ReadEnd, Sink, Source, read_all, write_all};
-use ae_lex::{LexFault, Token, TokenList, tokens};
 use ae_report::{Refusal, refusal_text};
-use ae_syntax::decls::File;
-use ae_syntax::{SyntaxFault, parse};
 use std::alloc::{AllocError, Global};
 
 /// The most bytes that one text may have: 16 MiB.
@@ -46,48 +40,66 @@ pub enum Status {
     WriteFault,
     /// There was no memory.
     Memory,
-    /// The words don't ask for proofs, and the usage line was written; nothing was read.
+    /// The words ask neither for proofs nor for a check, and the usage line was written; nothing was read.
     Usage,
 }
 
-/// Reads a text, and answers its goals in order, each as soon as it is settled.
+/// Reads a text, and answers its goals in order, each as soon as it is settled; or checks an output for a text.
 ///
-/// - `Done` comes only where the words ask for proofs, the source was read to its end, its text is a first text of at most
-///   `INPUT_LIMIT` bytes, and one part was written for each goal: `Valid` with the text of a proof that derives the goal in
-///   the problem of the text, or `I don't know` with the text of a saturated state in which the goal is false; then no
-///   proof derives it.
+/// Where the words ask for proofs:
+///
+/// - `Done` comes only where the source was read to its end, its text is a first text of at most `INPUT_LIMIT` bytes, and one
+///   part was written for each goal: `Valid` with the text of a proof that derives the goal in the problem of the text, with its
+///   axioms, or `I don't know` with the text of a saturated state in which the goal is false; then no proof derives it.
 /// - `Refused` comes only where the line of the first reason was written: the source had more bytes left than
 ///   `INPUT_LIMIT`, the text has a fault of its tokens, its tokens have a fault of syntax, or its tree is no first text.
-/// - `Usage` comes only where the words don't ask for proofs: they are wrong, or they say `--check` or `--demo`, which
-///   aren't there yet. Then the usage line was written. Where the words don't ask for proofs, nothing is read: the answer
-///   is `Usage`, `WriteFault` where the line couldn't be written, or `Memory`.
+///
+/// Where they ask for a check:
+///
+/// - `Done` comes only where the source was read to its end, a line of exactly `%%` stands in what was read, before it a first
+///   text and behind it a part for each goal, and a line was written for each goal that says what its part is worth.
+/// - `Refused` comes only where the line of the first reason was written: the input is too long, it has no such line, what
+///   stands before the line is refused, or what stands behind it are no such parts. Lines count from the start of the input.
+///
+/// And whatever they ask for:
+///
+/// - `Usage` comes only where the words ask for neither: they are wrong, or they say `--demo`, which isn't there yet. Then the
+///   usage line was written. Where they ask for neither, nothing is read: the answer is `Usage`, `WriteFault` where the line
+///   couldn't be written, or `Memory`.
 /// - `ReadFault` and `WriteFault` come only where the count of faults of the source or of the sink rose in this call. After
 ///   `ReadFault` the sink is as it was; after `WriteFault` it got a proper front of what was being written.
-/// - `Memory` is the one free answer: nothing was written, or the parts of the first goals.
+/// - `Memory` is the one free answer: nothing was written, or what is written for the first goals.
 pub fn run<S: Source, K: Sink>(
     alloc: Global,
     words: &[String],
     source: &mut S,
     sink: &mut K,
 ) -> Status
-    ensures done { result ≡ Done → IsDone (S.left source.old) (K.written sink.old) (K.written sink.new) }
+    ensures done { AskToProve (map string_bytes words.now) → result ≡ Done → IsDone (S.left source.old) (K.written sink.old) (K.written sink.new) }
+    ensures done_checking { AskToCheck (map string_bytes words.now) → result ≡ Done → IsDoneChecking (S.left source.old) (K.written sink.old) (K.written sink.new) }
     ensures end { result ≡ Done → IsAtEnd (S.left source.new) }
     ensures complete { AskToProve (map string_bytes words.now) → IsOffered (S.left source.old) → ¬ (Rose (S.faults source.old) (S.faults source.new)) → ¬ (Rose (K.faults sink.old) (K.faults sink.new)) → (result ≡ Done) ⊎ (result ≡ Memory) }
-    ensures refused { result ≡ Refused → IsRefusedText (S.left source.old) (K.written sink.old) (K.written sink.new) ⊎ IsRefusedByLength (S.left source.old) (K.written sink.old) (K.written sink.new) }
-    ensures usage { result ≡ Usage → ¬ (AskToProve (map string_bytes words.now)) }
+    ensures complete_checking { AskToCheck (map string_bytes words.now) → IsOfferedChecking (S.left source.old) → ¬ (Rose (S.faults source.old) (S.faults source.new)) → ¬ (Rose (K.faults sink.old) (K.faults sink.new)) → (result ≡ Done) ⊎ (result ≡ Memory) }
+    ensures refused { AskToProve (map string_bytes words.now) → result ≡ Refused → IsRefusedText (S.left source.old) (K.written sink.old) (K.written sink.new) ⊎ IsRefusedByLength (S.left source.old) (K.written sink.old) (K.written sink.new) }
+    ensures refused_checking { AskToCheck (map string_bytes words.now) → result ≡ Refused → IsRefusedChecking (S.left source.old) (K.written sink.old) (K.written sink.new) ⊎ IsRefusedByLength (S.left source.old) (K.written sink.old) (K.written sink.new) }
+    ensures usage { result ≡ Usage → AskForNeither (map string_bytes words.now) }
     ensures usage_line { result ≡ Usage → Gets (K.written sink.old) (K.written sink.new) usage_line }
-    ensures words { ¬ (AskToProve (map string_bytes words.now)) → (result ≡ Usage) ⊎ ((result ≡ WriteFault) ⊎ (result ≡ Memory)) }
-    ensures unread { ¬ (AskToProve (map string_bytes words.now)) → source.new ≡ source.old }
+    ensures words { AskForNeither (map string_bytes words.now) → (result ≡ Usage) ⊎ ((result ≡ WriteFault) ⊎ (result ≡ Memory)) }
+    ensures unread { AskForNeither (map string_bytes words.now) → source.new ≡ source.old }
     ensures read_fault { result ≡ ReadFault → Rose (S.faults source.old) (S.faults source.new) }
     ensures nothing { result ≡ ReadFault → sink.new ≡ sink.old }
     ensures write_fault { result ≡ WriteFault → Rose (K.faults sink.old) (K.faults sink.new) }
-    ensures cut_off { result ≡ WriteFault → AskToProve (map string_bytes words.now) → IsCutOff (S.left source.old) (K.written sink.old) (K.written sink.new) }
-    ensures usage_cut_off { result ≡ WriteFault → ¬ (AskToProve (map string_bytes words.now)) → GetsPrefix (K.written sink.old) (K.written sink.new) usage_line }
-    ensures memory { result ≡ Memory → IsOutOfMemory (S.left source.old) (K.written sink.old) (K.written sink.new) }
+    ensures cut_off { AskToProve (map string_bytes words.now) → result ≡ WriteFault → IsCutOff (S.left source.old) (K.written sink.old) (K.written sink.new) }
+    ensures cut_off_checking { AskToCheck (map string_bytes words.now) → result ≡ WriteFault → IsCutOffChecking (S.left source.old) (K.written sink.old) (K.written sink.new) }
+    ensures usage_cut_off { AskForNeither (map string_bytes words.now) → result ≡ WriteFault → GetsPrefix (K.written sink.old) (K.written sink.new) usage_line }
+    ensures memory { AskToProve (map string_bytes words.now) → result ≡ Memory → IsOutOfMemory (S.left source.old) (K.written sink.old) (K.written sink.new) }
+    ensures memory_checking { AskToCheck (map string_bytes words.now) → result ≡ Memory → IsOutOfMemoryChecking (S.left source.old) (K.written sink.old) (K.written sink.new) }
+    ensures memory_neither { AskForNeither (map string_bytes words.now) → result ≡ Memory → sink.new ≡ sink.old }
 {
-    match ask_to_prove(alloc, words) {
-        Ok(true) => prove(alloc, source, sink),
-        Ok(false) => tell(
+    match task_of(alloc, words) {
+        Ok(Task::Proofs) => prove(alloc, source, sink),
+        Ok(Task::Check) => check(alloc, source, sink),
+        Ok(Task::Neither) => tell(
             sink,
             b"usage: altac [--steps-bound N] [--gen-bound G] [--pick first|last|mixed] [--check | --demo N]\n",
             Status::Usage,
@@ -96,13 +108,25 @@ pub fn run<S: Source, K: Sink>(
     }
 }
 
-// Whether the words ask for proofs. `Err` where there is no memory to read them.
-fn ask_to_prove(alloc: Global, words: &[String]) -> Result<bool, AllocError>
-    ensures { IfOk result (λ asked. MatchBool asked (AskToProve (map string_bytes words.now)) (¬ (AskToProve (map string_bytes words.now)))) }
+// What words ask for.
+#[derive(Clone, Copy)]
+enum Task {
+    Proofs,
+    Check,
+    Neither,
+}
+
+// What the words ask for. `Err` where there is no memory to read them.
+fn task_of(alloc: Global, words: &[String]) -> Result<Task, AllocError>
+    ensures { IfOk result (IsAsked (map string_bytes words.now)) }
 {
     match options(alloc, words) {
-        Ok(stated) => Ok(stated.mode == Mode::Prove),
-        Err(CliFail::Usage) => Ok(false),
+        Ok(stated) => match stated.mode {
+            Mode::Prove => Ok(Task::Proofs),
+            Mode::Check => Ok(Task::Check),
+            Mode::Demo(_) => Ok(Task::Neither),
+        },
+        Err(CliFail::Usage) => Ok(Task::Neither),
         Err(CliFail::Memory(error)) => Err(error),
     }
 }
@@ -128,6 +152,27 @@ fn prove<S: Source, K: Sink>(alloc: Global, source: &mut S, sink: &mut K) -> Sta
     }
 }
 
+// Reads an input, and checks its parts.
+fn check<S: Source, K: Sink>(alloc: Global, source: &mut S, sink: &mut K) -> Status
+    ensures done { result ≡ Done → IsDoneChecking (S.left source.old) (K.written sink.old) (K.written sink.new) }
+    ensures end { result ≡ Done → IsAtEnd (S.left source.new) }
+    ensures complete { IsOfferedChecking (S.left source.old) → ¬ (Rose (S.faults source.old) (S.faults source.new)) → ¬ (Rose (K.faults sink.old) (K.faults sink.new)) → (result ≡ Done) ⊎ (result ≡ Memory) }
+    ensures refused { result ≡ Refused → IsRefusedChecking (S.left source.old) (K.written sink.old) (K.written sink.new) ⊎ IsRefusedByLength (S.left source.old) (K.written sink.old) (K.written sink.new) }
+    ensures no_usage { result ≢ Usage }
+    ensures read_fault { result ≡ ReadFault → Rose (S.faults source.old) (S.faults source.new) }
+    ensures nothing { result ≡ ReadFault → sink.new ≡ sink.old }
+    ensures write_fault { result ≡ WriteFault → Rose (K.faults sink.old) (K.faults sink.new) }
+    ensures cut_off { result ≡ WriteFault → IsCutOffChecking (S.left source.old) (K.written sink.old) (K.written sink.new) }
+    ensures memory { result ≡ Memory → IsOutOfMemoryChecking (S.left source.old) (K.written sink.old) (K.written sink.new) }
+{
+    match read_all(alloc, source, INPUT_LIMIT) {
+        Ok(input) => check_input(alloc, input.as_slice(), sink),
+        Err(ReadEnd::ReadFault) => Status::ReadFault,
+        Err(ReadEnd::TooLong) => refuse(alloc, &[], &Refusal::TooLong, sink),
+        Err(ReadEnd::Memory) => Status::Memory,
+    }
+}
+
 // Writes one line, and ends with this status where it could be written.
 fn tell<K: Sink>(sink: &mut K, line: &[u8], status: Status) -> Status
     requires { (status ≡ Usage) ⊎ (status ≡ Refused) }
@@ -143,7 +188,7 @@ fn tell<K: Sink>(sink: &mut K, line: &[u8], status: Status) -> Status
 }
 
 // Writes the line by which a text is refused.
-fn refuse<K: Sink>(alloc: Global, text: &[u8], refusal: &Refusal, sink: &mut K) -> Status
+pub(crate) fn refuse<K: Sink>(alloc: Global, text: &[u8], refusal: &Refusal, sink: &mut K) -> Status
     requires { IfSome (refused_at refusal.now) (λ at. at ≤ length text.now) }
     ensures ends { RefusalEnds text.now refusal.now (K.written sink.old) (K.written sink.new) result }
     ensures write_fault { result ≡ WriteFault → Rose (K.faults sink.old) (K.faults sink.new) }
@@ -154,69 +199,15 @@ fn refuse<K: Sink>(alloc: Global, text: &[u8], refusal: &Refusal, sink: &mut K) 
     }
 }
 
-// Answers a text that has no tokens.
-fn answer_no_tokens<K: Sink>(alloc: Global, text: &[u8], fault: LexFault, sink: &mut K) -> Status
-    requires { fault ≢ NoMemoryForTokens → IsFault text.now fault }
-    ensures ends { TextEnds text.now (K.written sink.old) (K.written sink.new) result }
-    ensures write_fault { result ≡ WriteFault → Rose (K.faults sink.old) (K.faults sink.new) }
-{
-    match fault {
-        LexFault::Memory => Status::Memory,
-        _ => refuse(alloc, text, &Refusal::Lex(fault), sink),
-    }
-}
-
-// Answers a text whose tokens are no file.
-fn answer_no_file<K: Sink>(
-    alloc: Global,
-    text: &[u8],
-    tokens: &TokenList,
-    fault: SyntaxFault,
-    sink: &mut K,
-) -> Status
-    requires { IsTokenized text.now tokens.now × (fault ≢ NoMemoryForTree → IsSyntaxFault text.now tokens.now fault) }
-    ensures ends { TextEnds text.now (K.written sink.old) (K.written sink.new) result }
-    ensures write_fault { result ≡ WriteFault → Rose (K.faults sink.old) (K.faults sink.new) }
-{
-    match fault {
-        SyntaxFault::Memory => Status::Memory,
-        _ => refuse(alloc, text, &Refusal::Syntax(fault), sink),
-    }
-}
-
 // Answers a text that was read whole.
 fn answer<K: Sink>(alloc: Global, text: &[u8], sink: &mut K) -> Status
     ensures ends { TextEnds text.now (K.written sink.old) (K.written sink.new) result }
     ensures write_fault { result ≡ WriteFault → Rose (K.faults sink.old) (K.faults sink.new) }
 {
-    match tokens(alloc, text) {
-        Ok(tokens) => answer_tokens(alloc, text, &tokens, sink),
-        Err(fault) => answer_no_tokens(alloc, text, fault, sink),
-    }
-}
-
-// Answers a text by its tokens.
-fn answer_tokens<K: Sink>(alloc: Global, text: &[u8], tokens: &TokenList, sink: &mut K) -> Status
-    requires { IsTokenized text.now tokens.now }
-    ensures ends { TextEnds text.now (K.written sink.old) (K.written sink.new) result }
-    ensures write_fault { result ≡ WriteFault → Rose (K.faults sink.old) (K.faults sink.new) }
-{
-    match parse(alloc, text, tokens) {
-        Ok(file) => answer_file(alloc, text, &file, sink),
-        Err(fault) => answer_no_file(alloc, text, tokens, fault, sink),
-    }
-}
-
-// Answers a text by its tree.
-fn answer_file<K: Sink>(alloc: Global, text: &[u8], file: &File, sink: &mut K) -> Status
-    requires { IsFileOf text.now file.now }
-    ensures ends { TextEnds text.now (K.written sink.old) (K.written sink.new) result }
-    ensures write_fault { result ≡ WriteFault → Rose (K.faults sink.old) (K.faults sink.new) }
-{
-    match first_text_of(alloc, text, file) {
-        Ok(Some(first)) => answer_goals(alloc, &first, sink),
-        Ok(None) => refuse(alloc, text, &Refusal::NoForm, sink),
-        Err(_) => Status::Memory,
+    match read_first(alloc, text) {
+        Ok(first) => answer_goals(alloc, &first, sink),
+        Err(NoText::Refused(why)) => refuse(alloc, text, &why, sink),
+        Err(NoText::Memory) => Status::Memory,
     }
 }
 

@@ -27,9 +27,10 @@ fn failing_calls(alloc: Global, calls: Calls) -> Result<Vec<u64>, AllocError> {
     Ok(failing)
 }
 
-// How the run over these calls ends, and what it writes into so much room.
-fn answer(
+// How the run with these words over these calls ends, and what it writes into so much room.
+fn answer_words(
     alloc: Global,
+    words: &[String],
     text: &[u8],
     room: usize,
     reads: Calls,
@@ -42,8 +43,22 @@ fn answer(
     let mut source = MemSource::new(bytes, reads.piece, failing_calls(alloc, reads)?);
     let room = Vec::with_capacity(alloc, room)?;
     let mut sink = MemSink::new(room, writes.piece, failing_calls(alloc, writes)?);
-    let status = run(alloc, &[], &mut source, &mut sink);
+    let status = run(alloc, words, &mut source, &mut sink);
     Ok((status, Vec::from_slice(alloc, sink.kept())?))
+}
+
+// The same without words.
+fn answer(
+    alloc: Global,
+    text: &[u8],
+    room: usize,
+    reads: Calls,
+    writes: Calls,
+) -> Result<(Status, Vec<u8>), AllocError>
+    requires reads { 1 ≤ reads.piece }
+    requires writes { 1 ≤ writes.piece }
+{
+    answer_words(alloc, &[], text, room, reads, writes)
 }
 
 const TRANSITIVITY: &[u8] = b"type t\nlogic a, b, c, d, e : t\ngoal g : a = b -> b = c -> a = c\n";
@@ -203,30 +218,197 @@ fn pieces_and_faults(rt: HostRuntime) -> Result<(), Fail> {
 const USAGE: &[u8] =
     b"usage: altac [--steps-bound N] [--gen-bound G] [--pick first|last|mixed] [--check | --demo N]\n";
 
-// How a run with these words ends, and what it writes.
-fn with_words(alloc: Global, parts: &[&str]) -> Result<(Status, Vec<u8>), AllocError> {
+// How a run with these words over a text ends, and what it writes.
+fn with_words(alloc: Global, parts: &[&str], text: &[u8]) -> Result<(Status, Vec<u8>), AllocError> {
     let mut words = Vec::new(alloc);
     for part in parts {
         words.push(String::from_str(alloc, part)?)?;
     }
-    let bytes = Vec::from_slice(alloc, TRANSITIVITY)?;
-    let mut source = MemSource::new(bytes, 4096, Vec::new(alloc));
-    let mut sink = MemSink::new(Vec::with_capacity(alloc, 1000)?, 4096, Vec::new(alloc));
-    let status = run(alloc, words.as_slice(), &mut source, &mut sink);
-    Ok((status, Vec::from_slice(alloc, sink.kept())?))
+    answer_words(alloc, words.as_slice(), text, 1000, WHOLE, WHOLE)
 }
 
 #[test]
 fn words_of_the_command_line(rt: HostRuntime) -> Result<(), Fail> {
     let alloc = rt.alloc();
     let bounded = ["--steps-bound=5", "--pick", "last"];
-    let (status, part) = with_words(alloc, bounded.as_slice())?;
+    let (status, part) = with_words(alloc, bounded.as_slice(), TRANSITIVITY)?;
     assert!(rt; status == Status::Done && part.as_slice() == TRANSITIVITY_PART);
     let both = ["--check", "--demo", "8"];
-    let (status, line) = with_words(alloc, both.as_slice())?;
+    let (status, line) = with_words(alloc, both.as_slice(), TRANSITIVITY)?;
     assert!(rt; status == Status::Usage && line.as_slice() == USAGE);
     let help = ["--help"];
-    let (status, line) = with_words(alloc, help.as_slice())?;
+    let (status, line) = with_words(alloc, help.as_slice(), TRANSITIVITY)?;
     assert!(rt; status == Status::Usage && line.as_slice() == USAGE);
+    Ok(())
+}
+
+// Inputs that are checked, and what is written.
+const CHECKED: [(&[u8], &[u8]); 11] = [
+    (
+        b"type t\nlogic a, b : t\ngoal g1 : a = b\ngoal g2 : a = a\n%%\ngoal g1 Limit steps 7\njournal 1\nend\ngoal g2 Valid\nproof 2\naxioms []\ngoal\nblock\nh -(= a a)\neq a a refl\nneq 0 0\nrup [] 1 0\nend\n",
+        b"goal g1 unchecked\ngoal g2 accepted\n",
+    ),
+    (
+        b"type t\nlogic a, b, c, d, e : t\ngoal g : a = b -> b = c -> a = c\n%%\ngoal g Valid\nproof 1\ngoal\ndef 4 (@or (@not (= a b)) (@or (@not (= b c)) (= a c)))\ndef 5 (@or (@not (= a b)) (@or (@not (= b c)) (= a c)))\ndef 4 (@or (@not (= b c)) (= a c))\ndef 5 (@or (@not (= b c)) (= a c))\nblock\nh +(= a b)\nh +(= b c)\nh -(= a c)\neq a b hyp 0\neq b c hyp 1\neq a c trans 0 1\nneq 2 2\nrup [] 0 1 2 3 4 5\nend\n",
+        b"goal g accepted\n",
+    ),
+    (
+        b"type t\nlogic a, b, c, d, e : t\ngoal g : a = b -> b = c -> a = c\n%%\ngoal g Valid\nproof 1\ngoal\ndef 4 (@or (@not (= a b)) (@or (@not (= b c)) (= a c)))\ndef 5 (@or (@not (= a b)) (@or (@not (= b c)) (= a c)))\ndef 4 (@or (@not (= b c)) (= a c))\ndef 5 (@or (@not (= b c)) (= a c))\nblock\nh +(= a b)\nh +(= b c)\nh -(= a c)\neq a b hyp 0\neq b c hyp 1\neq a c trans 1 0\nneq 2 2\nrup [] 0 1 2 3 4 5\nend\n",
+        b"goal g refused 5\n",
+    ),
+    (
+        b"type t\nlogic a, b, c, d, e : t\ngoal g : a = b -> a = c\n%%\ngoal g I don't know\nstate 1\nlit -(@or (@not (= a b)) (= a c))\nlit +(= a b)\nlit -(= a c)\nname 0 a\nname 1 b\nname 2 c\nvalue 0 0\nvalue 1 0\nvalue 2 2\nend\n",
+        b"goal g unchecked\n",
+    ),
+    (
+        b"type t\nlogic a, b : t\ngoal g : a = b\n%%\ngoal g Valid\nproof 1\ngoal\nblock\nh -(= a b)\neq a b lin 0\nneq 0 0\nrup [] 0 1\nend\n",
+        b"goal g refused 1\n",
+    ),
+    (
+        b"type t\nlogic a : t\ngoal g : a = a\n%%\ngoal g Valid\nproof 2\naxioms []\ngoal\nblock\nh -(= a a)\neq a a refl\nneq 0 0\nrup [] 1 0\nend\n",
+        b"goal g accepted\n",
+    ),
+    (
+        b"type t\nlogic a : t\ngoal g : a = a\n%%\ngoal g Valid\nproof 2\naxioms [0]\ngoal\nblock\nh -(= a a)\neq a a refl\nneq 0 0\nrup [] 1 0\nend\n",
+        b"goal g refused axioms\n",
+    ),
+    (
+        b"type t\nlogic a : t\ngoal g : a = a\n%%\ngoal g Valid\nproof 2\naxioms []\ngoal\nblock\nh -(= a a)\neq a a refl\nneq 0 0\nend\n",
+        b"goal g refused 2\n",
+    ),
+    (
+        b"type t\nlogic a : t\ngoal g : a = a\r\n%%\ngoal g Valid\nproof 2\naxioms []\ngoal\nblock\nh -(= a a)\neq a a refl\nneq 0 0\nrup [] 1 0\nend\n",
+        b"goal g accepted\n",
+    ),
+    (b"type t\nlogic a : t\n%%", b""),
+    (
+        b"type t\nlogic a : t\ngoal g : a = a\n%%\ngoal g Valid\nproof 2\naxioms []\ngoal\nblock\nh +(= a a)\neq a a hyp 0\nneq 0 0\nrup [] 1 0\nend\n",
+        b"goal g refused 1\n",
+    ),
+];
+
+// Inputs that aren't checked, and the line.
+const UNCHECKED: [(&[u8], &[u8]); 13] = [
+    (
+        b"type t\nlogic a : t\ngoal g : a = a\ngoal g Valid\nproof 2\naxioms []\ngoal\nblock\nh -(= a a)\neq a a refl\nneq 0 0\nrup [] 1 0\nend\n",
+        b"refused no separator\n",
+    ),
+    (
+        b"type t\nlogic a : t\ngoal g : a = a%%\ngoal g Valid\nproof 2\naxioms []\ngoal\nblock\nh -(= a a)\neq a a refl\nneq 0 0\nrup [] 1 0\nend\n",
+        b"refused no separator\n",
+    ),
+    (
+        b"type t\nlogic a : t\ngoal g : a = a\n%%\r\ngoal g Valid\nproof 2\naxioms []\ngoal\nblock\nh -(= a a)\neq a a refl\nneq 0 0\nrup [] 1 0\nend\n",
+        b"refused no separator\n",
+    ),
+    (
+        b"type t\nlogic a : t\ngoal g : a = a\n%% \ngoal g Valid\nproof 2\naxioms []\ngoal\nblock\nh -(= a a)\neq a a refl\nneq 0 0\nrup [] 1 0\nend\n",
+        b"refused no separator\n",
+    ),
+    (
+        b"type t (* a\n%%\n*)\nlogic a : t\ngoal g : a = a\n%%\ngoal g Valid\nproof 2\naxioms []\ngoal\nblock\nh -(= a a)\neq a a refl\nneq 0 0\nrup [] 1 0\nend\n",
+        b"refused 1:8 open comment\n",
+    ),
+    (
+        b"type t\nlogic a : t\ngoal g : a =\n%%\nnothing",
+        b"refused 4:1 unexpected\n",
+    ),
+    (
+        b"type t\nlogic a : t\ngoal g : a = b\n%%\nnothing",
+        b"refused form\n",
+    ),
+    (
+        b"type t\nlogic a : t\ngoal g : a = a\n%%\ngoal h Valid\nproof 2\naxioms []\ngoal\nblock\nh -(= a a)\neq a a refl\nneq 0 0\nrup [] 1 0\nend\n",
+        b"refused 5:6 proof text\n",
+    ),
+    (
+        b"type t\nlogic a : t\ngoal g : a = a\n%%\ngoal g Valid\nproof 2\naxioms []\ngoal\nblock\nh -(= a a)\neq a a refl\nneq 0 0\nrup [] 1 0\nend\n\n",
+        b"refused 15:1 proof text\n",
+    ),
+    (
+        b"type t\nlogic a : t\ngoal g : a = a\n%%",
+        b"refused 4:3 proof text\n",
+    ),
+    (
+        b"type t\nlogic a : t\ngoal g : a = a\n%%\n%%\ngoal g Valid\nproof 2\naxioms []\ngoal\nblock\nh -(= a a)\neq a a refl\nneq 0 0\nrup [] 1 0\nend\n",
+        b"refused 5:1 proof text\n",
+    ),
+    (
+        b"type t\nlogic a : t\ngoal g : a = a\n%%\ngoal g Valid\nproof 2\naxioms []\ngoal\nblock\nh -(= a a)\neq a a refl\nneq 170141183460469231731687303715884105728 0\nrup [] 1 0\nend\n",
+        b"refused 12:5 wide number\n",
+    ),
+    (
+        b"type t\nlogic a, b, c, d, e : t\ngoal g1 : a = a\ngoal g2 : b = b\n%%\ngoal g2 Valid\nproof 2\n",
+        b"refused 6:7 proof text\n",
+    ),
+];
+
+// Texts, and what is said of what is printed for them.
+const PRINTED: [(&[u8], &[u8]); 4] = [
+    (
+        b"type t\nlogic a, b, c, d, e : t\ngoal g : a = b -> b = c -> a = c\n",
+        b"goal g accepted\n",
+    ),
+    (
+        b"type t (* a (* type *) *) logic(**)a : t goal g : a =(* = *)a\n",
+        b"goal g accepted\n",
+    ),
+    (
+        b"type t\nlogic a, b : t\ngoal g1 : a = b\ngoal g2 : b = b\ngoal g3 : a = b\n",
+        b"goal g1 unchecked\ngoal g2 accepted\ngoal g3 unchecked\n",
+    ),
+    (b"type t\nlogic a, b : t\n", b""),
+];
+
+const CHECK: [&str; 1] = ["--check"];
+
+// The first of these inputs for which a check doesn't end and write so.
+fn first_other_check(
+    alloc: Global,
+    cases: &[(&[u8], &[u8])],
+    wanted: Status,
+) -> Result<Option<usize>, AllocError> {
+    for (i, case) in cases.iter().enumerate() {
+        let (status, written) = with_words(alloc, CHECK.as_slice(), case.0)?;
+        if status != wanted || written.as_slice() != case.1 {
+            return Ok(Some(i));
+        }
+    }
+    Ok(None)
+}
+
+// A text, the line that parts, and what is printed for the text.
+fn with_its_answer(alloc: Global, text: &[u8]) -> Result<Vec<u8>, AllocError> {
+    let (_, printed) = answer(alloc, text, 4000, WHOLE, WHOLE)?;
+    let mut input = Vec::from_slice(alloc, text)?;
+    input.extend_from_slice(b"%%\n")?;
+    input.extend_from_slice(printed.as_slice())?;
+    Ok(input)
+}
+
+// The first of these texts of whose answer a check doesn't say so.
+fn first_other_print(alloc: Global, cases: &[(&[u8], &[u8])]) -> Result<Option<usize>, AllocError> {
+    for (i, case) in cases.iter().enumerate() {
+        let input = with_its_answer(alloc, case.0)?;
+        let (status, written) = with_words(alloc, CHECK.as_slice(), input.as_slice())?;
+        if status != Status::Done || written.as_slice() != case.1 {
+            return Ok(Some(i));
+        }
+    }
+    Ok(None)
+}
+
+#[test]
+fn outputs_that_are_checked(rt: HostRuntime) -> Result<(), Fail> {
+    let alloc = rt.alloc();
+    assert_eq!(rt;
+        first_other_check(alloc, CHECKED.as_slice(), Status::Done)?,
+        None
+    );
+    assert_eq!(rt;
+        first_other_check(alloc, UNCHECKED.as_slice(), Status::Refused)?,
+        None
+    );
+    assert_eq!(rt; first_other_print(alloc, PRINTED.as_slice())?, None);
     Ok(())
 }

@@ -1,11 +1,13 @@
 //! The parts of goals, one after another.
-ghost use Rattle.std.specs.Prelude.{◌≡◌, ◌≤◌, ◌<◌, ◌+◌, [], length, drop, IfOk, IfErr};
+ghost use Rattle.std.specs.Prelude.{◌≡◌, ◌≢◌, ◌≤◌, ◌<◌, ◌+◌, List, [], length, drop, IfOk, IfErr, Ok};
 ghost use Rattle.ae_choices.specs.Choices.{picked};
 ghost use Rattle.ae_choices.specs.Whole.{ReadsWhole};
 ghost use Rattle.ae_parts.specs.Codes.{part_code, parts_code};
 ghost use Rattle.ae_parts.specs.Reading.{all_words, part_arms, part_read, steps_read};
+ghost use Rattle.ae_parts.specs.declared.parts.Part.{Part};
 ghost use Rattle.ae_proofreader.specs.Whole.{StandsIn};
 ghost use Rattle.ae_readers.specs.Readers.{Reads, Ahead, fixed_read, most};
+ghost use Rattle.ae_readers.specs.declared.fault.Fault.TheVariants.{Memory as NoMemory};
 ghost use Rattle.ae_statereader.specs.Lines.{Onward};
 
 use crate::limits::read_limit;
@@ -149,6 +151,7 @@ fn read_text(
 ) -> Result<List<Part>, Fault>
     ensures exact { ReadsWhole (parts_code tables.now.terms.signature.now names.now) text.now result }
     ensures within { IfErr result (λ f. StandsIn text.now f) }
+    ensures none { IfErr result (λ f. f ≢ NoMemory → (parts : List Part) → ¬ (ReadsWhole (parts_code tables.now.terms.signature.now names.now) text.now (Ok parts))) }
 {
     match read_all(alloc, tables, names, text) {
         Err(fault) => Err(fault),
@@ -163,7 +166,7 @@ fn read_text(
 
 /// The parts of the goals of these names, in their order, whose text this is: nothing stands between them and nothing behind the last one. `At`: exactly where it is no
 /// such text, the place of the first byte that no such text continues, as one of a part that isn't its goal's or a byte behind the last part, or the text's length where
-/// its end comes too early. `WideNumber`: the place of the first numeral outside the limits before any such byte. `Memory`: there is not enough of it.
+/// its end comes too early. `WideNumber`: the place of the first numeral outside the limits before any such byte. `Memory`: there is not enough of it. Neither of the first two comes at a text of parts.
 pub fn read_parts(
     alloc: Global,
     signature: &Signature,
@@ -172,6 +175,7 @@ pub fn read_parts(
 ) -> Result<List<Part>, Fault>
     ensures exact { ReadsWhole (parts_code signature.now names.now) text.now result }
     ensures within { IfErr result (λ f. StandsIn text.now f) }
+    ensures none { IfErr result (λ f. f ≢ NoMemory → (parts : List Part) → ¬ (ReadsWhole (parts_code signature.now names.now) text.now (Ok parts))) }
 {
     match AcTables::new(alloc, signature) {
         Err(_) => Err(Fault::Memory),

@@ -7,5 +7,5 @@ pub returns : goal.returns
 returns c = record {
   options = options_of [];
   stated = right_words [] (options_of []) (record { uses = []; written = refl; in_range = tt; different = tt; stated = refl });
-  mode = refl;
+  is = refl;
 }

@@ -1,0 +1,126 @@
+-- The answer to an input that is to be checked: a problem, a line of exactly `%%`, and an output for the problem. What is written, and why it is right.
+use Rattle.std.specs.Prelude.{◌≡◌, ◌≢◌, ◌⊎◌, ◌+◌, ◌≤◌, ℕ, suc, List, [], ◌∷◌, ◌++◌, length, map, take, Option, Some, None, Ok, Err}
+use Rattle.ae_choices.specs.Whole.{ReadsWhole}
+use Rattle.ae_core.specs.declared.problems.Problem.{Problem}
+use Rattle.ae_io.specs.Moves.{Written, Gets, GetsPrefix}
+use Rattle.ae_parts.specs.Codes.{parts_code}
+use Rattle.ae_parts.specs.declared.parts.Part.{Part}
+use Rattle.ae_parts.specs.declared.parts.Part.TheVariants as part
+use Rattle.ae_prooftext.specs.declared.proofs.ProofText.{ProofText}
+use Rattle.ae_readers.specs.declared.fault.Fault.{Fault}
+use Rattle.ae_readers.specs.declared.fault.Fault.TheVariants as fault
+use Rattle.ae_report.specs.Lines.{IsRefusalLine}
+use Rattle.ae_report.specs.declared.refusal.Refusal.{Refusal}
+use Rattle.ae_report.specs.declared.refusal.Refusal.TheVariants as refusal
+use Rattle.ae_separator.specs.Separators.{HasNoSeparator, IsParted}
+use Rattle.ae_verdicts.specs.Verdicts.{IsVerdict, verdict_line}
+use Rattle.ae_verdicts.specs.declared.lines.Verdict.{Verdict}
+use Rattle.ae_driver.specs.declared.first_text.Chain.{Chain}
+use Rattle.ae_driver.specs.declared.first_text.FirstText.{FirstText}
+use Rattle.ae_driver.specs.declared.program.TheConstants.{INPUT_LIMIT}
+use Rattle.ae_driver.specs.Output.{IsRead, IsRefused, IsTooLong, Reads}
+use Rattle.ae_driver.specs.Problems.{problem, signature}
+
+-- ---- what is read
+abbrev pub names_of : List Chain → List (List ℕ)
+names_of goals = map (λ (g : Chain). g.name) goals
+
+-- a problem that is a first text, and behind the separator a part for each of its goals, in order
+pub record IsInput (input : List ℕ) (first : FirstText) (parts : List Part) : Type 0 where
+  pub before : List ℕ
+  pub after : List ℕ
+  pub parted : IsParted input before after
+  pub reads : Reads before first
+  pub read : ReadsWhole (parts_code (signature first) (names_of first.goals)) after (Ok parts)
+
+-- the fault, by its place in an input in which the text begins at place n
+abbrev pub moved : ℕ → Fault → Fault
+moved n (fault.At place) = fault.At (n + place)
+moved n (fault.WideNumber place) = fault.WideNumber (n + place)
+moved n fault.Memory = fault.Memory
+
+-- why an input is refused, in this order: there is no separator; what stands before it is refused; what stands behind it are no parts of the goals. Places are
+-- those of the whole input
+pub data IsRefusedInput (input : List ℕ) : Refusal → Type 0 where
+  no_separator : HasNoSeparator input → IsRefusedInput input refusal.NoSeparator
+  by_problem : (before after : List ℕ) (why : Refusal) → IsParted input before after → IsRefused before why → IsRefusedInput input why
+  by_parts : (before front after : List ℕ) (first : FirstText) (f : Fault) → IsParted input before after → Reads before first → input ≡ front ++ after
+      → ReadsWhole (parts_code (signature first) (names_of first.goals)) after (Err f) → f ≢ fault.Memory
+      → ((parts : List Part) → ¬ (ReadsWhole (parts_code (signature first) (names_of first.goals)) after (Ok parts)))
+      → IsRefusedInput input (refusal.Proof (moved (length front) f))
+
+-- ---- what is written
+-- the proof that a part gives
+abbrev pub proof_in : Part → Option ProofText
+proof_in (part.Valid t) = Some t
+proof_in _ = None
+
+-- a line for each goal from place k on, in order: the verdict on its part
+abbrev pub AreVerdicts : Problem → ℕ → List (List ℕ) → List Part → List ℕ → Type 0
+AreVerdicts p k [] [] bytes = bytes ≡ []
+AreVerdicts p k [] (q ∷ qs) bytes = ⊥
+AreVerdicts p k (n ∷ ns) [] bytes = ⊥
+AreVerdicts p k (n ∷ ns) (q ∷ qs) bytes =
+    (v : Verdict) × (rest : List ℕ) × (bytes ≡ verdict_line n v ++ rest) × IsVerdict p k (proof_in q) v × AreVerdicts p (suc k) ns qs rest
+
+-- the verdicts on all parts of an input
+pub record IsChecked (input bytes : List ℕ) : Type 0 where
+  pub first : FirstText
+  pub parts : List Part
+  pub is_input : IsInput input first parts
+  pub lines : AreVerdicts (problem first) 0 (names_of first.goals) parts bytes
+
+-- those on the parts of the first goals, of all of them or of fewer
+pub record IsCheckingBegun (input bytes : List ℕ) : Type 0 where
+  pub first : FirstText
+  pub parts : List Part
+  pub is_input : IsInput input first parts
+  pub count : ℕ
+  pub at_most : count ≤ length first.goals
+  pub lines : AreVerdicts (problem first) 0 (take count (names_of first.goals)) (take count parts) bytes
+
+-- ---- what a run that checks has written when it ends
+-- done: each goal has its line, behind what the sink held
+pub record IsDoneChecking (left : Option (List ℕ)) (old new : Written) : Type 0 where
+  pub input : List ℕ
+  pub read : IsRead left input
+  pub bytes : List ℕ
+  pub checked : IsChecked input bytes
+  pub written : Gets old new bytes
+
+-- the input is refused: the sink got the line that says why, and where
+pub record IsRefusedChecking (left : Option (List ℕ)) (old new : Written) : Type 0 where
+  pub input : List ℕ
+  pub read : IsRead left input
+  pub why : Refusal
+  pub refused : IsRefusedInput input why
+  pub line : List ℕ
+  pub is_line : IsRefusalLine input why line
+  pub written : Gets old new line
+
+-- no memory: the sink got nothing, or the lines of the first goals
+pub record IsOutOfMemoryChecking (left : Option (List ℕ)) (old new : Written) : Type 0 where
+  pub bytes : List ℕ
+  pub begun : (bytes ≡ []) ⊎ ((input : List ℕ) × IsRead left input × IsCheckingBegun input bytes)
+  pub written : Gets old new bytes
+
+-- what a run that checks may be writing
+pub data MayWriteChecking (left : Option (List ℕ)) (bytes : List ℕ) : Type 0 where
+  writes_verdicts : (input : List ℕ) → IsRead left input → IsCheckingBegun input bytes → MayWriteChecking left bytes
+  writes_input_refusal : (input : List ℕ) (why : Refusal) → IsRead left input → IsRefusedInput input why → IsRefusalLine input why bytes → MayWriteChecking left bytes
+  writes_input_too_long : IsTooLong left → IsRefusalLine [] refusal.TooLong bytes → MayWriteChecking left bytes
+
+-- a write failed: the sink got a part from the front of what was being written, and not all of it
+pub record IsCutOffChecking (left : Option (List ℕ)) (old new : Written) : Type 0 where
+  pub bytes : List ℕ
+  pub may : MayWriteChecking left bytes
+  pub written : GetsPrefix old new bytes
+
+-- the source tells an input within the limit on bytes, with its problem and its parts
+pub record IsOfferedChecking (left : Option (List ℕ)) : Type 0 where
+  pub input : List ℕ
+  pub told : left ≡ Some input
+  pub within : length input ≤ INPUT_LIMIT
+  pub first : FirstText
+  pub parts : List Part
+  pub is_input : IsInput input first parts
