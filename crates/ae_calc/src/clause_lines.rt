@@ -10,7 +10,9 @@ ghost use Rattle.ae_calc.specs.Reached.{Fit, FirstWide, LineReaches};
 
 use crate::enumerations::{exhaustion, trichotomy};
 use crate::fresh::are_new;
-use crate::instances::{fresh_clause, hypothesis, hypothesis_clause, instance_clause};
+use crate::instances::{
+    fresh_clause, hypothesis, hypothesis_clause, instance_clause, literal_clause,
+};
 use crate::lines::block_allowed;
 use crate::propagation::refutes;
 use ae_core::copies::copy_clause;
@@ -21,7 +23,7 @@ use ae_core::proofs::ClauseLine;
 use ae_core::sorts::{are_closed_sorts, formula_ok, sort_of};
 use ae_core::terms::{Sort, Term};
 use ae_num::numbers::NumFail;
-use ae_rules::literals::{literal, opposites};
+use ae_rules::literals::opposites;
 use ae_rules::rows::row;
 use std::alloc::{AllocError, Global};
 
@@ -45,11 +47,7 @@ fn goal_clause(alloc: Global, problem: &Problem, goal: usize) -> Result<Option<C
         None => Ok(None),
         Some(item) => match item {
             Item::Axiom { .. } => Ok(None),
-            Item::Goal { body, .. } => {
-                let mut clause = List::new(alloc);
-                clause.push(literal(alloc, false, body)?)?;
-                Ok(Some(clause))
-            }
+            Item::Goal { body, .. } => Ok(Some(literal_clause(alloc, false, body)?)),
         },
     }
 }
@@ -112,7 +110,7 @@ fn hypothesis_ok(
     }
     match hypothesis(alloc, problem, goal, place, sorts)? {
         None => Ok(false),
-        Some(formula) => formula_ok(alloc, &problem.signature, &formula),
+        Some(formula) => formula_ok(alloc, &problem.signature, formula.get()),
     }
 }
 

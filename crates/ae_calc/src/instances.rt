@@ -25,13 +25,13 @@ pub fn axiom_with(
     vars: usize,
     body: &Formula,
     sorts: &[Sort],
-) -> Result<Option<Formula>, AllocError>
+) -> Result<Option<Boxed<Formula>>, AllocError>
     ensures { IfOk result (λ f. f ≡ spec.axiom_with vars body.now sorts.now) }
 {
     if sorts.len() != vars {
         return Ok(None);
     }
-    Ok(Some(instance(alloc, body, sorts)?))
+    Ok(Some(Boxed::new(alloc, instance(alloc, body, sorts)?)?))
 }
 
 /// The axiom at a place before that of the goal, with sorts put. There is none where no axiom stands there, as where an earlier goal does.
@@ -41,7 +41,7 @@ pub fn hypothesis(
     goal: usize,
     place: usize,
     sorts: &[Sort],
-) -> Result<Option<Formula>, AllocError>
+) -> Result<Option<Boxed<Formula>>, AllocError>
     ensures { IfOk result (λ f. f ≡ spec.hypothesis problem.now goal place sorts.now) }
 {
     if place >= goal {
@@ -56,6 +56,15 @@ pub fn hypothesis(
     }
 }
 
+/// The clause of a formula alone that is true, or false, by the sign.
+pub fn literal_clause(alloc: Global, sign: bool, formula: &Formula) -> Result<Clause, AllocError>
+    ensures { IfOk result (λ c. c ≡ literal sign formula.now ∷ []) }
+{
+    let mut clause = List::new(alloc);
+    clause.push(literal(alloc, sign, formula)?)?;
+    Ok(clause)
+}
+
 /// The clause of a hypothesis.
 pub fn hypothesis_clause(
     alloc: Global,
@@ -68,11 +77,7 @@ pub fn hypothesis_clause(
 {
     match hypothesis(alloc, problem, goal, place, sorts)? {
         None => Ok(None),
-        Some(formula) => {
-            let mut clause = List::new(alloc);
-            clause.push(literal(alloc, true, &formula)?)?;
-            Ok(Some(clause))
-        }
+        Some(formula) => Ok(Some(literal_clause(alloc, true, formula.get())?)),
     }
 }
 
@@ -125,8 +130,8 @@ pub fn put_clause(
 ) -> Result<Clause, AllocError>
     ensures { IfOk result (λ c. c ≡ record { positive = sign; formula = whole.now } ∷ literal (not sign) (put_formula terms.now quant.now.body) ∷ []) }
 {
-    let body = substitute(alloc, quant, terms)?;
-    with_part(alloc, sign, whole, !sign, &body)
+    let body = Boxed::new(alloc, substitute(alloc, quant, terms)?)?;
+    with_part(alloc, sign, whole, !sign, body.get())
 }
 
 /// The same where the terms are of the sorts of the block's variables; otherwise there is none.

@@ -5,7 +5,7 @@ use Rattle.std.specs.BTreeSet.{BTreeSet, contains}
 use Rattle.std.proofs.Common.{refl, sym, ap, ◌∙◌, subst, arith}
 use Rattle.std.proofs.Math.Bool.{or-true, or-false}
 use Rattle.std.proofs.lemmas.List.Folds.{list_any-append}
-use Rattle.std.proofs.lemmas.Bool.{leb-true}
+use Rattle.std.proofs.lemmas.Bool.{leb-true, or_parts}
 use Rattle.std.proofs.lemmas.Option.{none-some}
 use Rattle.ae_base.specs.Decided.{decided}
 use Rattle.ae_base.proofs.Options.{only_some, when_some}
@@ -101,16 +101,12 @@ pub any_more : (set : BTreeSet Constant) (m : ℕ) (ss : List Sort) (i : ℕ) (d
 any_more set m [] i d l e h = absurd (omega (arith, l))
 any_more set m (s ∷ ss) zero d l e h = or-false (has set m s) ∙ ap (λ k. has set k s) (let q : m ≡ m + 0 = omega arith in q) ∙ h
 any_more set m (s ∷ ss) (suc i) d l e h =
-    let parts = both_false (has set m s) (any_has set (suc m) (take i ss)) e in
+    let parts = or_parts (has set m s) (any_has set (suc m) (take i ss)) e in
     ap (λ k. any_has set m (take k (s ∷ ss))) (next i)
     ∙ ap (λ x. x || any_has set (suc m) (take (i + 1) ss)) parts.0 ∙ any_more set (suc m) ss i d (omega (arith, l)) parts.1 (ap (λ k. has set k (get_or ss i d)) (same_number m i) ∙ h)
   where
     next : (i : ℕ) → suc i + 1 ≡ suc (i + 1)
     next i = omega arith
-
-    both_false : (a b : Bool) → (a || b) ≡ false → (a ≡ false) × (b ≡ false)
-    both_false true b e = absurd (cc)
-    both_false false b e = (refl, e)
 
 pub any_found : (set : BTreeSet Constant) (m : ℕ) (ss : List Sort) (i : ℕ) (d : Sort) → i < length ss → has set (m + i) (get_or ss i d) ≡ true → any_has set m ss ≡ true
 any_found set m [] i d l h = absurd (omega (arith, l))
