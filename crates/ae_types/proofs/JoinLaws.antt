@@ -1,5 +1,5 @@
 -- Laws of joining two places.
-use Rattle.std.proofs.Common.{◌≡◌, ◌≢◌, ℕ, zero, suc, ◌+◌, ◌<◌, ◌≤◌, List, [], ◌∷◌, ◌++◌, map, length, get_or, refl, ap, sym, ◌⊎◌, inl, inr, slice_set, Option, Some, Result, Ok, Err, OnOk, length-set, length-append, ◌∙◌, subst, arith, get_or-set_other, get_or-set_same, Bool, true, false}
+use Rattle.std.proofs.Common.{◌≡◌, ◌≢◌, ℕ, zero, suc, ◌+◌, ◌<◌, ◌≤◌, List, [], ◌∷◌, ◌++◌, map, length, get_or, refl, ap, sym, ◌⊎◌, inl, inr, slice_set, Option, Some, length-set, length-append, ◌∙◌, subst, arith, get_or-set_other, get_or-set_same, Bool, true, false}
 use Rattle.std.proofs.lemmas.List.{length-map}
 use Rattle.ae_core.specs.declared.terms.Sort.{Sort, Named}
 use Rattle.ae_types.specs.declared.pairs.SortPair.{SortPair}
@@ -117,7 +117,7 @@ joined_length : (slots : List Slot) (low high : ℕ) → length (joined slots lo
 joined_length slots low high = length-set (slice_set slots high (Link low)) low (kept (slot_at slots low) (slot_at slots high)) ∙ length-set slots high (Link low)
 
 -- a fact of each place of a joined graph, from the places of the graph before
-joined_each : (P : ℕ → Slot → Type 0) (slots : List Slot) (low high : ℕ) → low < high → high < length slots
+pub joined_each : (P : ℕ → Slot → Type 0) (slots : List Slot) (low high : ℕ) → low < high → high < length slots
     → P high (Link low) → P low (kept (slot_at slots low) (slot_at slots high))
     → ((i : ℕ) → i < length slots → P i (slot_at slots i))
     → (i : ℕ) → i < length (joined slots low high) → P i (slot_at (joined slots low high) i)
@@ -224,7 +224,7 @@ joined_weight slots low high a b =
     let w = slot_weights (slot_at slots low) (slot_at slots high) in
     omega arith
 
-known_root : (n : Node) → IsRoot (known_slot n)
+pub known_root : (n : Node) → IsRoot (known_slot n)
 known_root (node.Variable x) = tt
 known_root (node.Constant c) = tt
 known_root (node.Built h args) = tt
@@ -286,6 +286,7 @@ shortened_refl classes d = record {
   onward = λ nodes e v s. s;
   back = λ nodes e v s. s;
   same_weight = λ nodes. refl;
+  ordered = λ nodes ls js o. o;
 }
 
 pub shortened_trans : (a b c : List Class) → Shortened a b → Shortened b c → Shortened a c
@@ -297,6 +298,7 @@ shortened_trans a b c p q = record {
   onward = λ nodes e v s. q.onward nodes e v (p.onward nodes e v s);
   back = λ nodes e v s. p.back nodes e v (q.back nodes e v s);
   same_weight = λ nodes. q.same_weight nodes ∙ p.same_weight nodes;
+  ordered = λ nodes ls js o. q.ordered nodes ls js (p.ordered nodes ls js o);
 }
 
 -- a step that changes nothing but links

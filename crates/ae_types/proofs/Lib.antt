@@ -8,3 +8,4 @@ pub mod LevelLaws
 pub mod WalkLaws
 pub mod UnifyLaws
 pub mod CycleLaws
+pub mod OrderLaws

@@ -1,5 +1,5 @@
 -- Laws of writing links.
-use Rattle.std.proofs.Common.{◌≡◌, ◌≢◌, ℕ, zero, suc, ◌<◌, inl, inr, List, [], ◌∷◌, ◌++◌, length, get_or, refl, ap, sym, ◌∙◌, subst, arith, slice_set, Option, length-set, get_or-set_other, get_or-set_same, true, false}
+use Rattle.std.proofs.Common.{◌≡◌, ◌≢◌, ℕ, zero, suc, ◌<◌, inl, inr, List, [], ◌∷◌, ◌++◌, length, get_or, refl, ap, sym, ◌∙◌, subst, arith, slice_set, Option, length-set, get_or-set_other, get_or-set_same, true, false, ◌⊎◌, Contains}
 use Rattle.ae_core.specs.declared.terms.Sort.{Sort}
 use Rattle.ae_types.specs.declared.pairs.SortPair.{SortPair}
 use Rattle.ae_types.specs.declared.graph.Node.{Node}
@@ -10,6 +10,7 @@ use Rattle.ae_types.specs.declared.graph.Root.{Root}
 use Rattle.ae_types.specs.declared.graph.Change.{Change}
 use Rattle.ae_types.specs.Inner.Graphs.{Slot, Free, Link, Same, Solves, Fits, slot_at, class_at, node_at, slots_of, slot_of, known_slot, GraphWell, ClassWell, is_variable, rewound}
 use Rattle.ae_types.specs.Inner.Joins.{LinksDown, Shortened, joined, kept, weight, arity}
+use Rattle.ae_types.specs.Inner.Orders.{Beneath, LinksAmong, Ordered}
 use Rattle.ae_types.proofs.FollowLaws.{same_sym, same_trans}
 use Rattle.ae_types.proofs.GraphLaws.{slots_length, slot_at_class, slots_set, known_well, set_back, rewound_last}
 use Rattle.ae_types.proofs.JoinLaws.{same_or_not, weight_set, root_slot}
@@ -101,6 +102,50 @@ module _ (classes : List Class) (at next far : ℕ) (down : LinksDown classes) (
         let z = ap weight (slots_set nodes classes at (class.Link far)) in
         omega arith
 
+    abbrev old : List Slot
+    old = slots_of nodes classes
+
+    module _ (ls js : List ℕ) (o : Ordered ls js old) where
+      among_far : Contains js next → Contains js far
+      among_far c = let l = lower in let a = l.0 in let m = slots_length nodes classes in o.among next (omega arith) c far slot_two
+
+      through : Contains js next ⊎ (get_or ls next 0 < get_or ls at 0) → Contains js far ⊎ (get_or ls far 0 < get_or ls at 0)
+      through (inl c) = inl (among_far c)
+      through (inr h) =
+          let l = lower in
+          let a = l.0 in
+          let m = slots_length nodes classes in
+          elim (o.each next (omega arith)) [
+            | inl c ↦ inl (among_far c)
+            | inr b ↦ elim (subst (Beneath ls js (get_or ls next 0)) slot_two b 0 (omega arith)) [ inl c ↦ inl c | inr k ↦ inr (omega arith) ]
+          ]
+
+      only : (P : ℕ → Type 0) (j : ℕ) → P j → (k : ℕ) → k < length (j ∷ []) → P (get_or (j ∷ []) k 0)
+      only P j p zero h = p
+      only P j p (suc k) h = absurd (omega arith)
+
+      far_among : Contains js at → LinksAmong js (Link far)
+      far_among c j e =
+          let m = slots_length nodes classes in
+          let x : far ≡ j = cc in
+          subst (Contains js) x (among_far (o.among at (omega arith) c next slot_one))
+
+      far_each : Contains js at ⊎ Beneath ls js (get_or ls at 0) (Link far)
+      far_each =
+          let m = slots_length nodes classes in
+          elim (o.each at (omega arith)) [
+            | inl c ↦ inl c
+            | inr b ↦ inr (only (λ x. Contains js x ⊎ (get_or ls x 0 < get_or ls at 0)) far (through (subst (Beneath ls js (get_or ls at 0)) slot_one b 0 (omega arith))))
+          ]
+
+    shorter_ordered : (ls js : List ℕ) → Ordered ls js (slots_of nodes classes) → Ordered ls js (slots_of nodes shorter)
+    shorter_ordered ls js o =
+        let m = slots_length nodes classes in
+        subst (Ordered ls js) (sym (slots_set nodes classes at (class.Link far))) (record {
+          among = set_each (λ i s. Contains js i → LinksAmong js s) (slots_of nodes classes) at (Link far) Free (omega arith) (far_among ls js o) o.among;
+          each = set_each (λ i s. Contains js i ⊎ Beneath ls js (get_or ls i 0) s) (slots_of nodes classes) at (Link far) Free (omega arith) (far_each ls js o) o.each;
+        })
+
     shorter_well : GraphWell nodes classes → GraphWell nodes shorter
     shorter_well g = record {
       nodes_well = g.nodes_well;
@@ -117,6 +162,7 @@ module _ (classes : List Class) (at next far : ℕ) (down : LinksDown classes) (
     onward = shorter_onward;
     back = shorter_back;
     same_weight = shorter_weight;
+    ordered = shorter_ordered;
   }
 
 -- ---- a root that becomes a link

@@ -1,13 +1,14 @@
 -- Laws of a walk through a graph.
-use Rattle.std.proofs.Common.{◌≡◌, ◌≢◌, ℕ, zero, suc, ◌+◌, ◌-◌, ◌<◌, ◌≤◌, ◌⊎◌, inl, inr, List, [], ◌∷◌, ◌++◌, length, get_or, refl, ap, sym, ◌∙◌, subst, arith, slice_get, slice_set, length-append, length-set, get_or-set_other, get_or-set_same, Some, None}
+use Rattle.std.proofs.Common.{◌≡◌, ◌≢◌, ℕ, zero, suc, ◌+◌, ◌-◌, ◌<◌, ◌≤◌, ◌⊎◌, inl, inr, List, [], ◌∷◌, ◌++◌, length, get_or, refl, ap, sym, ◌∙◌, subst, arith, slice_get, slice_set, length-append, length-set, get_or-set_other, get_or-set_same, Some, None, Contains}
 use Rattle.std.proofs.lemmas.List.{length-map, get_or-map, map-set}
+use Rattle.std.proofs.lemmas.List.Elements.{Contains-append_left, Contains-append_right}
 use Rattle.ae_types.specs.declared.cycles.Mark.{Mark}
 use Rattle.ae_types.specs.declared.cycles.Mark.TheVariants.{New, Open, Done}
 use Rattle.ae_types.specs.declared.cycles.Frame.{Frame}
 use Rattle.ae_types.specs.declared.cycles.Walk.{Walk}
 use Rattle.ae_types.specs.Inner.Graphs.{Slot, Free, Link, Plain, Built, slot_at, SlotWell, Well}
 use Rattle.ae_types.specs.Inner.Levels.{Levelled, Ready, IsReady, Settled, empties}
-use Rattle.ae_types.specs.Inner.Walks.{refs, level_of, levels, mark_at, frame_at, FrameWell, Leads, Walking, left_of, left_new, left_open, left, IsFresh, Opens, KeepsSeen, Descends, IsCycle}
+use Rattle.ae_types.specs.Inner.Walks.{refs, level_of, levels, mark_at, frame_at, FrameWell, Leads, Noted, Notes, Walking, left_of, left_new, left_open, left, IsFresh, Opens, KeepsSeen, IsCycle}
 use Rattle.ae_types.proofs.EnterLaws.{at_before, at_end, inside}
 use Rattle.ae_types.proofs.JoinLaws.{same_or_not}
 use Rattle.ae_types.proofs.LevelLaws.{empties_set, empties_found, keeps, levelled_set}
@@ -69,6 +70,9 @@ module _ (slots : List Slot) (w : Walk) (rest : List Frame) (f : Frame) (child :
 
   pub last_within : f.place < length slots
   last_within = last_frame.within
+
+  pub last_open : mark_at w.marks f.place ≢ New
+  last_open = λ e. (let m = last_frame.mark in let x : New ≡ Open (length rest) = sym e ∙ m in cc)
 
   abbrev further : Frame
   further = record { place = f.place; next = f.next + 1 }
@@ -323,11 +327,34 @@ pub empties_more : (marks : List Mark) → empties (levels (marks ++ New ∷ [])
 empties_more [] = refl
 empties_more (m ∷ ms) = let ih = empties_more ms in omega arith
 
-pub settle_step : (slots : List Slot) (w o d : Walk) (place : ℕ) → Walking slots w → ((i : ℕ) → i < place → mark_at w.marks i ≢ New) → place < length slots → Opens w o place
-    → Descends slots o d → (i : ℕ) → i < place + 1 → mark_at d.marks i ≢ New
-settle_step slots w o d place z s h p q i a =
-    let m = z.marks in
-    q.keeps i (elim (inside i place a) [
-      | inl b ↦ keeps_set w.marks w.marks o.marks place (Open (length w.path)) (omega arith) (λ x. cc) p.marks (λ k y. y) i (s i b)
-      | inr e ↦ λ n. (let x : Open (length w.path) ≡ New = sym (get_or-set_same w.marks place (Open (length w.path)) New (omega arith)) ∙ ap (λ ms. mark_at ms place) (sym p.marks) ∙ ap (mark_at o.marks) (sym e) ∙ n in cc)
-    ])
+-- ---- places that were seen are listed
+pub notes_same : (marks : List Mark) (seen : List ℕ) → Notes marks marks seen seen
+notes_same marks seen = record { size = refl; noted = λ n. n }
+
+pub notes_trans : (a b c : List Mark) (xs ys zs : List ℕ) → Notes a b xs ys → Notes b c ys zs → Notes a c xs zs
+notes_trans a b c xs ys zs p q = record { size = q.size ∙ p.size; noted = λ n. q.noted (p.noted n) }
+
+pub notes_listed : (marks : List Mark) (seen more : List ℕ) (place : ℕ) → more ≡ seen ++ place ∷ [] → Notes marks marks seen more
+notes_listed marks seen more place e = record {
+  size = refl;
+  noted = λ n i h. subst (λ xs. Contains xs i) (sym e) (Contains-append_left seen (place ∷ []) i (n i h));
+}
+
+-- a mark of a place that is listed
+noted_set : (marks : List Mark) (seen : List ℕ) (place : ℕ) (m : Mark) → Contains seen place → Noted marks seen → Noted (slice_set marks place m) seen
+noted_set marks seen place m c n = λ i h. elim (same_or_not i place) [
+  | inl e ↦ subst (Contains seen) (sym e) c
+  | inr o ↦ n i (λ k. h (get_or-set_other marks place i m New o ∙ k))
+]
+
+pub notes_set : (marks new : List Mark) (seen : List ℕ) (place : ℕ) (m : Mark) → mark_at marks place ≢ New → new ≡ slice_set marks place m → Notes marks new seen seen
+notes_set marks new seen place m h e = subst (λ ms. Notes marks ms seen seen) (sym e)
+    (record { size = length-set marks place m; noted = λ n. noted_set marks seen place m (n place h) n })
+
+pub notes_opened : (marks new : List Mark) (seen more : List ℕ) (place : ℕ) (m : Mark) → more ≡ seen ++ place ∷ [] → new ≡ slice_set marks place m → Notes marks new seen more
+notes_opened marks new seen more place m e k = subst (λ ms. Notes marks ms seen more) (sym k) (subst (λ xs. Notes marks (slice_set marks place m) seen xs) (sym e)
+    (record {
+      size = length-set marks place m;
+      noted = λ n. noted_set marks (seen ++ place ∷ []) place m (Contains-append_right seen (place ∷ []) place (0, omega arith, refl))
+          (λ i h. Contains-append_left seen (place ∷ []) i (n i h));
+    }))

@@ -6,13 +6,16 @@ ghost use Rattle.ae_types.specs.Inner.Joins.{Blames};
 ghost use Rattle.ae_types.specs.Inner.Levels.{Settled};
 ghost use Rattle.ae_core.specs.declared.terms.Sort.{Sort, Var};
 ghost use Rattle.ae_types.specs.declared.graph.Class.TheVariants.{Known};
-ghost use Rattle.ae_types.specs.Inner.Walks.{refs, mark_at, frame_at, wrapped, begin, Walking, IsFresh, Opens, Descends, IsCycle, HaveParts, RunsTo, Wraps, IsBuilt};
+ghost use Rattle.ae_types.specs.Inner.Walks.{refs, mark_at, frame_at, wrapped, begin, Walking, IsFresh, Opens, Descends, IsCycle, HaveParts, RunsTo, Wraps, IsBuilt, Noted, Notes, Unmarked, Visits, VisitsAll};
+ghost use Rattle.ae_types.specs.Inner.Orders.{Loosened};
+ghost use Rattle.ae_types.specs.declared.cycles.Mark.TheVariants.{New};
 
 use crate::graph::{Class, Node, original, variable_of};
 use crate::pairs::Clash;
 use ae_core::lists::List;
 use ae_core::terms::Sort;
 use std::alloc::{AllocError, Global};
+use std::mem::replace;
 
 /// How far the walk has come with a place.
 #[derive(Clone, Copy)]
@@ -69,13 +72,127 @@ pub fn settle(alloc: Global, nodes: &[Node], classes: &[Class]) -> Result<(), Cl
     ensures err { IfErr result (λ clash. Blames nodes.now classes.now [] clash) }
 {
     let mut walk = start(alloc, classes.len())?;
+    let mut seen = List::new(alloc);
     for place in 0..classes.len() {
-        if let Mark::New = mark_of(&walk.marks, place) {
-            open(&mut walk, place)?;
-            descend(alloc, nodes, classes, &mut walk)?;
-        }
+        visit(alloc, nodes, classes, &mut walk, &mut seen, place)?;
     }
     Ok(())
+}
+
+/// Gives levels to a graph that had them before the places `joined` were joined with others. It looks at these and at what
+/// their sorts are made of, and at no other place. `marks` are those of a walk that has seen nothing, and are so again.
+pub fn settle_from(
+    alloc: Global,
+    nodes: &[Node],
+    classes: &[Class],
+    marks: &mut List<Mark>,
+    joined: &[usize],
+) -> Result<(), Clash>
+    requires well { GraphWell nodes.now classes.now }
+    requires size { length marks.old ≡ length classes.now }
+    requires new { (i : ℕ) → mark_at marks.old i ≡ New }
+    requires loosened { Loosened (slots_of nodes.now classes.now) joined.now }
+    ensures ok { OnOk result (Settled (slots_of nodes.now classes.now)) }
+    ensures err { IfErr result (λ clash. Blames nodes.now classes.now [] clash) }
+    ensures size { length marks.new ≡ length marks.old }
+    ensures new { (i : ℕ) → mark_at marks.new i ≡ New }
+{
+    let own = replace(marks, List::new(alloc));
+    let mut walk = Walk {
+        marks: own,
+        path: List::new(alloc),
+        done: 0,
+    };
+    let mut seen = List::new(alloc);
+    let result = visit_all(alloc, nodes, classes, &mut walk, &mut seen, joined);
+    let mut after = walk.marks;
+    forget(&mut after, &mut seen);
+    *marks = after;
+    result
+}
+
+/// Appends marks of new places, until there are so many.
+pub fn extend(marks: &mut List<Mark>, count: usize) -> Result<(), AllocError>
+    requires { Unmarked marks.old count }
+    ensures unmarked { Unmarked marks.new count }
+    ensures size { OnOk result (length marks.new ≡ count) }
+{
+    for _place in marks.len()..count {
+        marks.push(Mark::New)?;
+    }
+    Ok(())
+}
+
+// Walks from each of these places that is one of the graph's.
+fn visit_all(
+    alloc: Global,
+    nodes: &[Node],
+    classes: &[Class],
+    walk: &mut Walk,
+    seen: &mut List<usize>,
+    places: &[usize],
+) -> Result<(), Clash>
+    requires well { GraphWell nodes.now classes.now }
+    requires walking { Walking (slots_of nodes.now classes.now) walk.old }
+    requires path { walk.old.path ≡ [] }
+    ensures ok { OnOk result (VisitsAll (slots_of nodes.now classes.now) places.now walk.new) }
+    ensures err { IfErr result (λ clash. Blames nodes.now classes.now [] clash) }
+    ensures notes { Notes walk.old.marks walk.new.marks seen.old seen.new }
+{
+    for place in places {
+        visit(alloc, nodes, classes, walk, seen, *place)?;
+    }
+    Ok(())
+}
+
+// Walks from a place, if it is new and one of the graph's.
+fn visit(
+    alloc: Global,
+    nodes: &[Node],
+    classes: &[Class],
+    walk: &mut Walk,
+    seen: &mut List<usize>,
+    place: usize,
+) -> Result<(), Clash>
+    requires well { GraphWell nodes.now classes.now }
+    requires walking { Walking (slots_of nodes.now classes.now) walk.old }
+    requires path { walk.old.path ≡ [] }
+    ensures ok { OnOk result (Visits (slots_of nodes.now classes.now) walk.old walk.new place) }
+    ensures err { IfErr result (λ clash. Blames nodes.now classes.now [] clash) }
+    ensures notes { Notes walk.old.marks walk.new.marks seen.old seen.new }
+{
+    if place >= classes.len() {
+        return Ok(());
+    }
+    match mark_of(&walk.marks, place) {
+        Mark::New => {
+            open(walk, seen, place)?;
+            descend(alloc, nodes, classes, walk, seen)?;
+            Ok(())
+        }
+        _ => Ok(()),
+    }
+}
+
+// Makes all places new again, of which those that aren't are in a list.
+fn forget(marks: &mut List<Mark>, seen: &mut List<usize>)
+    requires { Noted marks.old seen.old }
+    ensures size { length marks.new ≡ length marks.old }
+    ensures new { (i : ℕ) → mark_at marks.new i ≡ New }
+{
+    while let Some(place) = seen.pop() {
+        renew(marks, place);
+    }
+}
+
+// Makes a place new.
+fn renew(marks: &mut List<Mark>, place: usize)
+    ensures size { length marks.new ≡ length marks.old }
+    ensures others { (i : ℕ) → mark_at marks.new i ≢ New → (mark_at marks.old i ≢ New) × (i ≢ place) }
+{
+    if place < marks.len() {
+        marks.set(place, Mark::New);
+    }
 }
 
 // A walk that has seen no place.
@@ -101,23 +218,32 @@ fn mark_of(marks: &List<Mark>, place: usize) -> Mark
     marks.as_slice()[place]
 }
 
-// Puts a new place on the path.
-fn open(walk: &mut Walk, place: usize) -> Result<(), AllocError>
+// Puts a new place on the path, and behind those that were seen.
+fn open(walk: &mut Walk, seen: &mut List<usize>, place: usize) -> Result<(), AllocError>
     requires { place < length walk.old.marks }
-    ensures { OnOk result (Opens walk.old walk.new place) }
+    ensures opens { OnOk result (Opens walk.old walk.new place) }
+    ensures notes { Notes walk.old.marks walk.new.marks seen.old seen.new }
 {
     let depth = walk.path.len();
+    seen.push(place)?;
     walk.path.push(Frame { place, next: 0 })?;
     walk.marks.set(place, Mark::Open(depth));
     Ok(())
 }
 
 // Goes on until the path is empty.
-fn descend(alloc: Global, nodes: &[Node], classes: &[Class], walk: &mut Walk) -> Result<(), Clash>
+fn descend(
+    alloc: Global,
+    nodes: &[Node],
+    classes: &[Class],
+    walk: &mut Walk,
+    seen: &mut List<usize>,
+) -> Result<(), Clash>
     requires well { GraphWell nodes.now classes.now }
     requires walking { Walking (slots_of nodes.now classes.now) walk.old }
     ensures ok { OnOk result (Descends (slots_of nodes.now classes.now) walk.old walk.new) }
     ensures err { IfErr result (λ clash. Blames nodes.now classes.now [] clash) }
+    ensures notes { Notes walk.old.marks walk.new.marks seen.old seen.new }
 {
     while let Some(frame) = walk.path.pop() {
         match part_at(nodes, classes[frame.place], frame.next) {
@@ -128,7 +254,7 @@ fn descend(alloc: Global, nodes: &[Node], classes: &[Class], walk: &mut Walk) ->
             Some(child) => match mark_of(&walk.marks, child) {
                 Mark::New => {
                     walk.path.push(frame)?;
-                    open(walk, child)?;
+                    open(walk, seen, child)?;
                 }
                 Mark::Open(depth) => {
                     walk.path.push(frame)?;

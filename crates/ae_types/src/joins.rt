@@ -1,11 +1,12 @@
 //! Joining places: each pair of places is made one, with all that it takes.
 
-ghost use Rattle.std.specs.Prelude.{◌≡◌, ℕ, ◌+◌, ◌<◌, ◌++◌, length, IfOk, IfErr, OnOk, MatchBool, [], ◌∷◌, IsTrue, true, false};
+ghost use Rattle.std.specs.Prelude.{◌≡◌, ℕ, List, ◌+◌, ◌<◌, ◌++◌, length, IfOk, IfErr, OnOk, MatchBool, [], ◌∷◌, IsTrue, true, false};
 ghost use Rattle.ae_types.specs.Inner.Graphs.{GraphWell, NodesWell, class_at, is_variable, node_at, known_slot, rewound, slots_of};
 ghost use Rattle.ae_types.specs.Inner.Joins.{pairs_of, demands, joined, Compatible, PairsWell, DiffersAt, Blames, United, Stepped, Closed};
+ghost use Rattle.ae_types.specs.Inner.Orders.{Ordered};
 ghost use Rattle.ae_types.specs.declared.graph.Class.TheVariants.{Known};
 
-use crate::graph::{Change, Class, Node, Root, find, flatten, original, write};
+use crate::graph::{Change, Class, Node, Root, find, original, write};
 use crate::pairs::Clash;
 use ae_core::lists::List;
 use std::alloc::{AllocError, Global};
@@ -108,13 +109,14 @@ fn takes_node(low: &Node, high: &Node) -> bool
     }
 }
 
-// Makes two roots one.
+// Makes two roots one, and appends the lower to the joined places.
 fn unite(
     alloc: Global,
     nodes: &[Node],
     classes: &mut List<Class>,
     log: &mut List<Change>,
     todo: &mut List<Pair>,
+    joined: &mut List<usize>,
     low: Root,
     high: Root,
 ) -> Result<(), Clash>
@@ -124,6 +126,7 @@ fn unite(
     requires low_known { class_at classes.old low.place ≡ Known low.known }
     requires high_known { class_at classes.old high.place ≡ Known high.known }
     ensures ok { OnOk result (United nodes.now classes.old classes.new todo.old todo.new low high) }
+    ensures joined { OnOk result (joined.new ≡ joined.old ++ low.place ∷ []) }
     ensures err { IfErr result (λ clash. DiffersAt nodes.now low.known high.known clash) }
     ensures rewinds { rewound classes.new log.new ≡ rewound classes.old log.old }
 {
@@ -131,16 +134,19 @@ fn unite(
         return Err(differ(alloc, nodes, low.known, high.known)?);
     }
     link(nodes, classes, log, low, high)?;
+    joined.push(low.place)?;
     Ok(())
 }
 
-// Makes the two places of a pair one.
+// Makes the two places of a pair one. Places that were joined with others are appended to `joined`: levels from before order
+// the others as they did.
 fn step(
     alloc: Global,
     nodes: &[Node],
     classes: &mut List<Class>,
     log: &mut List<Change>,
     todo: &mut List<Pair>,
+    joined: &mut List<usize>,
     pair: Pair,
 ) -> Result<(), Clash>
     requires well { GraphWell nodes.now classes.old }
@@ -148,6 +154,7 @@ fn step(
     requires right { pair.right < length nodes.now }
     requires todo { PairsWell (length nodes.now) todo.old }
     ensures ok { OnOk result (Stepped nodes.now classes.old classes.new todo.old todo.new pair) }
+    ensures ordered { OnOk result ((ls : List ℕ) → Ordered ls joined.old (slots_of nodes.now classes.old) → Ordered ls joined.new (slots_of nodes.now classes.new)) }
     ensures err { IfErr result (λ clash. Blames nodes.now classes.old (pair ∷ []) clash) }
     ensures rewinds { rewound classes.new log.new ≡ rewound classes.old log.old }
 {
@@ -157,29 +164,31 @@ fn step(
         return Ok(());
     }
     if left.place < right.place {
-        unite(alloc, nodes, classes, log, todo, left, right)
+        unite(alloc, nodes, classes, log, todo, joined, left, right)
     } else {
-        unite(alloc, nodes, classes, log, todo, right, left)
+        unite(alloc, nodes, classes, log, todo, joined, right, left)
     }
 }
 
-/// Makes the two places of each pair one.
+/// Makes the two places of each pair one. Places that were joined with others are appended to `joined`: levels from before
+/// order the others as they did.
 pub fn close(
     alloc: Global,
     nodes: &[Node],
     classes: &mut List<Class>,
     log: &mut List<Change>,
     todo: &mut List<Pair>,
+    joined: &mut List<usize>,
 ) -> Result<(), Clash>
     requires well { GraphWell nodes.now classes.old }
     requires todo { PairsWell (length nodes.now) todo.old }
     ensures ok { OnOk result (Closed nodes.now classes.old classes.new todo.old) }
+    ensures ordered { OnOk result ((ls : List ℕ) → Ordered ls joined.old (slots_of nodes.now classes.old) → Ordered ls joined.new (slots_of nodes.now classes.new)) }
     ensures err { IfErr result (λ clash. Blames nodes.now classes.old todo.old clash) }
     ensures rewinds { rewound classes.new log.new ≡ rewound classes.old log.old }
 {
     while let Some(pair) = todo.pop() {
-        step(alloc, nodes, classes, log, todo, pair)?;
+        step(alloc, nodes, classes, log, todo, joined, pair)?;
     }
-    flatten(classes, log)?;
     Ok(())
 }

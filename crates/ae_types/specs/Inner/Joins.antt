@@ -12,6 +12,7 @@ use Rattle.ae_types.specs.declared.graph.Root.{Root}
 use Rattle.ae_types.specs.declared.joins.Pair.{Pair}
 use Rattle.ae_types.specs.Clashes.{IsClash, IsPair}
 use Rattle.ae_types.specs.Inner.Graphs.{Slot, Free, Link, Plain, Built, slot_at, slots_of, class_at, known_slot, node_at, Same, Solves, GraphWell, origin}
+use Rattle.ae_types.specs.Inner.Orders.{Ordered}
 
 -- ---- the root of a place
 -- links go down
@@ -38,6 +39,7 @@ pub record Shortened (old new : List Class) : Type 0 where
   pub onward : (nodes : List Node) (e : Option (List SortPair)) (v : ℕ → Sort) → Solves e v (slots_of nodes old) → Solves e v (slots_of nodes new)
   pub back : (nodes : List Node) (e : Option (List SortPair)) (v : ℕ → Sort) → Solves e v (slots_of nodes new) → Solves e v (slots_of nodes old)
   pub same_weight : (nodes : List Node) → weight (slots_of nodes new) ≡ weight (slots_of nodes old)
+  pub ordered : (nodes : List Node) (ls js : List ℕ) → Ordered ls js (slots_of nodes old) → Ordered ls js (slots_of nodes new)
 
 -- the root that a place is linked to
 pub record Finds (old new : List Class) (start : ℕ) (root : Root) : Type 0 where

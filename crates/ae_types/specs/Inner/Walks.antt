@@ -1,5 +1,5 @@
 -- A walk through a graph, depth first: which places are done, and the path to the place where it is.
-use Rattle.std.specs.Prelude.{ℕ, suc, ◌+◌, ◌-◌, ◌<◌, ◌≤◌, List, [], ◌∷◌, ◌++◌, ◌≡◌, ◌≢◌, map, length, slice_get, slice_set, Some, nat_lt, if◌then◌else◌}
+use Rattle.std.specs.Prelude.{ℕ, suc, ◌+◌, ◌-◌, ◌<◌, ◌≤◌, List, [], ◌∷◌, ◌++◌, ◌≡◌, ◌≢◌, map, length, slice_get, slice_set, Some, nat_lt, if◌then◌else◌, Contains}
 use Rattle.std.proofs.Common.{get_or}
 use Rattle.ae_types.specs.declared.graph.Class.{Class}
 use Rattle.ae_types.specs.declared.graph.Node.{Node}
@@ -13,13 +13,7 @@ use Rattle.ae_core.specs.declared.terms.Sort.{Sort, Named}
 use Rattle.ae_types.specs.declared.pairs.SortPair.{SortPair}
 use Rattle.ae_types.specs.Clashes.{Follows, IsPair, count_of}
 use Rattle.ae_types.specs.Inner.Joins.{Follow}
-
--- the places that a place's sort is made of
-abbrev pub refs : Slot → List ℕ
-refs Free = []
-refs (Link j) = j ∷ []
-refs (Plain c) = []
-refs (Built h args) = args
+pub use Rattle.ae_types.specs.Inner.Orders.{refs}
 
 abbrev pub level_of : Mark → ℕ
 level_of New = 0
@@ -90,11 +84,36 @@ pub record Opens (old new : Walk) (place : ℕ) : Type 0 where
 abbrev pub KeepsSeen : List Mark → List Mark → Type 0
 KeepsSeen old new = (i : ℕ) → mark_at old i ≢ New → mark_at new i ≢ New
 
+-- the places of which something is known are in a list
+abbrev pub Noted : List Mark → List ℕ → Type 0
+Noted marks seen = (i : ℕ) → mark_at marks i ≢ New → Contains seen i
+
+-- and are so later, if they were before
+pub record Notes (old new : List Mark) (before after : List ℕ) : Type 0 where
+  pub size : length new ≡ length old
+  pub noted : Noted old before → Noted new after
+
+-- nothing is known of any place, and there are marks for some first ones
+pub record Unmarked (marks : List Mark) (count : ℕ) : Type 0 where
+  pub new : (i : ℕ) → mark_at marks i ≡ New
+  pub size : length marks ≤ count
+
 -- the path was left, and no place that was seen is new again
 pub record Descends (slots : List Slot) (old new : Walk) : Type 0 where
   pub walking : Walking slots new
   pub path : new.path ≡ []
   pub keeps : KeepsSeen old.marks new.marks
+
+-- a place was seen
+pub record Visits (slots : List Slot) (old new : Walk) (place : ℕ) : Type 0 where
+  pub descends : Descends slots old new
+  pub seen : place < length slots → mark_at new.marks place ≢ New
+
+-- some places were seen
+pub record VisitsAll (slots : List Slot) (places : List ℕ) (new : Walk) : Type 0 where
+  pub walking : Walking slots new
+  pub path : new.path ≡ []
+  pub seen : (k : ℕ) → k < length places → get_or places k 0 < length slots → mark_at new.marks (get_or places k 0) ≢ New
 
 -- places of a path, from an index on, of which each leads to the next, and the last to the first
 pub record IsCycle (slots : List Slot) (path : List Frame) (from : ℕ) : Type 0 where

@@ -1,10 +1,11 @@
-use Rattle.std.proofs.Common.{◌∷◌, [], ◌≡◌, ◌∙◌, ap, sym, subst}
+use Rattle.std.proofs.Common.{◌∷◌, [], ◌≡◌, ◌∙◌, ap, sym, subst, arith, length}
 use Rattle.std.proofs.lemmas.Result.{err_from_is_err_and}
 use Rattle.ae_types.specs.Inner.Enters.{sheet}
 use Rattle.ae_types.specs.Bound.{bound, IsSound}
 use Rattle.ae_types.specs.Substitutions.{Respects, MakesEqual}
 use Rattle.ae_types.proofs.EnterLaws.{grows_trans, stands_more}
 use Rattle.ae_types.proofs.UnifyLaws.{grown_sound, bound_kept, joined_sound, equated, blamed_pair, on_err, sheets_same}
+use Rattle.ae_types.proofs.OrderLaws.{unmarked_more}
 use Rattle.ae_types.proofs.bindings.equate_in.Goals as goal
 
 pub returns-in_err-first-clause-sound : goal.returns-in_err-first-clause-sound
@@ -68,3 +69,60 @@ returns-in_err-join-clause-blamed c =
     rw (p.1, p.2) (blamed_pair (sheet c.args.graph.now) t c.requires.sound g c.args.left.now c.args.right.now c.in_ok-first.first c.in_ok-second.second
     (stands_more (sheet c.enter.new.graph) t c.args.left.now c.in_ok-first.first c.in_ok-first.ensures.grows.well c.in_ok-second.ensures.grows c.in_ok-first.ensures.ok) c.in_ok-second.ensures.ok
     c.in_err-join.field-0.0 c.in_err-join.ensures.blamed)
+
+pub extend-requires : goal.extend-requires
+extend-requires c =
+    let g = grows_trans (sheet c.args.graph.now) (sheet c.enter.new.graph) (sheet c.enter-2.new.graph) c.in_ok-first.ensures.grows c.in_ok-second.ensures.grows in
+    unmarked_more c.args.marks.now (length c.args.graph.now.nodes) _ (omega (arith, g.longer, g.well.graph.lengths, c.len.ensures)) c.requires.unmarked
+
+pub join-requires-clause-settled : goal.join-requires-clause-settled
+join-requires-clause-settled c =
+    let t = sheet c.enter-2.new.graph in
+    let g = grows_trans (sheet c.args.graph.now) (sheet c.enter.new.graph) t c.in_ok-first.ensures.grows c.in_ok-second.ensures.grows in
+    (grown_sound (sheet c.args.graph.now) t c.requires.sound g).settled
+
+pub join-requires-clause-size : goal.join-requires-clause-size
+join-requires-clause-size c = c.in_ok-extend.ensures.size ∙ c.len.ensures
+
+pub join-requires-clause-new : goal.join-requires-clause-new
+join-requires-clause-new c = c.in_ok-extend.ensures.unmarked.new
+
+pub returns-in_err-extend-clause-sound : goal.returns-in_err-extend-clause-sound
+returns-in_err-extend-clause-sound c =
+    let t = sheet c.enter-2.new.graph in
+    grown_sound (sheet c.args.graph.now) t c.requires.sound
+    (grows_trans (sheet c.args.graph.now) (sheet c.enter.new.graph) t c.in_ok-first.ensures.grows c.in_ok-second.ensures.grows)
+
+pub returns-in_err-extend-clause-refused : goal.returns-in_err-extend-clause-refused
+returns-in_err-extend-clause-refused c =
+    let t = sheet c.enter-2.new.graph in
+    on_err c.from_residual-in_err-extend.result _
+    (bound_kept (sheet c.args.graph.now) t c.requires.sound
+    (grows_trans (sheet c.args.graph.now) (sheet c.enter.new.graph) t c.in_ok-first.ensures.grows c.in_ok-second.ensures.grows))
+
+pub returns-in_err-first-clause-unmarked : goal.returns-in_err-first-clause-unmarked
+returns-in_err-first-clause-unmarked c = unmarked_more c.args.marks.now (length c.args.graph.now.nodes) _ c.in_err-first.ensures.grows.longer c.requires.unmarked
+
+pub returns-in_err-second-clause-unmarked : goal.returns-in_err-second-clause-unmarked
+returns-in_err-second-clause-unmarked c =
+    let g = grows_trans (sheet c.args.graph.now) (sheet c.enter.new.graph) (sheet c.enter-2.new.graph) c.in_ok-first.ensures.grows c.in_err-second.ensures.grows in
+    unmarked_more c.args.marks.now (length c.args.graph.now.nodes) _ g.longer c.requires.unmarked
+
+pub returns-in_err-extend-clause-unmarked : goal.returns-in_err-extend-clause-unmarked
+returns-in_err-extend-clause-unmarked c =
+    let g = c.in_ok-second.ensures.grows in
+    unmarked_more c.extend.new.marks c.len.result _ (omega (arith, g.well.graph.lengths, c.len.ensures)) c.in_err-extend.ensures.unmarked
+
+pub returns-in_err-join-clause-unmarked : goal.returns-in_err-join-clause-unmarked
+returns-in_err-join-clause-unmarked c =
+    let e = c.in_err-join.ensures in
+    let g = c.in_ok-second.ensures.grows in
+    let n = ap length e.nodes in
+    record { new = e.new; size = omega (arith, e.size, c.in_ok-extend.ensures.size, c.len.ensures, g.well.graph.lengths, n) }
+
+pub returns-clause-unmarked : goal.returns-clause-unmarked
+returns-clause-unmarked c =
+    let e = c.in_ok-join.ensures in
+    let g = c.in_ok-second.ensures.grows in
+    let n = ap length e.nodes in
+    record { new = e.new; size = omega (arith, e.size, c.in_ok-extend.ensures.size, c.len.ensures, g.well.graph.lengths, n) }

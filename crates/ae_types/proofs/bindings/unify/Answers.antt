@@ -1,4 +1,5 @@
-use Rattle.std.proofs.Common.{sym, subst, length, []}
+use Rattle.std.proofs.Common.{sym, subst, length, [], arith, refl}
+use Rattle.ae_types.specs.Inner.Walks.{Unmarked}
 use Rattle.ae_types.specs.Inner.Enters.{sheet, Grows}
 use Rattle.ae_types.specs.Inner.Graphs.{slots_of}
 use Rattle.ae_types.specs.Inner.Joins.{PairsWell, Closing, Blames}
@@ -14,10 +15,12 @@ solve-requires-clause-todo c =
 
 pub invariant_of-result : goal.invariant_of-result
 invariant_of-result c =
-    let g = subst (λ t. Grows t (sheet c.enter_pairs.new.graph)) c.empty_graph-graph.ensures c.in_ok-enter_pairs.ensures.grows in
-    unified_sound (sheet c.enter_pairs.new.graph) g c.solve.new.classes c.enter_pairs.new.todo
-    (subst (λ xs. Closing xs c.enter_pairs.new.graph.classes c.solve.new.classes c.enter_pairs.new.todo []) c.as_slice.ensures c.in-Ok.ensures.closed)
-    (subst (λ xs. Settled (slots_of xs c.solve.new.classes)) c.as_slice.ensures c.in-Ok.ensures.settled)
+    let g = subst (λ t. Grows t (sheet c.enter_pairs.new.graph)) c.empty_graph-graph.ensures c.in_ok-enter_pairs.ensures.grows in (
+      unified_sound (sheet c.enter_pairs.new.graph) g c.solve.new.classes c.enter_pairs.new.todo
+          (subst (λ xs. Closing xs c.enter_pairs.new.graph.classes c.solve.new.classes c.enter_pairs.new.todo []) c.as_slice.ensures c.in-Ok.ensures.closed)
+          (subst (λ xs. Settled (slots_of xs c.solve.new.classes)) c.as_slice.ensures c.in-Ok.ensures.settled),
+      subst (λ ms. Unmarked ms (length c.enter_pairs.new.graph.nodes)) (sym c.new.ensures) (record { new = λ i. refl; size = omega arith }),
+    )
 
 pub returns-in-Ok-clause-unifies : goal.returns-in-Ok-clause-unifies
 returns-in-Ok-clause-unifies c =

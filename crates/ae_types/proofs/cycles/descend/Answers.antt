@@ -4,7 +4,7 @@ use Rattle.ae_types.specs.declared.cycles.Walk.{Walk}
 use Rattle.ae_types.specs.Inner.Graphs.{slot_at, slots_of}
 use Rattle.ae_types.specs.Inner.Walks.{refs, Walking, IsCycle, left, level_of}
 use Rattle.ae_types.proofs.GraphLaws.{graph_slots, slot_at_class, slots_length}
-use Rattle.ae_types.proofs.WalkLaws.{walk_leaves, walk_advances, walk_opens, walk_cycles, left_leaves, left_advances, left_opens, keeps_set, part_within, last_leads, last_within, not_got, got}
+use Rattle.ae_types.proofs.WalkLaws.{walk_leaves, walk_advances, walk_opens, walk_cycles, left_leaves, left_advances, left_opens, keeps_set, part_within, last_leads, last_open, last_within, not_got, notes_same, notes_set, notes_trans, got}
 use Rattle.ae_types.proofs.cycles.descend.Goals as goal
 
 pub loop-frame-smaller-in-None : goal.loop-frame-smaller-in-None
@@ -25,6 +25,9 @@ loop-frame-preserved-in-None c =
       walking = subst (λ m. Walking s (record { marks = m; path = c.pop.new.self; done = c.loop-frame.walk.done + 1 })) (sym c.set.ensures)
           (walk_leaves s c.loop-frame.walk c.pop.new.self c.in-Some.frame 0 i.walking c.in-Some.ensures (graph_slots c.args.nodes.now c.args.classes.now c.requires.well) few);
       keeps = keeps_set c.args.walk.now.marks c.loop-frame.walk.marks c.set.new.self c.in-Some.frame.place (Done c.loop-frame.walk.done) (let m = i.walking.marks in omega arith) (λ x. cc) c.set.ensures i.keeps;
+      notes = notes_trans c.args.walk.now.marks c.loop-frame.walk.marks c.set.new.self c.args.seen.now c.loop-frame.seen c.loop-frame.seen i.notes
+          (notes_set c.loop-frame.walk.marks c.set.new.self c.loop-frame.seen c.in-Some.frame.place (Done c.loop-frame.walk.done)
+          (last_open s c.loop-frame.walk c.pop.new.self c.in-Some.frame 0 i.walking c.in-Some.ensures) c.set.ensures);
     }
 
 pub mark_of-requires : goal.mark_of-requires
@@ -63,7 +66,7 @@ loop-frame-smaller-in_ok-open-in-New c =
     let p = c.in_ok-push-in-New.ensures.ok ∙ sym c.in-Some.ensures in
     subst (λ x. left s c.open.new.walk < left s (record { marks = c.loop-frame.walk.marks; path = x; done = c.loop-frame.walk.done })) p
     (left_opens s (record { marks = c.loop-frame.walk.marks; path = c.push.new.self; done = c.loop-frame.walk.done }) c.open.new.walk c.in-Some-part_at.child i.walking.marks
-    (sym c.mark_of.ensures ∙ c.in-New.is) b c.in_ok-open-in-New.ensures)
+    (sym c.mark_of.ensures ∙ c.in-New.is) b c.in_ok-open-in-New.ensures.opens)
 
 pub loop-frame-preserved-in_ok-open-in-New : goal.loop-frame-preserved-in_ok-open-in-New
 loop-frame-preserved-in_ok-open-in-New c =
@@ -81,9 +84,10 @@ loop-frame-preserved-in_ok-open-in-New c =
           (subst (λ x. Walking s (record { marks = c.loop-frame.walk.marks; path = x; done = c.loop-frame.walk.done })) (sym p) i.walking)
           (sym c.mark_of.ensures ∙ c.in-New.is) b
           (last_leads s c.push.new.self c.pop.new.self c.in-Some.frame c.in-Some-part_at.child c.in_ok-push-in-New.ensures.ok g)
-          c.in_ok-open-in-New.ensures;
+          c.in_ok-open-in-New.ensures.opens;
       keeps = keeps_set c.args.walk.now.marks c.loop-frame.walk.marks c.open.new.walk.marks c.in-Some-part_at.child (Open (length c.push.new.self)) (let m = i.walking.marks in omega arith) (λ x. cc)
-          c.in_ok-open-in-New.ensures.marks i.keeps;
+          c.in_ok-open-in-New.ensures.opens.marks i.keeps;
+      notes = notes_trans c.args.walk.now.marks c.loop-frame.walk.marks c.open.new.walk.marks c.args.seen.now c.loop-frame.seen c.open.new.seen i.notes c.in_ok-open-in-New.ensures.notes;
     }
 
 pub cycle-requires-clause-cycle : goal.cycle-requires-clause-cycle
@@ -123,4 +127,16 @@ loop-frame-preserved c =
       walking = subst (λ x. Walking s (record { marks = c.loop-frame.walk.marks; path = x; done = c.loop-frame.walk.done })) (sym c.in_ok-push-in-Done.ensures.ok)
           (walk_advances s c.loop-frame.walk c.pop.new.self c.in-Some.frame c.in-Some-part_at.child i.walking c.in-Some.ensures g (omega arith) b);
       keeps = i.keeps;
+      notes = i.notes;
     }
+
+pub loop-frame-init : goal.loop-frame-init
+loop-frame-init c = record {
+  walking = c.requires.walking;
+  keeps = λ i h. h;
+  notes = notes_same c.args.walk.now.marks c.args.seen.now;
+}
+
+pub returns-in_err-open-in-New-clause-notes : goal.returns-in_err-open-in-New-clause-notes
+returns-in_err-open-in-New-clause-notes c =
+    notes_trans c.args.walk.now.marks c.loop-frame.walk.marks c.open.new.walk.marks c.args.seen.now c.loop-frame.seen c.open.new.seen c.loop-frame.invariant.notes c.in_err-open-in-New.ensures.notes

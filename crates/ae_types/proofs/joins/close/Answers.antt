@@ -1,7 +1,7 @@
 use Rattle.std.proofs.Common.{rules, ◌≡◌, [], ◌∙◌, subst}
 use Rattle.std.proofs.lemmas.Result.{err_from_is_err_and}
 use Rattle.ae_types.specs.Inner.Joins.{Closing}
-use Rattle.ae_types.proofs.JoinLaws.{closing, closing_shortened, last_pair, blamed}
+use Rattle.ae_types.proofs.JoinLaws.{closing, last_pair, blamed}
 use Rattle.ae_types.proofs.joins.close.Goals as goal
 
 pub step-requires-clause-left : goal.step-requires-clause-left
@@ -18,6 +18,7 @@ loop-pair-preserved c = record {
   closing = closing c.args.nodes.now c.args.classes.now c.loop-pair.classes c.step.new.classes c.args.todo.now c.pop.new.self c.loop-pair.todo c.step.new.todo c.in-Some.pair
       c.in-Some.ensures c.loop-pair.invariant.closing c.in_ok-step.ensures.ok;
   rewinds = c.in_ok-step.ensures.rewinds ∙ c.loop-pair.invariant.rewinds;
+  ordered = λ ls o. c.in_ok-step.ensures.ordered ls (c.loop-pair.invariant.ordered ls o);
 }
 
 pub returns-in_err-step-clause-err : goal.returns-in_err-step-clause-err
@@ -29,5 +30,4 @@ returns-in_err-step-clause-err c =
 pub returns-clause-ok : goal.returns-clause-ok
 returns-clause-ok c =
     let e : c.loop-pair.todo ≡ [] = search rules in
-    subst (Closing c.args.nodes.now c.args.classes.now c.flatten.new.classes c.args.todo.now) e
-    (closing_shortened c.args.nodes.now c.args.classes.now c.loop-pair.classes c.flatten.new.classes c.args.todo.now c.loop-pair.todo c.loop-pair.invariant.closing c.flatten.ensures.shortened)
+    subst (Closing c.args.nodes.now c.args.classes.now c.loop-pair.classes c.args.todo.now) e c.loop-pair.invariant.closing
