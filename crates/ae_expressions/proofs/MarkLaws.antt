@@ -1,5 +1,5 @@
 -- Marks of entries, told from those of the entries before.
-use Rattle.std.proofs.Common.{◌≡◌, ◌∙◌, ℕ, zero, suc, ◌+◌, ◌<◌, ◌≤◌, Bool, true, false, ◌||◌, nat_eq, List, [], ◌∷◌, ◌++◌, map, length, take, get_or, Option, Some, None, refl, sym, ap, slice_get}
+use Rattle.std.proofs.Common.{◌≡◌, ◌∙◌, ℕ, zero, suc, ◌+◌, ◌<◌, ◌≤◌, Bool, true, false, cond, ◌&&◌, ◌||◌, nat_eq, nat_lt, List, [], ◌∷◌, ◌++◌, map, length, take, get_or, Option, Some, None, refl, sym, ap, slice_get}
 use Rattle.std.specs.List.{list_any}
 use Rattle.std.proofs.lemmas.List.{append_assoc, append-nil, map-append, take_more, take_all}
 use Rattle.ae_core.specs.declared.terms.Head.{Head}
@@ -9,7 +9,7 @@ use Rattle.ae_expressions.specs.declared.marks.Sought.{Sought}
 use Rattle.ae_expressions.specs.declared.marks.Sought.TheVariants.{Variable, Choice}
 use Rattle.ae_elab.specs.declared.nodes.Node.{Node}
 use Rattle.ae_elab.specs.declared.nodes.Node.TheVariants as node
-use Rattle.ae_expressions.specs.Inner.Marks.{applies, choice_mark, found_in, has_mark, mark_of, mark_in, marked}
+use Rattle.ae_expressions.specs.Inner.Marks.{applies, base_mark, choice_mark, found_in, has_mark, mark_of, mark_in, marked}
 use Rattle.ae_elab.specs.Nodes.{Entry, a_tree, a_claim, tree_in, tree_at, trees_at, entry_of, entries_after, entries_of}
 use Rattle.ae_elab.specs.Rules.{no_tree}
 use Rattle.ae_elab.specs.Trees as tree
@@ -42,8 +42,14 @@ module _ (k : ℕ) (ss : List Sort) (n : ℕ) (ps : List ℕ) (us : Trees) where
   found_build (Variable x) = refl
   found_build Choice = refl
 
-  pub found_update : (b : Tree) (s : Sought) → found_in s (tree.update k ss n b ps us) ≡ (found_in s b || has_mark s us)
-  found_update b (Variable x) = list_any-append (nat_eq x) (variables_in b) (variables_among us)
+  any_left : (x : ℕ) (is_left : Bool) (xs : List ℕ) → list_any (nat_eq x) (cond is_left xs []) ≡ (is_left && list_any (nat_eq x) xs)
+  any_left x true xs = refl
+  any_left x false xs = refl
+
+  pub found_update : (b : Tree) (s : Sought) → found_in s (tree.update k ss n b ps us) ≡ (base_mark s (nat_lt (length ps) n) (found_in s b) || has_mark s us)
+  found_update b (Variable x) =
+      list_any-append (nat_eq x) (cond (nat_lt (length ps) n) (variables_in b) []) (variables_among us)
+      ∙ ap (λ z. z || list_any (nat_eq x) (variables_among us)) (any_left x (nat_lt (length ps) n) (variables_in b))
   found_update b Choice = refl
 
 pub found_choice : (c : Claim) (a b : Tree) (s : Sought) → found_in s (tree.choice c a b) ≡ choice_mark s (found_in s a) (found_in s b)

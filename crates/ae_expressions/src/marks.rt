@@ -3,7 +3,7 @@
 ghost use Rattle.std.specs.Prelude.{◌≡◌, ◌&&◌, ◌||◌, not, List, map, IfOk};
 ghost use Rattle.std.specs.List.{list_any};
 ghost use Rattle.ae_elab.specs.Formulas as rules;
-ghost use Rattle.ae_expressions.specs.Inner.Marks.{applies, choice_mark, mark_of, marked, has_mark};
+ghost use Rattle.ae_expressions.specs.Inner.Marks.{applies, base_mark, choice_mark, mark_of, marked, has_mark};
 ghost use Rattle.ae_elab.specs.Nodes.{Entry, entries_of, entry_of, tree_at, trees_at};
 ghost use Rattle.ae_elab.specs.Trees as trees;
 
@@ -59,6 +59,16 @@ fn mark_choice(sought: Sought, positive: bool, negative: bool) -> bool
     }
 }
 
+// Whether a record that is changed is marked, from whether one of its fields is left and from its own mark.
+fn mark_base(sought: Sought, is_left: bool, base: bool) -> bool
+    ensures { result ≡ base_mark sought is_left base }
+{
+    match sought {
+        Sought::Variable(_) => is_left && base,
+        Sought::Choice => base,
+    }
+}
+
 // Whether a node is marked, from the marks of those before it.
 fn mark(sought: Sought, marks: &[bool], node: &Node) -> bool
     ensures { (es : List Entry) → marks.now ≡ map (mark_of sought) es → result ≡ mark_of sought (entry_of es node.now) }
@@ -88,12 +98,12 @@ fn mark(sought: Sought, marks: &[bool], node: &Node) -> bool
         Node::Update {
             of: _,
             sorts: _,
-            count: _,
+            count,
             base,
-            places: _,
+            places,
             values,
         } => either(
-            is_marked(marks, *base),
+            mark_base(sought, places.len() < *count, is_marked(marks, *base)),
             any_marked(marks, values.as_slice()),
         ),
         Node::Choice {

@@ -1,5 +1,5 @@
 -- Which entries something stands in.
-use Rattle.std.specs.Prelude.{ℕ, Bool, true, false, ◌||◌, nat_eq, List, slice_get, Option, Some, None}
+use Rattle.std.specs.Prelude.{ℕ, Bool, true, false, ◌&&◌, ◌||◌, nat_eq, List, slice_get, Option, Some, None}
 use Rattle.std.specs.List.{list_any}
 use Rattle.ae_expressions.specs.declared.marks.Sought.{Sought}
 use Rattle.ae_expressions.specs.declared.marks.Sought.TheVariants.{Variable, Choice}
@@ -21,6 +21,11 @@ has_mark Choice us = have_choice us
 abbrev pub choice_mark : Sought → Bool → Bool → Bool
 choice_mark (Variable x) a b = a || b
 choice_mark Choice a b = true
+
+-- a record that is changed: where all its fields are given, no variable of it is left
+abbrev pub base_mark : Sought → Bool → Bool → Bool
+base_mark (Variable x) is_left b = is_left && b
+base_mark Choice is_left b = b
 
 -- it stands in no formula
 abbrev pub mark_of : Sought → Entry → Bool

@@ -1,6 +1,6 @@
-use Rattle.std.proofs.Common.{◌∙◌, Bool, ◌||◌, sym, ap}
+use Rattle.std.proofs.Common.{◌∙◌, ℕ, Bool, ◌||◌, nat_lt, length, sym, ap}
 use Rattle.std.specs.List.{list_any}
-use Rattle.ae_expressions.specs.Inner.Marks.{choice_mark, found_in, mark_of, marked}
+use Rattle.ae_expressions.specs.Inner.Marks.{base_mark, choice_mark, found_in, mark_of, marked}
 use Rattle.ae_elab.specs.Nodes.{claim_at, entry_of, tree_at, trees_at}
 use Rattle.ae_expressions.proofs.MarkLaws.{found_apply, found_operation, found_build, found_update, found_choice, marked_at, marked_among}
 use Rattle.ae_expressions.proofs.marks.mark.Goals as goal
@@ -33,8 +33,11 @@ returns-in-Update c es are =
     let us = c.in-Update.values in
     let b = c.in-Update in
     let ms = c.args.marks.now in
-    c.either.ensures ∙ ap (λ (z : Bool). z || c.any_marked-in-Update.result) (c.is_marked.ensures ∙ marked_at s ms es are b.base)
-    ∙ ap (λ (z : Bool). found_in s (tree_at es b.base) || z) (c.any_marked-in-Update.ensures ∙ ap (list_any (marked ms)) c.as_slice-in-Update.ensures ∙ marked_among s ms es are us)
+    let left = nat_lt (length b.places) b.count in
+    c.either.ensures
+    ∙ ap (λ (z : Bool). z || c.any_marked-in-Update.result)
+    (c.mark_base.ensures ∙ ap (λ (n : ℕ). base_mark s (nat_lt n b.count) c.is_marked.result) c.len.ensures ∙ ap (base_mark s left) (c.is_marked.ensures ∙ marked_at s ms es are b.base))
+    ∙ ap (λ (z : Bool). base_mark s left (found_in s (tree_at es b.base)) || z) (c.any_marked-in-Update.ensures ∙ ap (list_any (marked ms)) c.as_slice-in-Update.ensures ∙ marked_among s ms es are us)
     ∙ sym (ap (λ n. mark_of s (entry_of es n)) b.is ∙ found_update b.of b.sorts b.count b.places (trees_at es us) (tree_at es b.base) s)
 
 pub returns-in-Choice : goal.returns-in-Choice
