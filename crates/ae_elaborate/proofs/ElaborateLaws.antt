@@ -1,7 +1,8 @@
 -- From a typed file to the answer: its problem, or why it has none.
 use Rattle.std.proofs.Common.{◌≡◌, ◌∙◌, ℕ, List, Option, Some, None, map, refl, sym, ap}
 use Rattle.std.specs.Option.{option_map}
-use Rattle.std.proofs.lemmas.Option.{none-some, same_Some}
+use Rattle.std.proofs.lemmas.Option.{none-some}
+use Rattle.ae_base.proofs.Options.{mapped_some}
 use Rattle.ae_core.specs.declared.problems.Problem.{Problem}
 use Rattle.ae_elab.specs.Conditions.{IsPrincipal, shown}
 use Rattle.ae_elab.specs.Declarations.{Draft, conditions_of, declared_by}
@@ -16,10 +17,6 @@ use Rattle.ae_syntax.specs.declared.decls.File.{File}
 use Rattle.ae_syntax.specs.declared.spans.Span.{Span}
 
 -- ---- the first that is too large, by its place
-some_mapped : {A B : Type 0} (f : A → B) (o : Option A) (y : B) → option_map f o ≡ Some y → (x : A) × (o ≡ Some x) × (f x ≡ y)
-some_mapped f None y h = absurd (none-some y h)
-some_mapped f (Some x) y h = (x, refl, same_Some (f x) y h)
-
 none_mapped : {A B : Type 0} (f : A → B) (o : Option A) → option_map f o ≡ None → o ≡ None
 none_mapped f None h = refl
 none_mapped f (Some x) h = absurd (none-some (f x) (sym h))
@@ -30,7 +27,7 @@ module _ (text : List ℕ) (t : TypedFile) where
 
   pub large_at : (place : Span) → large_place (shown (typing_of t)) (drafts_of text t) ≡ Some place → IsLargeAt text t place.from place.to
   large_at place h =
-      let w = some_mapped (λ (d : Draft). d.place) (first_large (shown (typing_of t)) (drafts_of text t)) place h in
+      let w = mapped_some (λ (d : Draft). d.place) (first_large (shown (typing_of t)) (drafts_of text t)) place h in
       record { large = w.0; first = w.1; from_is = sym (ap (λ (s : Span). s.from) w.2); to_is = sym (ap (λ (s : Span). s.to) w.2) }
 
 -- ---- the answer

@@ -3,5 +3,7 @@
 
 mod drafts;
 mod files;
+mod release;
 
 pub use files::elaborate;
+pub use release::release_problem;

@@ -405,7 +405,7 @@ const TWICE: [(&[u8], &[u8], &[u8], &[u8]); 17] = [
 ];
 
 /// Faults of whole declarations, of records and of triggers.
-const OTHERS: [(&[u8], &[u8], &[u8], &[u8]); 14] = [
+const OTHERS: [(&[u8], &[u8], &[u8], &[u8]); 15] = [
     // whole declarations
     (b"", b"logic ac u : int, real -> int", b"", b"bad ac"),
     (
@@ -476,6 +476,13 @@ const OTHERS: [(&[u8], &[u8], &[u8], &[u8]); 14] = [
         b"logic f : int -> int axiom h : forall x : int. forall y : int [",
         b"f(y)",
         b"]. f(x) = f(y)",
+        b"bad trigger",
+    ),
+    // nothing is left of a record of which all fields are given
+    (
+        b"type t = { x : int } logic p : t -> prop axiom a : forall r : t [",
+        b"{ r with x = 1 }",
+        b"]. p(r)",
         b"bad trigger",
     ),
 ];
@@ -739,8 +746,15 @@ goal VC_f :
   (match_bool(true, incr(r).contents, y) <= (y + 1))))
 ";
 
+/// A trigger with a changed record of which a field is left.
+const CHANGED: &[u8] = b"
+type t = { x : int; y : int }
+logic p : t -> prop
+axiom a : forall r : t [{ r with x = 1 }]. p(r)
+";
+
 /// What these texts elaborate to.
-const ROWS: [(&[u8], &[u8]); 4] = [
+const ROWS: [(&[u8], &[u8]); 5] = [
     (
         SUMS,
         b"goal g 0 (@or (@not (= (u a (- c2 c1)) a)) \
@@ -771,6 +785,7 @@ axiom incr_def 0 (@all [(ref int)] [[(incr #0)]] (= (.contents [int] (incr #0)) 
 goal VC_f 0 (@all [(ref int) int] [] (@or (@not (<= (.contents [int] #1) #0)) \
 (<= (match_bool [int] true (.contents [int] (incr #1)) #0) (+ #0 1))))\n",
     ),
+    (CHANGED, b"axiom a 0 (@all [t] [[(:t 1 (.y #0))]] (p #0))\n"),
 ];
 
 /// A text of 40 `let`s, each of which has the last one twice.

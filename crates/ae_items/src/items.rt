@@ -19,7 +19,7 @@ use ae_elab::nodes::Node;
 use ae_elaboration::numbering::{numbered, variables_of};
 use ae_elaboration::variables::Variables;
 use ae_syntax::spans::Span;
-use ae_translation::{both, formula_at};
+use ae_translation::{both, formula_at, release_formula};
 use ae_types::Bindings;
 use std::alloc::{AllocError, Global};
 
@@ -105,5 +105,7 @@ pub fn item(
 {
     let name = name_of(text, draft.name);
     let formula = formula_at(alloc, bindings, &[], nodes, draft.claim)?;
-    numbered_item(alloc, draft.is_goal, name, &formula)
+    let item = numbered_item(alloc, draft.is_goal, name, &formula);
+    release_formula(alloc, formula);
+    item
 }

@@ -1,6 +1,7 @@
 -- The term and the formula that a node is, from the answers for its parts.
 use Rattle.std.proofs.Common.{◌≡◌, ◌∙◌, ◌<◌, ◌≤◌, ◌+◌, ℕ, ℤ, Bool, List, [], ◌∷◌, ◌++◌, map, drop, get_or, length, Result, Some, refl, sym, ap, subst, IfOk}
 use Rattle.std.proofs.lemmas.List.{append_assoc, append-nil, drop_more, drop_all}
+use Rattle.std.proofs.lemmas.Result.{IfOk-weaker}
 use Rattle.ae_core.specs.declared.terms.Head.{Head}
 use Rattle.ae_core.specs.declared.terms.Op.{Op}
 use Rattle.ae_core.specs.declared.terms.Sort.{Sort}
@@ -32,6 +33,10 @@ module _ {E : Type 0} where
 
   pub same_answer : {A : Type 0} (r : Result A E) (x y : A) → x ≡ y → IfOk r (λ z. z ≡ x) → IfOk r (λ z. z ≡ y)
   same_answer r x y e h = subst (λ w. IfOk r (λ z. z ≡ w)) e h
+
+  -- ---- answers that are something in a box
+  pub boxed_cases : (r : Result held.Cases E) (cs : held.Cases) (x : Cases (List Term)) → cases_of cs ≡ x → IfOk r (λ z. z ≡ cs) → IfOk r (λ z. cases_of z ≡ x)
+  boxed_cases r cs x e h = IfOk-weaker r (λ z. z ≡ cs) (λ z. cases_of z ≡ x) (λ z p. ap cases_of p ∙ e) h
 
 module _ (m : ℕ → Sort) (env : List ℕ) (es : List Entry) {E : Type 0} where
   pub terms_are : (r : Result held.Cases E) (xs ys : List ℕ) → xs ≡ ys

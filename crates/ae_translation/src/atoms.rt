@@ -15,6 +15,7 @@ ghost use Rattle.ae_types.specs.Substitutions.{put};
 use crate::answers::both;
 use crate::sorts::put_all;
 use ae_core::formulas::Formula;
+use ae_core::lists::Boxed;
 use ae_core::terms::Sort;
 use ae_elab::nodes::Relation;
 use ae_lifting::cases::{Atom, Cases, compared, lifted};
@@ -35,28 +36,35 @@ pub fn predicate(
 }
 
 /// An atom of terms.
+#[inline(never)]
 pub fn said(
     alloc: Global,
-    terms: Result<Cases, AllocError>,
+    terms: Result<Boxed<Cases>, AllocError>,
     atom: Result<Atom, AllocError>,
-) -> Result<Formula, AllocError>
+) -> Result<Boxed<Formula>, AllocError>
     ensures { (x : rule.Cases (List Term)) (a : Atom) → IfOk terms (λ cs. cases_of cs ≡ x) → IfOk atom (λ b. b ≡ a)
         → IfOk result (λ f. f ≡ formula_of (x |> λ us. leaf (said_of a us))) }
 {
     let (terms, atom) = both(terms, atom)?;
-    lifted(alloc, terms, &atom)
+    let cases = terms.into_inner();
+    let formula = lifted(alloc, cases, &atom)?;
+    Boxed::new(alloc, formula)
 }
 
 /// A relation between two terms.
+#[inline(never)]
 pub fn between(
     alloc: Global,
     relation: Relation,
-    left: Result<Cases, AllocError>,
-    right: Result<Cases, AllocError>,
-) -> Result<Formula, AllocError>
+    left: Result<Boxed<Cases>, AllocError>,
+    right: Result<Boxed<Cases>, AllocError>,
+) -> Result<Boxed<Formula>, AllocError>
     ensures { (x y : rule.Cases Term) → IfOk left (λ cs. cases_of cs ≡ listed x) → IfOk right (λ cs. cases_of cs ≡ listed y)
         → IfOk result (λ f. f ≡ formula_of (x |> λ u. y |> λ v. leaf (related (relation_of relation) u v))) }
 {
     let (left, right) = both(left, right)?;
-    compared(alloc, relation, left, right)
+    let first = left.into_inner();
+    let second = right.into_inner();
+    let formula = compared(alloc, relation, first, second)?;
+    Boxed::new(alloc, formula)
 }

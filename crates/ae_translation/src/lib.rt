@@ -4,11 +4,15 @@
 mod answers;
 mod atoms;
 mod connectives;
+mod places;
 mod records;
+mod release;
 mod sorts;
 mod terms;
 mod translation;
 mod variables;
 
 pub use answers::both;
-pub use translation::{cases_at, formula_at, triggers_at};
+pub use places::{cases_at, formula_at};
+pub use release::release_formula;
+pub use translation::triggers_at;

@@ -12,13 +12,13 @@ ghost use Rattle.ae_translation.specs.Listed.{listed};
 ghost use Rattle.ae_types.specs.Bound.{bound as sorts_of};
 
 use crate::atoms::{between, predicate, said};
-use crate::connectives::{conditional, denied, joined_by, quantified};
+use crate::connectives::{conditional, denied, falsity, joined_by, quantified, truth};
 use crate::records::with_fields;
 use crate::sorts::{head_of, put_all};
 use crate::terms::{application, behind, chosen, no_terms, single, void, with_trigger};
 use crate::variables::{distance, inside};
 use ae_core::formulas::Formula;
-use ae_core::lists::{List, at};
+use ae_core::lists::{Boxed, List, at};
 use ae_core::terms::{Head, Term};
 use ae_elab::nodes::{Node, Pattern};
 use ae_elaboration::elaboration::true_term;
@@ -45,13 +45,13 @@ fn truth_of(head: Head) -> Option<Formula>
 /// The term at a place among the nodes, in its cases: one term in each. `bindings` is the typing, and `bound` are the bound
 /// variables, the innermost first.
 #[cycle(translation)]
-pub fn cases_at(
+pub fn cases_boxed(
     alloc: Global,
     bindings: &Bindings,
     bound: &[usize],
     nodes: &[Node],
     place: usize,
-) -> Result<Cases, AllocError>
+) -> Result<Boxed<Cases>, AllocError>
     ensures { IfOk result (λ cs. cases_of cs ≡ listed (term_cases (sorts_of bindings.now) bound.now (tree_at (entries_of nodes.now) place))) }
 {
     match at(nodes, place) {
@@ -71,7 +71,7 @@ fn node_cases(
     bound: &[usize],
     nodes: &[Node],
     node: &Node,
-) -> Result<Cases, AllocError>
+) -> Result<Boxed<Cases>, AllocError>
     ensures { IfOk result (λ cs. cases_of cs ≡ listed (term_cases (sorts_of bindings.now) bound.now (tree_in (Some (entry_of (entries_of nodes.now) node.now))))) }
 {
     match node {
@@ -114,7 +114,7 @@ fn node_cases(
             places,
             values,
         } => {
-            let base = cases_at(alloc, bindings, bound, nodes, *base);
+            let base = cases_boxed(alloc, bindings, bound, nodes, *base);
             let terms = all_cases(alloc, bindings, bound, nodes, values.as_slice());
             let sorts = put_all(alloc, bindings, sorts.as_slice());
             with_fields(alloc, base, terms, *of, sorts, *count, places.as_slice())
@@ -124,9 +124,9 @@ fn node_cases(
             positive,
             negative,
         } => {
-            let condition = formula_at(alloc, bindings, bound, nodes, *condition);
-            let yes = cases_at(alloc, bindings, bound, nodes, *positive);
-            let no = cases_at(alloc, bindings, bound, nodes, *negative);
+            let condition = formula_boxed(alloc, bindings, bound, nodes, *condition);
+            let yes = cases_boxed(alloc, bindings, bound, nodes, *positive);
+            let no = cases_boxed(alloc, bindings, bound, nodes, *negative);
             chosen(alloc, condition, yes, no)
         }
         _ => void(alloc),
@@ -141,12 +141,13 @@ fn all_cases(
     bound: &[usize],
     nodes: &[Node],
     places: &[usize],
-) -> Result<Cases, AllocError>
+) -> Result<Boxed<Cases>, AllocError>
     ensures { IfOk result (λ cs. cases_of cs ≡ terms_cases (sorts_of bindings.now) bound.now (trees_at (entries_of nodes.now) places.now)) }
 {
-    let mut all = no_terms(alloc);
+    let none = no_terms(alloc)?;
+    let mut all = none;
     for place in places {
-        let next = cases_at(alloc, bindings, bound, nodes, *place);
+        let next = cases_boxed(alloc, bindings, bound, nodes, *place);
         all = behind(alloc, Ok(all), next)?;
     }
     Ok(all)
@@ -154,13 +155,13 @@ fn all_cases(
 
 /// The formula at a place among the nodes. `bindings` is the typing, and `bound` are the bound variables, the innermost first.
 #[cycle(translation)]
-pub fn formula_at(
+pub fn formula_boxed(
     alloc: Global,
     bindings: &Bindings,
     bound: &[usize],
     nodes: &[Node],
     place: usize,
-) -> Result<Formula, AllocError>
+) -> Result<Boxed<Formula>, AllocError>
     ensures { IfOk result (λ f. f ≡ formula_in (sorts_of bindings.now) bound.now (claim_at (entries_of nodes.now) place)) }
 {
     match at(nodes, place) {
@@ -168,7 +169,7 @@ pub fn formula_at(
             let before = &nodes[..place];
             node_formula(alloc, bindings, bound, before, node)
         }
-        None => Ok(Formula::False),
+        None => falsity(alloc),
     }
 }
 
@@ -180,18 +181,18 @@ fn node_formula(
     bound: &[usize],
     nodes: &[Node],
     node: &Node,
-) -> Result<Formula, AllocError>
+) -> Result<Boxed<Formula>, AllocError>
     ensures { IfOk result (λ f. f ≡ formula_in (sorts_of bindings.now) bound.now (claim_in (Some (entry_of (entries_of nodes.now) node.now)))) }
 {
     match node {
-        Node::Truth => Ok(Formula::True),
+        Node::Truth => truth(alloc),
         Node::Relation {
             relation,
             left,
             right,
         } => {
-            let left = cases_at(alloc, bindings, bound, nodes, *left);
-            let right = cases_at(alloc, bindings, bound, nodes, *right);
+            let left = cases_boxed(alloc, bindings, bound, nodes, *left);
+            let right = cases_boxed(alloc, bindings, bound, nodes, *right);
             between(alloc, *relation, left, right)
         }
         Node::Predicate {
@@ -209,7 +210,7 @@ fn node_formula(
         }
         Node::Holds(term) => holds_at(alloc, bindings, bound, nodes, *term),
         Node::Negation(part) => {
-            let part = formula_at(alloc, bindings, bound, nodes, *part);
+            let part = formula_boxed(alloc, bindings, bound, nodes, *part);
             denied(alloc, part)
         }
         Node::Joined {
@@ -217,8 +218,8 @@ fn node_formula(
             left,
             right,
         } => {
-            let left = formula_at(alloc, bindings, bound, nodes, *left);
-            let right = formula_at(alloc, bindings, bound, nodes, *right);
+            let left = formula_boxed(alloc, bindings, bound, nodes, *left);
+            let right = formula_boxed(alloc, bindings, bound, nodes, *right);
             joined_by(alloc, *connective, left, right)
         }
         Node::Conditional {
@@ -226,9 +227,9 @@ fn node_formula(
             positive,
             negative,
         } => {
-            let condition = formula_at(alloc, bindings, bound, nodes, *condition);
-            let yes = formula_at(alloc, bindings, bound, nodes, *positive);
-            let no = formula_at(alloc, bindings, bound, nodes, *negative);
+            let condition = formula_boxed(alloc, bindings, bound, nodes, *condition);
+            let yes = formula_boxed(alloc, bindings, bound, nodes, *positive);
+            let no = formula_boxed(alloc, bindings, bound, nodes, *negative);
             conditional(alloc, condition, yes, no)
         }
         Node::Quantified {
@@ -242,10 +243,10 @@ fn node_formula(
             let sorts = put_all(alloc, bindings, sorts.as_slice());
             let patterns = triggers.as_slice();
             let triggers = triggers_at(alloc, bindings, inner.as_slice(), nodes, patterns);
-            let body = formula_at(alloc, bindings, inner.as_slice(), nodes, *body);
+            let body = formula_boxed(alloc, bindings, inner.as_slice(), nodes, *body);
             quantified(alloc, *quantifier, sorts, triggers, body)
         }
-        _ => Ok(Formula::False),
+        _ => falsity(alloc),
     }
 }
 
@@ -257,7 +258,7 @@ fn holds_at(
     bound: &[usize],
     nodes: &[Node],
     place: usize,
-) -> Result<Formula, AllocError>
+) -> Result<Boxed<Formula>, AllocError>
     ensures { IfOk result (λ f. f ≡ formula_in (sorts_of bindings.now) bound.now (claim_of (tree_at (entries_of nodes.now) place))) }
 {
     match at(nodes, place) {
@@ -277,7 +278,7 @@ fn node_holds(
     bound: &[usize],
     nodes: &[Node],
     node: &Node,
-) -> Result<Formula, AllocError>
+) -> Result<Boxed<Formula>, AllocError>
     ensures { IfOk result (λ f. f ≡ formula_in (sorts_of bindings.now) bound.now (claim_of (tree_in (Some (entry_of (entries_of nodes.now) node.now))))) }
 {
     match node {
@@ -286,7 +287,7 @@ fn node_holds(
             positive,
             negative,
         } => {
-            let condition = formula_at(alloc, bindings, bound, nodes, *condition);
+            let condition = formula_boxed(alloc, bindings, bound, nodes, *condition);
             let yes = holds_at(alloc, bindings, bound, nodes, *positive);
             let no = holds_at(alloc, bindings, bound, nodes, *negative);
             conditional(alloc, condition, yes, no)
@@ -296,7 +297,7 @@ fn node_holds(
             sorts: _,
             args: _,
         } => match truth_of(*head) {
-            Some(formula) => Ok(formula),
+            Some(formula) => Boxed::new(alloc, formula),
             None => {
                 let application = node_cases(alloc, bindings, bound, nodes, node);
                 said(alloc, application, Ok(Atom::Holds))

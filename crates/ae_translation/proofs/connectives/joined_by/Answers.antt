@@ -10,4 +10,4 @@ returns c f g p q =
     let made = c.in_ok-left in
     let a : made.left ≡ f = IfOk-at_ok (λ (z : Formula). z ≡ f) made.ensures.0 p in
     let b : made.right ≡ g = IfOk-at_ok (λ (z : Formula). z ≡ g) made.ensures.1 q in
-    same_answer c.joined.result _ _ (ap (λ (z : Formula). connected c.args.connective z made.right) a ∙ ap (connected c.args.connective f) b) c.joined.ensures
+    same_answer c.new.result _ _ (c.in_ok-formula.ensures ∙ ap (λ (z : Formula). connected c.args.connective z made.right) a ∙ ap (connected c.args.connective f) b) c.new.ensures

@@ -11,5 +11,5 @@ pub returns-in-Ok : goal.returns-in-Ok
 returns-in-Ok c x p =
     same_answer c.pushed.result _ _
     (ap (λ (t : List Term). c.args.triggers ++ t ∷ [])
-    (c.last_case-trigger.ensures ∙ ap value_of (IfOk-at_ok (λ (cs : held.Cases). cases_of cs ≡ x) c.in-Ok.is p)))
+    (c.last_case-trigger.ensures ∙ ap (λ (z : held.Cases). value_of (cases_of z)) c.into_inner-inner.ensures ∙ ap value_of (IfOk-at_ok (λ (cs : held.Cases). cases_of cs ≡ x) c.in-Ok.is p)))
     c.pushed.ensures

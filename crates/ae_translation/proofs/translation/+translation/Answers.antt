@@ -23,27 +23,28 @@ use Rattle.ae_translation.proofs.NodeRules.{formula_is, join_is, last_term, last
 use Rattle.ae_translation.proofs.PlaceLaws.{claim_missing, claim_there, tree_missing, tree_there}
 use Rattle.ae_translation.proofs.translation.+translation.Goals as goal
 
-pub cases_at-returns-in-Some : goal.cases_at-returns-in-Some
-cases_at-returns-in-Some t c =
+pub cases_boxed-returns-in-Some : goal.cases_boxed-returns-in-Some
+cases_boxed-returns-in-Some t c =
     let ns = c.args.nodes.now in
     let r = c.node_cases.result in
     let here = tree_there ns c.args.place c.in-Some.node.now (sym c.in-Some.ensures) in
     subst (λ z. IfOk r (λ cs. cases_of cs ≡ listed (term_cases (bound c.args.bindings.now) c.args.bound.now z))) (sym here) c.node_cases.ensures
 
-pub cases_at-returns-in-None : goal.cases_at-returns-in-None
-cases_at-returns-in-None t c =
+pub cases_boxed-returns-in-None : goal.cases_boxed-returns-in-None
+cases_boxed-returns-in-None t c =
     subst (λ z. IfOk c.void.result (λ cs. cases_of cs ≡ listed (term_cases (bound c.args.bindings.now) c.args.bound.now z))) (sym (tree_missing c.args.nodes.now c.args.place c.in-None.ensures)) c.void.ensures
 
-pub formula_at-returns-in-Some : goal.formula_at-returns-in-Some
-formula_at-returns-in-Some t c =
+pub formula_boxed-returns-in-Some : goal.formula_boxed-returns-in-Some
+formula_boxed-returns-in-Some t c =
     let ns = c.args.nodes.now in
     let r = c.node_formula.result in
     let here = claim_there ns c.args.place c.in-Some.node.now (sym c.in-Some.ensures) in
     subst (λ z. IfOk r (λ f. f ≡ formula_in (bound c.args.bindings.now) c.args.bound.now z)) (sym here) c.node_formula.ensures
 
-pub formula_at-returns-in-None : goal.formula_at-returns-in-None
-formula_at-returns-in-None t c =
-    sym (ap (formula_in (bound c.args.bindings.now) c.args.bound.now) (claim_missing c.args.nodes.now c.args.place c.in-None.ensures))
+pub formula_boxed-returns-in-None : goal.formula_boxed-returns-in-None
+formula_boxed-returns-in-None t c =
+    same_answer c.falsity.result _ _
+    (sym (ap (formula_in (bound c.args.bindings.now) c.args.bound.now) (claim_missing c.args.nodes.now c.args.place c.in-None.ensures))) c.falsity.ensures
 
 pub holds_at-returns-in-Some : goal.holds_at-returns-in-Some
 holds_at-returns-in-Some t c =
@@ -101,7 +102,7 @@ node_cases-returns-in-Update t c =
     term_is m env es r _ _ a.is
     (subst (λ ps. IfOk r (λ cs. cases_of cs ≡ listed (term_cases m env (tree_at es a.base) |> λ v. us |> λ vs. leaf (rule.record_of a.of ss a.count v ps vs)))) c.as_slice-in-Update-3.ensures
     (same_cases r _ _ (record_listed a.of a.count ss _ (term_cases m env (tree_at es a.base)) us)
-    (c.with_fields-in-Update.ensures (listed (term_cases m env (tree_at es a.base))) us ss (c.cases_at-base.ensures) (terms_are m env es c.all_cases-terms-in-Update.result _ _ c.as_slice-in-Update.ensures c.all_cases-terms-in-Update.ensures)
+    (c.with_fields-in-Update.ensures (listed (term_cases m env (tree_at es a.base))) us ss (c.cases_boxed-base.ensures) (terms_are m env es c.all_cases-terms-in-Update.result _ _ c.as_slice-in-Update.ensures c.all_cases-terms-in-Update.ensures)
     (sorts_are m env es c.put_all-sorts-in-Update.result _ _ c.as_slice-in-Update-2.ensures c.put_all-sorts-in-Update.ensures))))
 
 pub node_cases-returns-in-Choice : goal.node_cases-returns-in-Choice
@@ -112,14 +113,14 @@ node_cases-returns-in-Choice t c =
     let a = c.in-Choice in
     term_is m env es c.chosen.result _ _ a.is
     (c.chosen.ensures (formula_in m env (claim_at es a.condition)) (listed (term_cases m env (tree_at es a.positive))) (listed (term_cases m env (tree_at es a.negative)))
-    c.formula_at-condition.ensures c.cases_at-yes.ensures c.cases_at-no.ensures)
+    c.formula_boxed-condition.ensures c.cases_boxed-yes.ensures c.cases_boxed-no.ensures)
 
 pub all_cases-loop-place-init : goal.all_cases-loop-place-init
 all_cases-loop-place-init t c =
     let m = bound c.args.bindings.now in
     let es = entries_of c.args.nodes.now in
     let us = terms_cases m c.args.bound.now (trees_at es c.args.places.now) in
-    ap (λ (z : Cases (List Term)). z |> λ (xs : List Term). us |> λ (ys : List Term). leaf (xs ++ ys)) c.no_terms-all.ensures ∙ none_before us
+    ap (λ (z : Cases (List Term)). z |> λ (xs : List Term). us |> λ (ys : List Term). leaf (xs ++ ys)) c.in_ok-none.ensures ∙ none_before us
 
 pub all_cases-loop-place-preserved : goal.all_cases-loop-place-preserved
 all_cases-loop-place-preserved t c =
@@ -130,7 +131,7 @@ all_cases-loop-place-preserved t c =
     let i = c.loop-place.place-index in
     let old = cases_of c.loop-place.all in
     next_term m env es ps old (cases_of c.in_ok-all.all) i c.loop-place-test.true c.loop-place.invariant
-    (c.in_ok-all.ensures old (listed (term_cases m env (tree_at es (get_or ps i 0)))) refl c.cases_at-next.ensures)
+    (c.in_ok-all.ensures old (listed (term_cases m env (tree_at es (get_or ps i 0)))) refl c.cases_boxed-next.ensures)
 
 pub all_cases-returns : goal.all_cases-returns
 all_cases-returns t c =
@@ -160,7 +161,7 @@ node_formula-returns-in-Relation t c =
     let es = entries_of c.args.nodes.now in
     let a = c.in-Relation in
     formula_is m env es c.between.result _ _ a.is
-    (c.between.ensures (term_cases m env (tree_at es a.left)) (term_cases m env (tree_at es a.right)) c.cases_at-left.ensures c.cases_at-right.ensures)
+    (c.between.ensures (term_cases m env (tree_at es a.left)) (term_cases m env (tree_at es a.right)) c.cases_boxed-left.ensures c.cases_boxed-right.ensures)
 
 pub node_formula-returns-in-Predicate : goal.node_formula-returns-in-Predicate
 node_formula-returns-in-Predicate t c =
@@ -189,7 +190,7 @@ node_formula-returns-in-Negation t c =
     let env = c.args.bound.now in
     let es = entries_of c.args.nodes.now in
     let a = c.in-Negation in
-    formula_is m env es c.denied.result _ _ a.is (c.denied.ensures (formula_in m env (claim_at es a.part)) c.formula_at-part.ensures)
+    formula_is m env es c.denied.result _ _ a.is (c.denied.ensures (formula_in m env (claim_at es a.part)) c.formula_boxed-part.ensures)
 
 pub node_formula-returns-in-Joined : goal.node_formula-returns-in-Joined
 node_formula-returns-in-Joined t c =
@@ -200,7 +201,7 @@ node_formula-returns-in-Joined t c =
     let f = claim_at es a.left in
     let g = claim_at es a.right in
     formula_is m env es c.joined_by.result _ _ a.is
-    (same_answer c.joined_by.result _ _ (join_is m env a.connective f g) (c.joined_by.ensures (formula_in m env f) (formula_in m env g) c.formula_at-left.ensures c.formula_at-right.ensures))
+    (same_answer c.joined_by.result _ _ (join_is m env a.connective f g) (c.joined_by.ensures (formula_in m env f) (formula_in m env g) c.formula_boxed-left.ensures c.formula_boxed-right.ensures))
 
 pub node_formula-returns-in-Conditional : goal.node_formula-returns-in-Conditional
 node_formula-returns-in-Conditional t c =
@@ -210,7 +211,7 @@ node_formula-returns-in-Conditional t c =
     let a = c.in-Conditional in
     formula_is m env es c.conditional.result _ _ a.is
     (c.conditional.ensures (formula_in m env (claim_at es a.condition)) (formula_in m env (claim_at es a.positive)) (formula_in m env (claim_at es a.negative))
-    c.formula_at-condition.ensures c.formula_at-yes.ensures c.formula_at-no.ensures)
+    c.formula_boxed-condition.ensures c.formula_boxed-yes.ensures c.formula_boxed-no.ensures)
 
 pub node_formula-returns-in-Holds : goal.node_formula-returns-in-Holds
 node_formula-returns-in-Holds t c =
@@ -238,7 +239,7 @@ node_formula-returns-in_ok-inner-in-Quantified t c =
     (same_answer c.triggers_at-triggers.result _ _
     (ap (λ (xs : List ℕ). triggers_in m xs (patterns_at es c.as_slice-patterns.result.now)) lent ∙ ap (λ (ps : List Pattern). triggers_in m inner (patterns_at es ps)) c.as_slice-patterns.ensures)
     c.triggers_at-triggers.ensures)
-    (same_answer c.formula_at-body.result _ _ (ap (λ (xs : List ℕ). formula_in m xs (claim_at es a.body)) lent_too) c.formula_at-body.ensures))
+    (same_answer c.formula_boxed-body.result _ _ (ap (λ (xs : List ℕ). formula_in m xs (claim_at es a.body)) lent_too) c.formula_boxed-body.ensures))
 
 pub node_holds-returns-in-Choice : goal.node_holds-returns-in-Choice
 node_holds-returns-in-Choice t c =
@@ -248,7 +249,7 @@ node_holds-returns-in-Choice t c =
     let a = c.in-Choice in
     subst (λ z. IfOk c.conditional.result (λ f. f ≡ formula_in m env (claim_of (tree_in (Some (entry_of es z)))))) (sym a.is)
     (c.conditional.ensures (formula_in m env (claim_at es a.condition)) (formula_in m env (claim_of (tree_at es a.positive))) (formula_in m env (claim_of (tree_at es a.negative)))
-    c.formula_at-condition.ensures c.holds_at-yes.ensures c.holds_at-no.ensures)
+    c.formula_boxed-condition.ensures c.holds_at-yes.ensures c.holds_at-no.ensures)
 
 pub node_holds-returns-in-Some : goal.node_holds-returns-in-Some
 node_holds-returns-in-Some t c =
@@ -258,7 +259,8 @@ node_holds-returns-in-Some t c =
     let a = c.in-Apply in
     let t = tree.apply a.head a.sorts (trees_at es a.args) in
     let x = term_cases m env t in
-    subst (λ z. c.in-Some.formula ≡ formula_in m env (claim_of (tree_in (Some (entry_of es z))))) (sym a.is) (c.in-Some.ensures m env t)
+    same_answer c.new.result c.in-Some.formula _
+    (subst (λ z. c.in-Some.formula ≡ formula_in m env (claim_of (tree_in (Some (entry_of es z))))) (sym a.is) (c.in-Some.ensures m env t)) c.new.ensures
 
 pub node_holds-returns-in-None : goal.node_holds-returns-in-None
 node_holds-returns-in-None t c =
@@ -331,24 +333,25 @@ node_formula-returns-in_default t c =
     let env = c.args.bound.now in
     let es = entries_of c.args.nodes.now in
     let d = c.in_default in
-    sym (ap (formula_in m env)
-    (no_claim es c.args.node.now d.not-Truth d.not-Relation d.not-Predicate d.not-Distinct d.not-Holds d.not-Negation d.not-Joined d.not-Conditional d.not-Quantified))
+    same_answer c.falsity.result _ _
+    (sym (ap (formula_in m env)
+    (no_claim es c.args.node.now d.not-Truth d.not-Relation d.not-Predicate d.not-Distinct d.not-Holds d.not-Negation d.not-Joined d.not-Conditional d.not-Quantified))) c.falsity.ensures
 
 pub node_formula-returns-in-Truth : goal.node_formula-returns-in-Truth
 node_formula-returns-in-Truth t c =
     let m = bound c.args.bindings.now in
     let env = c.args.bound.now in
     let es = entries_of c.args.nodes.now in
-    sym (ap (λ n. formula_in m env (claim_in (Some (entry_of es n)))) c.in-Truth.is)
+    same_answer c.truth.result _ _ (sym (ap (λ n. formula_in m env (claim_in (Some (entry_of es n)))) c.in-Truth.is)) c.truth.ensures
 
-pub cases_at-slice_bounds-before-end : goal.cases_at-slice_bounds-before-end
-cases_at-slice_bounds-before-end t c =
+pub cases_boxed-slice_bounds-before-end : goal.cases_boxed-slice_bounds-before-end
+cases_boxed-slice_bounds-before-end t c =
     let ns = c.args.nodes.now in
     let within : c.args.place < length ns = slice_get_within ns c.args.place c.in-Some.node.now (sym c.in-Some.ensures) in
     sym (length-take-le c.args.place ns (omega (arith, within)))
 
-pub cases_at-node_cases-requires : goal.cases_at-node_cases-requires
-cases_at-node_cases-requires t c =
+pub cases_boxed-node_cases-requires : goal.cases_boxed-node_cases-requires
+cases_boxed-node_cases-requires t c =
     let ns = c.args.nodes.now in
     let n = c.args.place in
     let within : n < length ns = slice_get_within ns n c.in-Some.node.now (sym c.in-Some.ensures) in
@@ -356,14 +359,14 @@ cases_at-node_cases-requires t c =
     let falls : length (take n ns) * 8 + 4 < length ns * 8 + 1 = omega (arith, within, long) in
     (subst (λ k. length (take n ns) * 8 + 4 < k) c.decreases falls, tt)
 
-pub formula_at-slice_bounds-before-end : goal.formula_at-slice_bounds-before-end
-formula_at-slice_bounds-before-end t c =
+pub formula_boxed-slice_bounds-before-end : goal.formula_boxed-slice_bounds-before-end
+formula_boxed-slice_bounds-before-end t c =
     let ns = c.args.nodes.now in
     let within : c.args.place < length ns = slice_get_within ns c.args.place c.in-Some.node.now (sym c.in-Some.ensures) in
     sym (length-take-le c.args.place ns (omega (arith, within)))
 
-pub formula_at-node_formula-requires : goal.formula_at-node_formula-requires
-formula_at-node_formula-requires t c =
+pub formula_boxed-node_formula-requires : goal.formula_boxed-node_formula-requires
+formula_boxed-node_formula-requires t c =
     let ns = c.args.nodes.now in
     let n = c.args.place in
     let within : n < length ns = slice_get_within ns n c.in-Some.node.now (sym c.in-Some.ensures) in

@@ -6,8 +6,8 @@ use Rattle.ae_lifting.specs.Lifting.{cases_of}
 use Rattle.ae_types.specs.Bound.{bound}
 use Rattle.ae_translation.proofs.translation.+translation.Given as goal
 
-abbrev pub decreases-cases_at : goal.decreases-cases_at
-decreases-cases_at l = length l.nodes.now * 8 + 1
+abbrev pub decreases-cases_boxed : goal.decreases-cases_boxed
+decreases-cases_boxed l = length l.nodes.now * 8 + 1
 
 abbrev pub decreases-node_cases : goal.decreases-node_cases
 decreases-node_cases l = length l.nodes.now * 8 + 4
@@ -15,8 +15,8 @@ decreases-node_cases l = length l.nodes.now * 8 + 4
 abbrev pub decreases-all_cases : goal.decreases-all_cases
 decreases-all_cases l = length l.nodes.now * 8 + 2
 
-abbrev pub decreases-formula_at : goal.decreases-formula_at
-decreases-formula_at l = length l.nodes.now * 8 + 1
+abbrev pub decreases-formula_boxed : goal.decreases-formula_boxed
+decreases-formula_boxed l = length l.nodes.now * 8 + 1
 
 abbrev pub decreases-node_formula : goal.decreases-node_formula
 decreases-node_formula l = length l.nodes.now * 8 + 4
