@@ -1,0 +1,11 @@
+pub mod ParsedTrees
+pub mod NumeralLaws
+pub mod Tokens
+pub mod FileTrees
+pub mod BuiltRules
+pub mod PlaceLaws
+pub mod FilePlaces
+pub mod MetConditions
+pub mod SortRules
+pub mod SignatureLaws
+pub mod DeclaredSignatures
