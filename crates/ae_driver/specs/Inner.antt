@@ -1,8 +1,2 @@
 -- Stepping stones of the proof, in the code's own terms.
-pub mod Places
-pub mod ChainProofs
-pub mod StateChains
-pub mod Merging
-pub mod Search
-pub mod Answers
 pub mod Endings

@@ -1,49 +1,40 @@
--- The problem that a first text states: one abstract type, its constants, and its goals.
-use Rattle.std.specs.Prelude.{ℕ, List, [], ◌∷◌, map, Some}
-use Rattle.ae_core.specs.declared.terms.Sort.{Sort, Named}
-use Rattle.ae_core.specs.declared.terms.Head.TheVariants.{Symbol}
-use Rattle.ae_core.specs.declared.terms.Term.{Term, Apply}
-use Rattle.ae_core.specs.declared.formulas.Formula.{Formula, Eq, Or, Not}
-use Rattle.ae_core.specs.declared.problems.TypeEntry.{TypeEntry}
-use Rattle.ae_core.specs.declared.problems.SymbolEntry.{SymbolEntry}
-use Rattle.ae_core.specs.declared.problems.Kind.TheVariants.{Abstract}
-use Rattle.ae_core.specs.declared.problems.Nature.TheVariants.{Free}
-use Rattle.ae_core.specs.declared.problems.Item.{Item}
-use Rattle.ae_core.specs.declared.problems.Item.TheVariants.{Goal as GoalItem}
-use Rattle.ae_core.specs.declared.problems.Signature.{Signature}
+-- The problem of a text, and why a text has none.
+use Rattle.std.specs.Prelude.{ℕ, List}
 use Rattle.ae_core.specs.declared.problems.Problem.{Problem}
-use Rattle.ae_driver.specs.declared.first_text.Equation.{Equation}
-use Rattle.ae_driver.specs.declared.first_text.Chain.{Chain}
-use Rattle.ae_driver.specs.declared.first_text.FirstText.{FirstText}
+use Rattle.ae_elab.specs.Problems.{IsTyped, IsTypeFault}
+use Rattle.ae_elab.specs.declared.faults.TypeFault.{TypeFault}
+use Rattle.ae_fault_lines.specs.Lines.{IsFaultLine}
+use Rattle.ae_lex.specs.Lexis.{IsTokenized, IsFault}
+use Rattle.ae_lex.specs.declared.kinds.Token.{Token}
+use Rattle.ae_lex.specs.declared.kinds.LexFault.{LexFault}
+use Rattle.ae_report.specs.Lines.{IsRefusalLine}
+use Rattle.ae_report.specs.declared.refusal.Refusal.{Refusal}
+use Rattle.ae_report.specs.declared.refusal.Refusal.TheVariants as refusal
+use Rattle.ae_syntax.specs.Files.{IsParsed, IsSyntaxFault}
+use Rattle.ae_syntax.specs.declared.decls.File.{File}
+use Rattle.ae_syntax.specs.declared.faults.SyntaxFault.{SyntaxFault}
+use Rattle.ae_driver.specs.declared.reasons.Reason.{Reason}
+use Rattle.ae_driver.specs.declared.reasons.Reason.TheVariants.{Plain, Untyped}
 
--- the constant at a place among the declared ones
-abbrev pub constant : ℕ → Term
-constant n = Apply (Symbol n) [] []
+-- the tree of a text: that of its tokens
+pub record IsFileOf (text : List ℕ) (file : File) : Type 0 where
+  pub tokens : List Token
+  pub tokenized : IsTokenized text tokens
+  pub parsed : IsParsed tokens file
 
-abbrev pub equation : Equation → Formula
-equation e = Eq (constant e.left) (constant e.right)
+-- the problem of a text: that of its tree, typed and elaborated
+pub record IsProblemOf (text : List ℕ) (p : Problem) : Type 0 where
+  pub file : File
+  pub is_file : IsFileOf text file
+  pub typed : IsTyped text file p
 
--- `e1 -> .. -> en -> g`: the formula `A -> B` is `Or (Not A) B`
-abbrev pub chain : List Equation → Equation → Formula
-chain [] g = equation g
-chain (e ∷ es) g = Or (Not (equation e)) (chain es g)
+-- why a text has no problem, in this order: it has no tokens; they are no file; the file has a fault of typing
+pub data HasNoProblem (text : List ℕ) : Reason → Type 0 where
+  by_lexis : (f : LexFault) → IsFault text f → HasNoProblem text (Plain (refusal.Lex f))
+  by_syntax : (tokens : List Token) (f : SyntaxFault) → IsTokenized text tokens → IsSyntaxFault text tokens f → HasNoProblem text (Plain (refusal.Syntax f))
+  by_typing : (file : File) (e : TypeFault) → IsFileOf text file → IsTypeFault text file e → HasNoProblem text (Untyped file e)
 
--- an abstract type without parameters, the first of the types
-abbrev pub type_entry : List ℕ → TypeEntry
-type_entry name = record { name = name; arity = 0; kind = Abstract }
-
-abbrev pub the_type : Sort
-the_type = Named 0 []
-
-abbrev pub symbol_entry : List ℕ → SymbolEntry
-symbol_entry name = record { name = name; vars = 0; args = []; result = Some the_type; nature = Free }
-
-abbrev pub goal_item : Chain → Item
-goal_item g = GoalItem g.name 0 (chain g.hyps g.last)
-
-abbrev pub signature : FirstText → Signature
-signature f = record { types = type_entry f.type_name ∷ []; symbols = map symbol_entry f.constants }
-
--- one type, the constants, and the goals in order; there is no axiom
-abbrev pub problem : FirstText → Problem
-problem f = record { signature = signature f; items = map goal_item f.goals }
+-- the line by which a text is refused
+abbrev pub IsReasonLine : List ℕ → Reason → List ℕ → Type 0
+IsReasonLine text (Plain why) bytes = IsRefusalLine text why bytes
+IsReasonLine text (Untyped file e) bytes = IsFaultLine text file e bytes

@@ -8,17 +8,18 @@ ghost use Rattle.ae_report.specs.declared.refusal.Refusal.TheVariants.{Proof as 
 ghost use Rattle.ae_separator.specs.Separators.{IsParted};
 ghost use Rattle.ae_verdicts.specs.Verdicts.{IsVerdict};
 ghost use Rattle.ae_driver.specs.Checking as spec;
-ghost use Rattle.ae_driver.specs.Inner.Endings.{InputEnds, IsNoText, IsVerdictLine, LineEnds, LinesEnd};
-ghost use Rattle.ae_driver.specs.Output.{Reads};
-ghost use Rattle.ae_driver.specs.Problems as problems;
+ghost use Rattle.ae_driver.specs.Inner.Endings.{InputEnds, IsNotRead, IsVerdictLine, LineEnds, LinesEnd};
+ghost use Rattle.ae_driver.specs.Problems.{IsProblemOf};
+ghost use Rattle.ae_driver.specs.declared.reasons.Reason.TheVariants.{Plain};
 ghost use Rattle.ae_driver.specs.declared.program.Status.TheVariants.{WriteFault, Memory as NoMemory};
 
-use crate::first_text::FirstText;
-use crate::problems::{names_of, problem_of};
+use crate::goals::{GoalPlace, goals_of, names_of};
 use crate::program::{Status, refuse};
-use crate::texts::{NoText, read_first};
+use crate::reasons::Reason;
+use crate::texts::{NotRead, read_problem};
 use ae_base::words::Word;
 use ae_core::problems::Problem;
+use ae_elaborate::release_problem;
 use ae_io::{Sink, write_all};
 use ae_parts::{Part, read_parts};
 use ae_readers::Fault;
@@ -43,35 +44,33 @@ fn verdict_of(
     }
 }
 
-// The line that says what a part is worth.
+// The line that says what a goal's part is worth.
 fn line_of(
     alloc: Global,
     problem: &Problem,
-    goal: usize,
-    name: &Word,
+    goal: &GoalPlace,
     part: &Part,
 ) -> Result<Vec<u8>, AllocError>
-    ensures { IfOk result (λ line. IsVerdictLine problem.now goal name.now part.now line.items) }
+    ensures { IfOk result (λ line. IsVerdictLine problem.now goal.now part.now line.items) }
 {
-    let found = verdict_of(alloc, problem, goal, part)?;
-    verdict_line(alloc, name.as_str(), found)
+    let found = verdict_of(alloc, problem, goal.place, part)?;
+    verdict_line(alloc, goal.name.as_str(), found)
 }
 
 // Writes the line of one goal.
 fn write_line<K: Sink>(
     alloc: Global,
     problem: &Problem,
-    goal: usize,
-    name: &Word,
+    goal: &GoalPlace,
     part: &Part,
     sink: &mut K,
 ) -> Status
-    ensures ends { LineEnds problem.now goal name.now part.now (K.written sink.old) (K.written sink.new) result }
+    ensures ends { LineEnds problem.now goal.now part.now (K.written sink.old) (K.written sink.new) result }
     ensures memory { result ≡ NoMemory → sink.new ≡ sink.old }
     ensures write_fault { result ≡ WriteFault → Rose (K.faults sink.old) (K.faults sink.new) }
     ensures later { K.faults sink.old ≤ K.faults sink.new }
 {
-    match line_of(alloc, problem, goal, name, part) {
+    match line_of(alloc, problem, goal, part) {
         Ok(line) => match write_all(sink, line.as_slice()) {
             Ok(()) => Status::Done,
             Err(_) => Status::WriteFault,
@@ -84,16 +83,16 @@ fn write_line<K: Sink>(
 fn write_lines<K: Sink>(
     alloc: Global,
     problem: &Problem,
-    names: &[Word],
+    goals: &[GoalPlace],
     parts: &[Part],
     sink: &mut K,
 ) -> Status
-    requires { length parts.now ≡ length names.now }
-    ensures ends { LinesEnd problem.now names.now parts.now (K.written sink.old) (K.written sink.new) result }
+    requires { length parts.now ≡ length goals.now }
+    ensures ends { LinesEnd problem.now goals.now parts.now (K.written sink.old) (K.written sink.new) result }
     ensures write_fault { result ≡ WriteFault → Rose (K.faults sink.old) (K.faults sink.new) }
 {
-    for goal in 0..names.len() {
-        match write_line(alloc, problem, goal, &names[goal], &parts[goal], sink) {
+    for n in 0..goals.len() {
+        match write_line(alloc, problem, &goals[n], &parts[n], sink) {
             Status::Done => {}
             stopped => return stopped,
         }
@@ -134,7 +133,7 @@ fn refuse_parts<K: Sink>(
 ) -> Status
     requires begins { begin ≤ length input.now }
     requires stands { StandsIn (drop begin input.now) fault }
-    requires refused { fault ≢ NoMemoryForParts → spec.IsRefusedInput input.now (WrongParts (spec.moved begin fault)) }
+    requires refused { fault ≢ NoMemoryForParts → spec.IsRefusedInput input.now (Plain (WrongParts (spec.moved begin fault))) }
     ensures ends { InputEnds input.now (K.written sink.old) (K.written sink.new) result }
     ensures write_fault { result ≡ WriteFault → Rose (K.faults sink.old) (K.faults sink.new) }
 {
@@ -142,74 +141,76 @@ fn refuse_parts<K: Sink>(
         Fault::Memory => Status::Memory,
         _ => {
             let there = moved(input, begin, fault);
-            refuse(alloc, input, &Refusal::Proof(there), sink)
+            refuse(alloc, input, &Reason::Plain(Refusal::Proof(there)), sink)
         }
     }
 }
 
-// Checks the parts that stand behind the separator, of the goals of the text before it, whose problem this is.
+// Checks the parts that stand behind the separator, of these goals of the problem before it, which have these names.
 fn check_against<K: Sink>(
     alloc: Global,
     input: &[u8],
     parted: Parted,
-    first: &FirstText,
+    problem: &Problem,
+    goals: &[GoalPlace],
+    names: &[Word],
+    sink: &mut K,
+) -> Status
+    requires parted { IsParted input.now (take parted.before input.now) (drop parted.after input.now) }
+    requires within { parted.after ≤ length input.now }
+    requires problem { IsProblemOf (take parted.before input.now) problem.now }
+    requires goals { goals.now ≡ spec.goals_of problem.now }
+    requires names { names.now ≡ spec.names_of goals.now }
+    ensures ends { InputEnds input.now (K.written sink.old) (K.written sink.new) result }
+    ensures write_fault { result ≡ WriteFault → Rose (K.faults sink.old) (K.faults sink.new) }
+{
+    let text = &input[parted.after..];
+    match read_parts(alloc, &problem.signature, names, text) {
+        Ok(parts) => write_lines(alloc, problem, goals, parts.as_slice(), sink),
+        Err(fault) => refuse_parts(alloc, input, parted.after, fault, sink),
+    }
+}
+
+// Checks the parts that stand behind the separator, of the goals of the problem before it.
+fn check_parts<K: Sink>(
+    alloc: Global,
+    input: &[u8],
+    parted: Parted,
     problem: &Problem,
     sink: &mut K,
 ) -> Status
     requires parted { IsParted input.now (take parted.before input.now) (drop parted.after input.now) }
     requires within { parted.after ≤ length input.now }
-    requires reads { Reads (take parted.before input.now) first.now }
-    requires problem { problem.now ≡ problems.problem first.now }
+    requires problem { IsProblemOf (take parted.before input.now) problem.now }
     ensures ends { InputEnds input.now (K.written sink.old) (K.written sink.new) result }
     ensures write_fault { result ≡ WriteFault → Rose (K.faults sink.old) (K.faults sink.new) }
 {
-    let Ok(names) = names_of(alloc, first.goals.as_slice()) else {
+    let Ok(goals) = goals_of(alloc, problem) else {
         return Status::Memory;
     };
-    let names = names.as_slice();
-    let text = &input[parted.after..];
-    match read_parts(alloc, &problem.signature, names, text) {
-        Ok(parts) => write_lines(alloc, problem, names, parts.as_slice(), sink),
-        Err(fault) => refuse_parts(alloc, input, parted.after, fault, sink),
-    }
-}
-
-// Checks the parts that stand behind the separator, of the goals of the text before it.
-fn check_parts<K: Sink>(
-    alloc: Global,
-    input: &[u8],
-    parted: Parted,
-    first: &FirstText,
-    sink: &mut K,
-) -> Status
-    requires parted { IsParted input.now (take parted.before input.now) (drop parted.after input.now) }
-    requires within { parted.after ≤ length input.now }
-    requires reads { Reads (take parted.before input.now) first.now }
-    ensures ends { InputEnds input.now (K.written sink.old) (K.written sink.new) result }
-    ensures write_fault { result ≡ WriteFault → Rose (K.faults sink.old) (K.faults sink.new) }
-{
-    match problem_of(alloc, first) {
-        Ok(problem) => check_against(alloc, input, parted, first, &problem, sink),
+    let goals = goals.as_slice();
+    match names_of(alloc, goals) {
+        Ok(names) => check_against(alloc, input, parted, problem, goals, names.as_slice(), sink),
         Err(_) => Status::Memory,
     }
 }
 
-// Answers an input before whose separator no first text was read.
+// Answers an input before whose separator no problem was read.
 fn refuse_problem<K: Sink>(
     alloc: Global,
     input: &[u8],
     parted: Parted,
-    none: NoText,
+    none: &NotRead,
     sink: &mut K,
 ) -> Status
     requires parted { IsParted input.now (take parted.before input.now) (drop parted.after input.now) }
-    requires none { IsNoText (take parted.before input.now) none }
+    requires none { IsNotRead (take parted.before input.now) none.now }
     ensures ends { InputEnds input.now (K.written sink.old) (K.written sink.new) result }
     ensures write_fault { result ≡ WriteFault → Rose (K.faults sink.old) (K.faults sink.new) }
 {
     match none {
-        NoText::Refused(why) => refuse(alloc, input, &why, sink),
-        NoText::Memory => Status::Memory,
+        NotRead::Refused(why) => refuse(alloc, input, why, sink),
+        NotRead::Memory => Status::Memory,
     }
 }
 
@@ -222,9 +223,13 @@ fn check_parted<K: Sink>(alloc: Global, input: &[u8], parted: Parted, sink: &mut
     ensures write_fault { result ≡ WriteFault → Rose (K.faults sink.old) (K.faults sink.new) }
 {
     let text = &input[..parted.before];
-    match read_first(alloc, text) {
-        Ok(first) => check_parts(alloc, input, parted, &first, sink),
-        Err(none) => refuse_problem(alloc, input, parted, none, sink),
+    match read_problem(alloc, text) {
+        Ok(problem) => {
+            let status = check_parts(alloc, input, parted, &problem, sink);
+            release_problem(alloc, problem);
+            status
+        }
+        Err(none) => refuse_problem(alloc, input, parted, &none, sink),
     }
 }
 
@@ -236,6 +241,6 @@ pub fn check_input<K: Sink>(alloc: Global, input: &[u8], sink: &mut K) -> Status
 {
     match parting(input) {
         Some(parted) => check_parted(alloc, input, parted, sink),
-        None => refuse(alloc, input, &Refusal::NoSeparator, sink),
+        None => refuse(alloc, input, &Reason::Plain(Refusal::NoSeparator), sink),
     }
 }

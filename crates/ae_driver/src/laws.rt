@@ -1,25 +1,25 @@
 //! Laws of the definitions. These functions do nothing: each one's contract is a theorem.
 ghost use Rattle.std.specs.Prelude.{ℕ, List, [], ◌≡◌};
 ghost use Rattle.ae_parts.specs.declared.parts.Part.{Part};
-ghost use Rattle.ae_report.specs.declared.refusal.Refusal.{Refusal};
+ghost use Rattle.ae_core.specs.declared.problems.Problem.{Problem};
 ghost use Rattle.ae_cli.specs.Words.{AreRight, Text};
 ghost use Rattle.ae_cli.specs.declared.options.Mode.TheVariants.{Prove, Check};
 ghost use Rattle.ae_cli.specs.declared.options.Options.{Options};
 ghost use Rattle.ae_driver.specs.Checking.{IsChecked, IsInput, IsRefusedInput};
-ghost use Rattle.ae_driver.specs.Output.{Reads};
-ghost use Rattle.ae_driver.specs.Soundness.{IsSound};
+ghost use Rattle.ae_driver.specs.Output.{IsRefused, Reads};
+ghost use Rattle.ae_driver.specs.Problems.{HasNoProblem, IsProblemOf};
 ghost use Rattle.ae_driver.specs.Words.{AskToProve, AskToCheck};
-ghost use Rattle.ae_driver.specs.declared.first_text.FirstText.{FirstText};
+ghost use Rattle.ae_driver.specs.declared.reasons.Reason.{Reason};
 
-/// The goal of a derivation follows from its hypotheses: whatever values the constants have, where each hypothesis
-/// holds between these, so does the last equation.
-pub fn derivations_are_sound()
-    ensures { IsSound }
+/// A text has at most one problem, and one that has a problem isn't refused for want of one.
+pub fn one_problem()
+    ensures problem { (text : List ℕ) (p q : Problem) → IsProblemOf text p → IsProblemOf text q → p ≡ q }
+    ensures none { (text : List ℕ) (p : Problem) (why : Reason) → IsProblemOf text p → ¬ (HasNoProblem text why) }
 {}
 
-/// A text is a first text in at most one way.
-pub fn one_first_text()
-    ensures { (text : List ℕ) (f g : FirstText) → Reads text f → Reads text g → f ≡ g }
+/// A text whose problem is answered isn't refused.
+pub fn no_refusal()
+    ensures { (text : List ℕ) (p : Problem) (why : Reason) → Reads text p → ¬ (IsRefused text why) }
 {}
 
 /// Right words ask for proofs where they say neither `--check` nor `--demo`.
@@ -40,7 +40,7 @@ pub fn right_words_check()
 /// An input that is to be checked has one problem and one list of parts, what is written for it is determined, and it isn't
 /// refused.
 pub fn one_check()
-    ensures input { (input : List ℕ) (f g : FirstText) (ps qs : List Part) → IsInput input f ps → IsInput input g qs → (f ≡ g) × (ps ≡ qs) }
+    ensures input { (input : List ℕ) (p q : Problem) (ps qs : List Part) → IsInput input p ps → IsInput input q qs → (p ≡ q) × (ps ≡ qs) }
     ensures lines { (input a b : List ℕ) → IsChecked input a → IsChecked input b → a ≡ b }
-    ensures refusal { (input : List ℕ) (f : FirstText) (ps : List Part) (why : Refusal) → IsInput input f ps → ¬ (IsRefusedInput input why) }
+    ensures refusal { (input : List ℕ) (p : Problem) (ps : List Part) (why : Reason) → IsInput input p ps → ¬ (IsRefusedInput input why) }
 {}

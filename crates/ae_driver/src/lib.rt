@@ -2,17 +2,10 @@
 #![tactic(auto)]
 
 mod checking;
-mod derivation;
-pub mod first_text;
+mod goals;
 pub mod laws;
-mod parts;
-mod problems;
 mod program;
-mod proofs;
-mod reader;
-mod search;
-mod signatures;
-mod states;
+mod reasons;
 mod texts;
 
 pub use program::{INPUT_LIMIT, Status, run};

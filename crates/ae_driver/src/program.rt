@@ -1,27 +1,28 @@
 //! The top call.
 
-ghost use Rattle.std.specs.Prelude.{◌≡◌, ◌≢◌, ◌⊎◌, ◌≤◌, length, map, string_bytes, IfOk, IfSome};
+ghost use Rattle.std.specs.Prelude.{◌≡◌, ◌≢◌, ◌⊎◌, ◌≤◌, ◌<◌, length, map, string_bytes, IfOk};
 ghost use Rattle.std.specs.Io.KnownBytes.{IsAtEnd};
 ghost use Rattle.ae_io.specs.Moves.{Rose, Gets, GetsPrefix};
-ghost use Rattle.ae_report.specs.Lines.{refused_at};
-ghost use Rattle.ae_driver.specs.Inner.Places.{IsWellPlaced, IsGoalOver};
+ghost use Rattle.ae_chains.specs.Inner.Chains.{AreChains};
+ghost use Rattle.ae_core.specs.Signatures.{IsLawful};
 ghost use Rattle.ae_driver.specs.Output.{IsDone, IsOffered, IsRefusedText, IsRefusedByLength, IsOutOfMemory, IsCutOff, usage_line};
-ghost use Rattle.ae_driver.specs.Problems as problems;
+ghost use Rattle.ae_driver.specs.Problems.{IsProblemOf};
 ghost use Rattle.ae_driver.specs.Checking.{IsDoneChecking, IsOfferedChecking, IsRefusedChecking, IsOutOfMemoryChecking, IsCutOffChecking};
 ghost use Rattle.ae_driver.specs.Words.{AskToProve, AskToCheck, AskForNeither};
-ghost use Rattle.ae_driver.specs.Inner.Endings.{IsAsked, PartEnds, GoalsEnd, RefusalEnds, TextEnds};
+ghost use Rattle.ae_driver.specs.Inner.Endings.{IsAsked, PartEnds, GoalsEnd, PlacesStand, RefusalEnds, TextEnds};
 ghost use Rattle.ae_driver.specs.declared.program.Status.TheVariants.{Done, Refused, ReadFault, WriteFault, Memory, Usage};
 
 use crate::checking::check_input;
-use crate::first_text::{Chain, FirstText};
-use crate::parts::goal_part;
-use crate::signatures::signature_of;
-use crate::texts::{NoText, read_first};
+use crate::reasons::{Reason, reason_text};
+use crate::texts::{NotRead, read_problem};
+use ae_chains::chains::Chains;
+use ae_chains::{chains_of, goal_part};
 use ae_cli::options::{CliFail, Mode};
 use ae_cli::words::options;
-use ae_core::problems::Signature;
+use ae_core::problems::Problem;
+use ae_elaborate::release_problem;
 use ae_io::{ReadEnd, Sink, Source, read_all, write_all};
-use ae_report::{Refusal, refusal_text};
+use ae_report::Refusal;
 use std::alloc::{AllocError, Global};
 
 /// The most bytes that one text may have: 16 MiB.
@@ -48,18 +49,21 @@ pub enum Status {
 ///
 /// Where the words ask for proofs:
 ///
-/// - `Done` comes only where the source was read to its end, its text is a first text of at most `INPUT_LIMIT` bytes, and one
-///   part was written for each goal: `Valid` with the text of a proof that derives the goal in the problem of the text, with its
-///   axioms, or `I don't know` with the text of a saturated state in which the goal is false; then no proof derives it.
+/// - `Done` comes only where the source was read to its end, its text has at most `INPUT_LIMIT` bytes and a problem that is
+///   answered so far (no axiom, and each goal a chain of equations between constants), and one part was written for each goal:
+///   `Valid` with the text of a proof that derives the goal in that problem, with its axioms, or `I don't know` with the text of
+///   a saturated state in which the goal is false; then no proof derives it.
 /// - `Refused` comes only where the line of the first reason was written: the source had more bytes left than
-///   `INPUT_LIMIT`, the text has a fault of its tokens, its tokens have a fault of syntax, or its tree is no first text.
+///   `INPUT_LIMIT`, the text has a fault of its tokens, its tokens have a fault of syntax, its tree has a fault of typing, or
+///   its problem isn't answered yet.
 ///
 /// Where they ask for a check:
 ///
-/// - `Done` comes only where the source was read to its end, a line of exactly `%%` stands in what was read, before it a first
-///   text and behind it a part for each goal, and a line was written for each goal that says what its part is worth.
+/// - `Done` comes only where the source was read to its end, a line of exactly `%%` stands in what was read, before it a text
+///   with a problem, whatever that holds, and behind it a part for each goal, and a line was written for each goal that says
+///   what its part is worth as a proof of that goal.
 /// - `Refused` comes only where the line of the first reason was written: the input is too long, it has no such line, what
-///   stands before the line is refused, or what stands behind it are no such parts. Lines count from the start of the input.
+///   stands before the line has no problem, or what stands behind it are no such parts. Lines count from the start of the input.
 ///
 /// And whatever they ask for:
 ///
@@ -147,7 +151,7 @@ fn prove<S: Source, K: Sink>(alloc: Global, source: &mut S, sink: &mut K) -> Sta
     match read_all(alloc, source, INPUT_LIMIT) {
         Ok(text) => answer(alloc, text.as_slice(), sink),
         Err(ReadEnd::ReadFault) => Status::ReadFault,
-        Err(ReadEnd::TooLong) => refuse(alloc, &[], &Refusal::TooLong, sink),
+        Err(ReadEnd::TooLong) => refuse(alloc, &[], &Reason::Plain(Refusal::TooLong), sink),
         Err(ReadEnd::Memory) => Status::Memory,
     }
 }
@@ -168,7 +172,7 @@ fn check<S: Source, K: Sink>(alloc: Global, source: &mut S, sink: &mut K) -> Sta
     match read_all(alloc, source, INPUT_LIMIT) {
         Ok(input) => check_input(alloc, input.as_slice(), sink),
         Err(ReadEnd::ReadFault) => Status::ReadFault,
-        Err(ReadEnd::TooLong) => refuse(alloc, &[], &Refusal::TooLong, sink),
+        Err(ReadEnd::TooLong) => refuse(alloc, &[], &Reason::Plain(Refusal::TooLong), sink),
         Err(ReadEnd::Memory) => Status::Memory,
     }
 }
@@ -188,12 +192,12 @@ fn tell<K: Sink>(sink: &mut K, line: &[u8], status: Status) -> Status
 }
 
 // Writes the line by which a text is refused.
-pub(crate) fn refuse<K: Sink>(alloc: Global, text: &[u8], refusal: &Refusal, sink: &mut K) -> Status
-    requires { IfSome (refused_at refusal.now) (λ at. at ≤ length text.now) }
-    ensures ends { RefusalEnds text.now refusal.now (K.written sink.old) (K.written sink.new) result }
+pub(crate) fn refuse<K: Sink>(alloc: Global, text: &[u8], why: &Reason, sink: &mut K) -> Status
+    requires { PlacesStand text.now why.now }
+    ensures ends { RefusalEnds text.now why.now (K.written sink.old) (K.written sink.new) result }
     ensures write_fault { result ≡ WriteFault → Rose (K.faults sink.old) (K.faults sink.new) }
 {
-    match refusal_text(alloc, text, refusal) {
+    match reason_text(alloc, text, why) {
         Ok(line) => tell(sink, line.as_slice(), Status::Refused),
         Err(_) => Status::Memory,
     }
@@ -204,39 +208,39 @@ fn answer<K: Sink>(alloc: Global, text: &[u8], sink: &mut K) -> Status
     ensures ends { TextEnds text.now (K.written sink.old) (K.written sink.new) result }
     ensures write_fault { result ≡ WriteFault → Rose (K.faults sink.old) (K.faults sink.new) }
 {
-    match read_first(alloc, text) {
-        Ok(first) => answer_goals(alloc, &first, sink),
-        Err(NoText::Refused(why)) => refuse(alloc, text, &why, sink),
-        Err(NoText::Memory) => Status::Memory,
+    match read_problem(alloc, text) {
+        Ok(problem) => {
+            let status = answer_problem(alloc, text, &problem, sink);
+            release_problem(alloc, problem);
+            status
+        }
+        Err(NotRead::Refused(why)) => refuse(alloc, text, &why, sink),
+        Err(NotRead::Memory) => Status::Memory,
     }
 }
 
-// Answers the goals of a first text.
-fn answer_goals<K: Sink>(alloc: Global, first: &FirstText, sink: &mut K) -> Status
-    requires { IsWellPlaced first.now }
-    ensures ends { GoalsEnd first.now (K.written sink.old) (K.written sink.new) result }
+// Answers a text that has this problem.
+fn answer_problem<K: Sink>(alloc: Global, text: &[u8], problem: &Problem, sink: &mut K) -> Status
+    requires { IsProblemOf text.now problem.now }
+    ensures ends { TextEnds text.now (K.written sink.old) (K.written sink.new) result }
     ensures write_fault { result ≡ WriteFault → Rose (K.faults sink.old) (K.faults sink.new) }
 {
-    match signature_of(alloc, first) {
-        Ok(signature) => answer_in_order(alloc, first, &signature, sink),
+    match chains_of(alloc, problem) {
+        Ok(Some(chains)) => answer_goals(alloc, problem, &chains, sink),
+        Ok(None) => refuse(alloc, text, &Reason::Plain(Refusal::NoForm), sink),
         Err(_) => Status::Memory,
     }
 }
 
-// Answers the goals of a first text in order.
-fn answer_in_order<K: Sink>(
-    alloc: Global,
-    first: &FirstText,
-    signature: &Signature,
-    sink: &mut K,
-) -> Status
-    requires placed { IsWellPlaced first.now }
-    requires signature { signature.now ≡ problems.signature first.now }
-    ensures ends { GoalsEnd first.now (K.written sink.old) (K.written sink.new) result }
+// Answers the goals of a problem in order, which are these chains.
+fn answer_goals<K: Sink>(alloc: Global, problem: &Problem, chains: &Chains, sink: &mut K) -> Status
+    requires lawful { IsLawful problem.now.signature }
+    requires chains { AreChains problem.now chains.now }
+    ensures ends { GoalsEnd problem.now (K.written sink.old) (K.written sink.new) result }
     ensures write_fault { result ≡ WriteFault → Rose (K.faults sink.old) (K.faults sink.new) }
 {
-    for goal in first.goals.as_slice() {
-        match answer_goal(alloc, first, signature, goal, sink) {
+    for goal in 0..problem.items.len() {
+        match answer_goal(alloc, problem, chains, goal, sink) {
             Status::Done => {}
             stopped => return stopped,
         }
@@ -247,19 +251,20 @@ fn answer_in_order<K: Sink>(
 // Answers one goal.
 fn answer_goal<K: Sink>(
     alloc: Global,
-    first: &FirstText,
-    signature: &Signature,
-    goal: &Chain,
+    problem: &Problem,
+    chains: &Chains,
+    goal: usize,
     sink: &mut K,
 ) -> Status
-    requires over { IsGoalOver (length first.now.constants) goal.now }
-    requires signature { signature.now ≡ problems.signature first.now }
-    ensures ends { PartEnds first.now goal.now (K.written sink.old) (K.written sink.new) result }
+    requires lawful { IsLawful problem.now.signature }
+    requires chains { AreChains problem.now chains.now }
+    requires goal { goal < length problem.now.items }
+    ensures ends { PartEnds problem.now goal (K.written sink.old) (K.written sink.new) result }
     ensures memory { result ≡ Memory → sink.new ≡ sink.old }
     ensures write_fault { result ≡ WriteFault → Rose (K.faults sink.old) (K.faults sink.new) }
     ensures later { K.faults sink.old ≤ K.faults sink.new }
 {
-    match goal_part(alloc, first, signature, goal) {
+    match goal_part(alloc, problem, chains, goal) {
         Ok(part) => match write_all(sink, part.as_slice()) {
             Ok(()) => Status::Done,
             Err(_) => Status::WriteFault,

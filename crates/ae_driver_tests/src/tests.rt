@@ -72,11 +72,22 @@ const ITSELF_PART: &[u8] =
 const UNKNOWN_PART: &[u8] =
     b"goal g I don't know\nstate 1\nlit -(@or (@not (= a b)) (= a c))\nlit +(= a b)\nlit -(= a c)\nname 0 a\nname 1 b\nname 2 c\nvalue 0 0\nvalue 1 0\nvalue 2 2\nend\n";
 
+// Constants of two types beside a record type and an AC symbol: a state names the constants alone.
+const DECLARED: &[u8] =
+    b"type t\ntype u\ntype p = { x : t; y : int }\nlogic ac join : t, t -> t\nlogic z : u\nlogic a, b, c : t\ngoal g : let x = a in x = b -> (x = c)\n";
+
+const DECLARED_PART: &[u8] =
+    b"goal g I don't know\nstate 1\nlit -(@or (@not (= a b)) (= a c))\nlit +(= a b)\nlit -(= a c)\nname 0 z\nname 1 a\nname 2 b\nname 3 c\nvalue 0 0\nvalue 1 1\nvalue 2 1\nvalue 3 3\nend\n";
+
 const UNKNOWN_PARTS: &[u8] =
     b"goal g1 I don't know\nstate 1\nlit -(= a b)\nname 0 a\nname 1 b\nvalue 0 0\nvalue 1 1\nend\ngoal g2 I don't know\nstate 1\nlit -(= a b)\nname 0 a\nname 1 b\nvalue 0 0\nvalue 1 1\nend\n";
 
 // Texts that are answered, and what is written.
-const ANSWERED: [(&[u8], &[u8]); 6] = [
+const ANSWERED: [(&[u8], &[u8]); 10] = [
+    (DECLARED, DECLARED_PART),
+    (b"", b""),
+    (b"(* a (* b *) c *)", b""),
+    (b"type t\nlogic a : t\ngoal g : (a = a)", ITSELF_PART),
     (TRANSITIVITY, TRANSITIVITY_PART),
     (b"type t\nlogic a : t\ngoal g : a = a", ITSELF_PART),
     (
@@ -94,8 +105,12 @@ const ANSWERED: [(&[u8], &[u8]); 6] = [
     (b"type t\nlogic a, b : t\n", b""),
 ];
 
+// A text such as a program verifier writes.
+const VERIFIER: &[u8] =
+    b"logic match_bool : bool, 'a, 'a -> 'a\naxiom match_bool_True :\n  (forall z:'a. forall z1:'a. (match_bool(true, z, z1) = z))\naxiom match_bool_False :\n  (forall z:'a. forall z1:'a. (match_bool(false, z, z1) = z1))\naxiom CompatOrderMult :\n  (forall x:int. forall y:int. forall z:int. ((x <= y) -> ((0 <= z) ->\n  ((x * z) <= (y * z)))))\ntype 'a ref = { contents : 'a }\nlogic incr : int ref -> int ref\naxiom incr_def :\n  (forall r:int ref [incr(r)]. (incr(r).contents = (r.contents + 1)))\ngoal VC_f :\n  (forall r:int ref. forall y:int. ((r.contents <= y) ->\n  (match_bool(true, incr(r).contents, y) <= (y + 1))))\n";
+
 // Texts that are refused, and the line.
-const REFUSED: [(&[u8], &[u8]); 8] = [
+const REFUSED: [(&[u8], &[u8]); 14] = [
     (b"goal g : a =", b"refused 1:13 unexpected\n"),
     (b"(* a (* b *)", b"refused 1:1 open comment\n"),
     (
@@ -105,8 +120,20 @@ const REFUSED: [(&[u8], &[u8]); 8] = [
     (b"theory T", b"refused 1:1 outside profile\n"),
     (b"logic c : int $", b"refused 1:15 bad byte\n"),
     (b"type t\nlogic : t", b"refused 2:7 unexpected\n"),
-    (b"type t\nlogic a : t\ngoal g : (a = a)", b"refused form\n"),
-    (b"type t\nlogic a : t\ngoal g : a = b", b"refused form\n"),
+    (b"goal g : 1 = 2.0", b"refused 1:14 mismatch int real\n"),
+    (b"goal g : a = a", b"refused 1:10 unknown name a\n"),
+    (
+        b"type t\nlogic a : t\ngoal g : a = b",
+        b"refused 3:14 unknown name b\n",
+    ),
+    (b"type t type t", b"refused 1:13 twice t\n"),
+    (
+        b"axiom z : false\ngoal g : true = 1",
+        b"refused 2:17 mismatch bool int\n",
+    ),
+    (VERIFIER, b"refused form\n"),
+    (b"logic x : int\ngoal g : x = x", b"refused form\n"),
+    (b"axiom z : true", b"refused form\n"),
 ];
 
 // The first of these texts that isn't answered so.
@@ -143,7 +170,27 @@ fn too_long(alloc: Global) -> Result<(Status, Vec<u8>), AllocError> {
     answer(alloc, long.as_slice(), 1000, WHOLE, WHOLE)
 }
 
-// The longest chain there is: 1,001 equations.
+// How the longest text of blanks alone ends.
+fn longest(alloc: Global) -> Result<(Status, Vec<u8>), AllocError> {
+    let blanks = vec![in alloc; b' '; INPUT_LIMIT]?;
+    answer(alloc, blanks.as_slice(), 1000, WHOLE, WHOLE)
+}
+
+// How a text ends whose goal stands in so many brackets.
+fn bracketed(alloc: Global, count: usize) -> Result<(Status, Vec<u8>), AllocError> {
+    let mut text = Vec::new(alloc);
+    text.extend_from_slice(b"type t\nlogic a, b, c, d, e : t\ngoal g : ")?;
+    for _ in 0..count {
+        text.push(b'(')?;
+    }
+    text.extend_from_slice(b"a = a")?;
+    for _ in 0..count {
+        text.push(b')')?;
+    }
+    answer(alloc, text.as_slice(), 1000, WHOLE, WHOLE)
+}
+
+// A chain as long as the depth of a text allows: 1,001 equations.
 fn longest_chain(alloc: Global) -> Result<(Status, Vec<u8>), AllocError> {
     let mut text = Vec::new(alloc);
     text.extend_from_slice(b"type t logic a, b : t goal g : ")?;
@@ -155,11 +202,24 @@ fn longest_chain(alloc: Global) -> Result<(Status, Vec<u8>), AllocError> {
 }
 
 #[test]
-fn limits(rt: HostRuntime) -> Result<(), Fail> {
+fn limit_on_bytes(rt: HostRuntime) -> Result<(), Fail> {
     let (status, line) = too_long(rt.alloc())?;
     assert!(rt;
         status == Status::Refused && line.as_slice() == b"refused input too long\n".as_slice()
     );
+    let (status, nothing) = longest(rt.alloc())?;
+    assert!(rt; status == Status::Done && nothing.is_empty());
+    Ok(())
+}
+
+#[test]
+fn limit_on_depth(rt: HostRuntime) -> Result<(), Fail> {
+    let (status, line) = bracketed(rt.alloc(), 1001)?;
+    assert!(rt;
+        status == Status::Refused && line.as_slice() == b"refused 3:1010 too deep\n".as_slice()
+    );
+    let (status, part) = bracketed(rt.alloc(), 1000)?;
+    assert!(rt; status == Status::Done && part.as_slice() == ITSELF_PART);
     let (status, part) = longest_chain(rt.alloc())?;
     assert!(rt;
         status == Status::Done && part.starts_with(b"goal g Valid\nproof 2\naxioms []\ngoal\n")
@@ -243,7 +303,7 @@ fn words_of_the_command_line(rt: HostRuntime) -> Result<(), Fail> {
 }
 
 // Inputs that are checked, and what is written.
-const CHECKED: [(&[u8], &[u8]); 11] = [
+const CHECKED: [(&[u8], &[u8]); 17] = [
     (
         b"type t\nlogic a, b : t\ngoal g1 : a = b\ngoal g2 : a = a\n%%\ngoal g1 Limit steps 7\njournal 1\nend\ngoal g2 Valid\nproof 2\naxioms []\ngoal\nblock\nh -(= a a)\neq a a refl\nneq 0 0\nrup [] 1 0\nend\n",
         b"goal g1 unchecked\ngoal g2 accepted\n",
@@ -280,6 +340,27 @@ const CHECKED: [(&[u8], &[u8]); 11] = [
         b"type t\nlogic a : t\ngoal g : a = a\r\n%%\ngoal g Valid\nproof 2\naxioms []\ngoal\nblock\nh -(= a a)\neq a a refl\nneq 0 0\nrup [] 1 0\nend\n",
         b"goal g accepted\n",
     ),
+    (
+        b"logic x : real\ngoal g : x = 1.0\n%%\ngoal g Valid\nproof 1\ngoal\nblock\nh -(= x 1/1)\neq x 1/1 lin 0\nneq 0 0\nrup [] 0 1\nend\n",
+        b"goal g refused 1\n",
+    ),
+    (
+        b"type t\nlogic a, b, c, d, e : t\naxiom z : a = b\naxiom y : c = d\ngoal g : b = a\n%%\ngoal g Valid\nproof 2\naxioms [0]\nhyp 0 []\ngoal\nblock\nh +(= a b)\nh -(= b a)\neq a b hyp 0\neq b a sym 0\nneq 1 1\nrup [] 0 1 2\nend\n",
+        b"goal g accepted\n",
+    ),
+    (
+        b"type t\nlogic a, b, c, d, e : t\naxiom z : a = b\naxiom y : c = d\ngoal g : b = a\n%%\ngoal g Valid\nproof 2\naxioms [1]\nhyp 0 []\ngoal\nblock\nh +(= a b)\nh -(= b a)\neq a b hyp 0\neq b a sym 0\nneq 1 1\nrup [] 0 1 2\nend\n",
+        b"goal g refused axioms\n",
+    ),
+    (
+        b"type t\nlogic a, b : t\naxiom z : a = b\ngoal g1 : a = a\naxiom y : b = a\ngoal g2 : b = a\n%%\ngoal g1 Valid\nproof 2\naxioms []\ngoal\nblock\nh -(= a a)\neq a a refl\nneq 0 0\nrup [] 1 0\nend\ngoal g2 Valid\nproof 2\naxioms [2]\nhyp 2 []\ngoal\nrup [] 0 1\nend\n",
+        b"goal g1 accepted\ngoal g2 accepted\n",
+    ),
+    (
+        b"type t\nlogic a, b : t\naxiom z : a = b\ngoal g1 : a = a\naxiom y : b = a\ngoal g2 : b = a\n%%\ngoal g1 Valid\nproof 2\naxioms []\ngoal\nblock\nh -(= a a)\neq a a refl\nneq 0 0\nrup [] 1 0\nend\ngoal g2 Valid\nproof 2\naxioms []\ngoal\nblock\nh -(= a a)\neq a a refl\nneq 0 0\nrup [] 1 0\nend\n",
+        b"goal g1 accepted\ngoal g2 refused 2\n",
+    ),
+    (b"axiom z : true\n%%\n", b""),
     (b"type t\nlogic a : t\n%%", b""),
     (
         b"type t\nlogic a : t\ngoal g : a = a\n%%\ngoal g Valid\nproof 2\naxioms []\ngoal\nblock\nh +(= a a)\neq a a hyp 0\nneq 0 0\nrup [] 1 0\nend\n",
@@ -315,7 +396,7 @@ const UNCHECKED: [(&[u8], &[u8]); 13] = [
     ),
     (
         b"type t\nlogic a : t\ngoal g : a = b\n%%\nnothing",
-        b"refused form\n",
+        b"refused 3:14 unknown name b\n",
     ),
     (
         b"type t\nlogic a : t\ngoal g : a = a\n%%\ngoal h Valid\nproof 2\naxioms []\ngoal\nblock\nh -(= a a)\neq a a refl\nneq 0 0\nrup [] 1 0\nend\n",

@@ -1,6 +1,7 @@
 use Rattle.std.proofs.Common.{Err, inl, inr, ap, subst, []}
 use Rattle.ae_driver.specs.Inner.Endings.{InputEnds, RefusalEnds}
 use Rattle.ae_report.specs.declared.refusal.Refusal.TheVariants as refusal
+use Rattle.ae_driver.specs.declared.reasons.Reason.TheVariants.{Plain}
 use Rattle.ae_driver.proofs.Answered.{is_read, is_too_long}
 use Rattle.ae_driver.proofs.Checked.{done_checking_is, refused_checking_is, memory_checking_is, cut_off_checking_is, complete_checking_is, input_not_too_long}
 use Rattle.ae_driver.proofs.program.check.Goals as goal
@@ -58,7 +59,7 @@ returns-in-Err-TooLong-clause-refused g c =
     let a = g.K.Sink.written c.args.sink.now in
     let e = g.K.Sink.written c.refuse.new.sink in
     λ ended.
-    let told = subst (λ s. RefusalEnds [] refusal.TooLong a e s) ended c.refuse.ensures.ends in
+    let told = subst (λ s. RefusalEnds [] (Plain refusal.TooLong) a e s) ended c.refuse.ensures.ends in
     inr (record {
       too_long = is_too_long (g.S.Source.left c.args.source.now) (c.in-Err-TooLong.ensures.longer (ap Err c.in-Err-TooLong.field-0-is));
       line = told.0;

@@ -1,6 +1,7 @@
 use Rattle.std.proofs.Common.{Err, inr, ap, subst, []}
 use Rattle.ae_driver.specs.Inner.Endings.{TextEnds, RefusalEnds}
 use Rattle.ae_report.specs.declared.refusal.Refusal.TheVariants as refusal
+use Rattle.ae_driver.specs.declared.reasons.Reason.TheVariants.{Plain}
 use Rattle.ae_driver.proofs.Answered.{cut_off_is, is_read, is_too_long, complete_is, not_too_long}
 use Rattle.ae_driver.proofs.program.prove.Goals as goal
 
@@ -30,7 +31,7 @@ returns-in-Err-TooLong-clause-refused g c =
     let a = g.K.Sink.written c.args.sink.now in
     let e = g.K.Sink.written c.refuse.new.sink in
     λ ended.
-    let told = subst (λ s. RefusalEnds [] refusal.TooLong a e s) ended c.refuse.ensures.ends in
+    let told = subst (λ s. RefusalEnds [] (Plain refusal.TooLong) a e s) ended c.refuse.ensures.ends in
     inr (record {
       too_long = is_too_long (g.S.Source.left c.args.source.now) (c.in-Err-TooLong.ensures.longer (ap Err c.in-Err-TooLong.field-0-is));
       line = told.0;

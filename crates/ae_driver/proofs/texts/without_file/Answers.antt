@@ -1,4 +1,4 @@
-use Rattle.ae_driver.specs.Output.{by_syntax}
+use Rattle.ae_driver.specs.Problems.{by_syntax}
 use Rattle.ae_syntax.proofs.Places.{fault_within}
 use Rattle.ae_driver.proofs.texts.without_file.Goals as goal
 

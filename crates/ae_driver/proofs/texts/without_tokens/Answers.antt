@@ -1,4 +1,4 @@
-use Rattle.ae_driver.specs.Output.{by_lexis}
+use Rattle.ae_driver.specs.Problems.{by_lexis}
 use Rattle.ae_syntax.proofs.Places.{lex_fault_within}
 use Rattle.ae_driver.proofs.texts.without_tokens.Goals as goal
 
