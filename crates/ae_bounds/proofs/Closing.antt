@@ -19,7 +19,7 @@ use Rattle.ae_bounds.specs.declared.rows.Row.{Row}
 use Rattle.ae_bounds.specs.declared.combining.Opposed.{Opposed}
 use Rattle.ae_bounds.specs.Combinations.{IsThere, IsExtended, HasZero, IsHeld, IsDone}
 use Rattle.ae_bounds.specs.Combinations.IsExtended.{as_it_was, one_more, zero_more}
-use Rattle.ae_bounds.specs.Inner.Pairs.{HaveLast, IsPairThere, AreClosedBelow}
+use Rattle.ae_bounds.specs.Inner.Pairs.{HaveLast, IsPairThere, ArePaired, AreClosedBelow}
 
 -- ---- the opposed name in the meanings
 pub opposed_lower : (p q : Lin) (o : Opposed) → IsNormal p → HaveLast p q o → IsLower o.name (meaning p)
@@ -103,19 +103,6 @@ pub longer : (rows rs : List Row) (js ks : List Line) → IsExtended rows js rs 
 longer rows rs js ks e = let g = grown rows js rs ks e in let l = length-append rows g.0 in let h : length rs ≡ length (rows ++ g.0) = ap (λ (w : List Row). length w) g.1 in omega (arith, l, h)
 
 -- ---- the pairs of one row with those before it
-abbrev pub ArePaired : List Row → ℕ → ℕ → List Row → Type 0
-ArePaired rows place t new = (k : ℕ) → k < t → IsPairThere rows place k new × IsPairThere rows k place new
-
-pub none_paired : (rows : List Row) (place : ℕ) (new : List Row) → ArePaired rows place 0 new
-none_paired rows place new k l = absurd (omega (arith, l))
-
-pub paired_step : (rows : List Row) (place t : ℕ) (new rs : List Row) (js ks : List Line) → IsExtended new js rs ks → ArePaired rows place t new → IsPairThere rows place t rs → IsPairThere rows t place rs → ArePaired rows place (t + 1) rs
-paired_step rows place t new rs js ks e h one other k l =
-    elim (dec_lt k t) [
-      | yes m ↦ (let a = h k m in (pair_more rows place k new rs js ks e a.0, pair_more rows k place new rs js ks e a.1))
-      | no m ↦ (let s : t ≡ k = omega (arith, l, m) in (subst (λ (n : ℕ). IsPairThere rows place n rs) s one, subst (λ (n : ℕ). IsPairThere rows n place rs) s other))
-    ]
-
 pub closed_step : (rows rs : List Row) (js ks : List Line) (place : ℕ) → place < length rows → IsExtended rows js rs ks → ArePaired rows place place rs → AreClosedBelow place rows → AreClosedBelow (place + 1) rs
 closed_step rows rs js ks place l e pairs closed i j li lj = pair_up rows rs js ks i j rs e (omega (arith, l, li)) (omega (arith, l, lj)) (below (dec_lt i place) (dec_lt j place))
   where

@@ -4,6 +4,7 @@ pub mod SameDirection
 pub mod Indexing
 pub mod Pushed
 pub mod Closing
+pub mod LargestNames
 pub mod Lasts
 pub mod Made
 pub mod Noted

@@ -74,15 +74,15 @@ by_plain (Combined lower upper) (Some u) r e f = no (λ p. some_none u r.unround
 by_plain (Combined lower upper) None r e f = yes (lower, upper, e, f)
 
 -- a combination that wasn't rounded has its own form and strictness
-plain_is : (l : Lin) (s : Bool) (r : Row) → IsRowOf l s r → r.unrounded ≡ None → (r.lin ≡ l) × (r.strict ≡ s)
+pub plain_is : (l : Lin) (s : Bool) (r : Row) → IsRowOf l s r → r.unrounded ≡ None → (r.lin ≡ l) × (r.strict ≡ s)
 plain_is l s r (as_it_is a b c d) n = (a, b)
 plain_is l s r (rounded a b c d e) n = absurd (some_none (record { lin = l; strict = s }) r.unrounded e n)
 
 -- ---- a row with a name isn't 0
-lower_nonzero : (n : ℕ) (r : Row) → IsLower n (meaning r.lin) → ¬ IsZero (meaning r.lin)
+pub lower_nonzero : (n : ℕ) (r : Row) → IsLower n (meaning r.lin) → ¬ IsZero (meaning r.lin)
 lower_nonzero n r low z = true_false (sym low.sign ∙ ap is_positive (z.over.absent n (omega arith)) ∙ positive_zero)
 
-upper_nonzero : (n : ℕ) (r : Row) → IsUpper n (meaning r.lin) → ¬ IsZero (meaning r.lin)
+pub upper_nonzero : (n : ℕ) (r : Row) → IsUpper n (meaning r.lin) → ¬ IsZero (meaning r.lin)
 upper_nonzero n r up z = true_false (sym up.sign ∙ ap (λ x. is_positive (neg_ℚ x)) (z.over.absent n (omega arith)) ∙ ap is_positive neg_zero_q ∙ positive_zero)
 
 -- ---- a rounded row has names
@@ -94,7 +94,7 @@ divided_some d (q ∷ qs) (r ∷ rs) a e = cc
 pub rounded_nonzero : (strict : Bool) (l r : Lin) → IsNormal r → l.parts ≢ [] → IsRounded strict l r → IsZero (meaning r) → ⊥
 rounded_nonzero strict l r n m d z = m (divided_some d.divisor l.parts r.parts d.divided (form_zero r n z).0)
 
-row_nonzero : (l : Lin) (s : Bool) (r : Row) (u : Unrounded) → IsNormal r.lin → IsRowOf l s r → r.unrounded ≡ Some u → IsZero (meaning r.lin) → ⊥
+pub row_nonzero : (l : Lin) (s : Bool) (r : Row) (u : Unrounded) → IsNormal r.lin → IsRowOf l s r → r.unrounded ≡ Some u → IsZero (meaning r.lin) → ⊥
 row_nonzero l s r u n (as_it_is a b c d) e z = some_none u r.unrounded e c
 row_nonzero l s r u n (rounded a b c d f) e z = rounded_nonzero s l r.lin n b c z
 

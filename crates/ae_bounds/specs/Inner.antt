@@ -1,3 +1,4 @@
 -- What the functions of this crate need. A reader need not believe any of it.
 pub mod Directions
+pub mod Heads
 pub mod Pairs

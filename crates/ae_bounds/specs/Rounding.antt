@@ -32,8 +32,9 @@ pub data HasForm (r : Row) : Lin → Type 0 where
   own : HasForm r r.lin
   assumed : (tag : ℕ) (u : Unrounded) → r.from ≡ Assumed tag → r.unrounded ≡ Some u → HasForm r u.lin
 
--- what a row was before it was rounded
+-- what a row of sort `int` was before it was rounded
 pub record WasRounded (u : Unrounded) (r : Row) : Type 0 where
+  pub integral : r.integral ≡ true
   pub normal : IsNormal u.lin
   pub names : u.lin.parts ≢ []
   pub is : IsRounded u.strict u.lin r.lin

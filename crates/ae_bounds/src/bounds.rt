@@ -1,12 +1,14 @@
 //! The rows that were assumed, and the combinations that were noted.
 
-ghost use Rattle.std.specs.Prelude.{ℕ, ◌≡◌, ◌<◌, ◌≤◌, ◌+◌, ◌^◌, true, false, List, ◌&&◌, ◌||◌, ◌++◌, ◌∷◌, [], length, OnOk, OnErr, IfOk, IfSome, IfNone, Err};
+ghost use Rattle.std.specs.Prelude.{ℕ, ◌≡◌, ◌<◌, ◌≤◌, ◌+◌, ◌^◌, true, false, List, ◌&&◌, ◌||◌, ◌++◌, ◌∷◌, [], length, slice_get, nat_eq, Some, OnOk, OnErr, IfOk, IfSome, IfNone, Err};
 ghost use Rattle.std.specs.List.{AllByRecursion};
 ghost use Rattle.ae_num.specs.Forms.{IsNormal, meaning};
 ghost use Rattle.ae_journal.specs.Journals.{counted_in};
 ghost use Rattle.ae_journal.specs.declared.answers.WideAt.{WideAt};
 ghost use Rattle.ae_journal.specs.declared.lines.Line.{Line};
 ghost use Rattle.indexmap.specs.IndexSet.{contains};
+ghost use Rattle.indexmap.specs.IndexMap.{get};
+ghost use Rattle.ae_bounds.specs.Inner.Heads.{AreBefore, IsHeadAt};
 ghost use Rattle.ae_theory.specs.declared.theory.Fail.TheVariants.{Steps, Number};
 ghost use Rattle.ae_bounds.specs.declared.rows.Row.{Row};
 ghost use Rattle.ae_bounds.specs.Rounding.{IsAssumed, AreRounded};
@@ -15,18 +17,19 @@ ghost use Rattle.ae_ineq.specs.Sums.{HasTightSum, HasRefutedSum};
 ghost use Rattle.ae_bounds.specs.Findings.{given_in, AreFounded, IsRefutedAt, IsTightAt, NoneIsRefuted};
 ghost use Rattle.ae_bounds.specs.Combinations.{IsHeld, IsCombined, IsExtended, AreClosed, HasZero, IsWideIn};
 ghost use Rattle.ae_bounds.specs.Inner.Directions.{AreIndexed, IsDirectionOf, is_same};
-ghost use Rattle.ae_bounds.specs.Inner.Pairs.{IsMadeOf, IsPairThere, IsKept};
+ghost use Rattle.ae_bounds.specs.Inner.Pairs.{IsMadeOf, IsPairThere, ArePaired, IsKept};
 
 use crate::combining::{combined, opposed_at};
 use crate::directions::{Direction, direction_of, earlier_direction, is_zero};
 use crate::finding::{Found, found_in};
+use crate::heads::{enter, head_of, last_at, place_before};
 use crate::noting::{add, add_assumed, has_direction, note};
 use crate::rounding::row_of;
 use crate::rows::{Origin, Row};
 use ae_journal::journal::Journal;
-use ae_num::forms::Lin;
+use ae_num::forms::{Lin, Name};
 use ae_theory::theory::Fail;
-use indexmap::IndexSet;
+use indexmap::{IndexMap, IndexSet};
 use sqlite_items::Items;
 use std::alloc::{AllocError, Global};
 use std::marker::Model;
@@ -148,26 +151,33 @@ fn combine_rows(
     }
 }
 
-/// Notes and adds the combinations of a row with those before it.
+/// Notes and adds the combinations of a row with those before it that have the same largest name, of which `head` is the last.
 fn combine_earlier(
     alloc: Global,
     rows: &mut Items<Row>,
     directions: &mut IndexSet<Direction>,
+    earlier: &Items<Option<usize>>,
     journal: &mut Journal,
     place: usize,
+    head: Option<usize>,
 ) -> Result<(), Fail>
-    requires kept { IsKept rows.old directions.old.keys place }
+    requires indexed { AreIndexed rows.old directions.old.keys }
     requires place { place < length rows.old }
-    ensures closed { OnOk result (IsKept rows.new directions.new.keys (place + 1)) }
-    ensures kept { IsKept rows.new directions.new.keys place }
+    requires within { length earlier.now ≡ place }
+    requires before { AreBefore rows.old earlier.now }
+    requires head { IsHeadAt rows.old place head }
+    ensures paired { OnOk result (ArePaired rows.old place place rows.new) }
+    ensures indexed { AreIndexed rows.new directions.new.keys }
     ensures extended { IsExtended rows.old journal.old.lines rows.new journal.new.lines }
     ensures limit { journal.new.limit ≡ journal.old.limit }
     ensures steps { result ≡ Err Steps → counted_in journal.new.lines ≡ journal.new.limit }
     ensures number { (wide : WideAt) → result ≡ Err (Number wide) → IsWideIn rows.new wide }
 {
-    for other in 0..place {
+    let mut at = head;
+    'partners: while let Some(other) = at {
         combine_rows(alloc, rows, directions, journal, place, other)?;
         combine_rows(alloc, rows, directions, journal, other, place)?;
+        at = place_before(earlier, other);
     }
     Ok(())
 }
@@ -192,23 +202,26 @@ fn close_rows(
     alloc: Global,
     rows: &mut Items<Row>,
     directions: &mut IndexSet<Direction>,
-    closed: &mut usize,
+    latest: &mut IndexMap<Name, usize>,
+    earlier: &mut Items<Option<usize>>,
     journal: &mut Journal,
 ) -> Result<(), Fail>
-    requires kept { IsKept rows.old directions.old.keys closed.old }
+    requires kept { IsKept rows.old directions.old.keys (get nat_eq latest.old) earlier.old }
     ensures closed { OnOk result (AreClosed rows.new) }
-    ensures kept { IsKept rows.new directions.new.keys closed.new }
+    ensures kept { IsKept rows.new directions.new.keys (get nat_eq latest.new) earlier.new }
     ensures extended { IsExtended rows.old journal.old.lines rows.new journal.new.lines }
     ensures limit { journal.new.limit ≡ journal.old.limit }
     ensures steps { result ≡ Err Steps → counted_in journal.new.lines ≡ journal.new.limit }
     ensures number { (wide : WideAt) → result ≡ Err (Number wide) → IsWideIn rows.new wide }
 {
-    for place in *closed..usize::MAX {
+    for place in earlier.len()..usize::MAX {
         if is_past(rows, place) {
             return Ok(());
         }
-        combine_earlier(alloc, rows, directions, journal, place)?;
-        *closed = place + 1;
+        let part = last_at(rows, place);
+        let head = head_of(latest, part);
+        combine_earlier(alloc, rows, directions, earlier, journal, place, head)?;
+        enter(latest, earlier, part, head)?;
     }
     count_rows(rows);
     Ok(())
@@ -219,8 +232,10 @@ fn close_rows(
 pub struct Bounds {
     rows: Items<Row>,
     directions: IndexSet<Direction>,
-    /// How many of the first rows have all their combinations.
-    closed: usize,
+    /// For each largest name the last row that has it, of the first rows, which have all their combinations.
+    latest: IndexMap<Name, usize>,
+    /// For each of these the one before it that has the same largest name.
+    earlier: Items<Option<usize>>,
 }
 
 impl Model for Bounds {
@@ -233,11 +248,13 @@ impl Model for Bounds {
 
     ghost coded = { coded_list row_contract.the_row.coded };
 
+    ghost use Rattle.std.specs.Prelude.{nat_eq};
+    ghost use Rattle.indexmap.specs.IndexMap.{get};
     ghost use Rattle.ae_bounds.specs.Inner.Pairs.{IsKept};
 
     ghost view = { λ b. b.rows };
 
-    ghost invariant = { λ b. IsKept b.rows b.directions.keys b.closed };
+    ghost invariant = { λ b. IsKept b.rows b.directions.keys (get nat_eq b.latest) b.earlier };
 }
 
 impl Bounds {
@@ -248,7 +265,8 @@ impl Bounds {
         Bounds {
             rows: Items::new(alloc),
             directions: IndexSet::new(alloc),
-            closed: 0,
+            latest: IndexMap::new(alloc),
+            earlier: Items::new(alloc),
         }
     }
 
@@ -303,7 +321,8 @@ impl Bounds {
             alloc,
             &mut self.rows,
             &mut self.directions,
-            &mut self.closed,
+            &mut self.latest,
+            &mut self.earlier,
             journal,
         )
     }

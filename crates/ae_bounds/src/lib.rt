@@ -5,6 +5,7 @@ pub mod bounds;
 mod combining;
 mod directions;
 pub mod finding;
+mod heads;
 mod noting;
 mod rounding;
 pub mod rows;

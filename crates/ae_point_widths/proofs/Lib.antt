@@ -1,3 +1,3 @@
 mod Putting
 mod Bounds
-mod Steps
+pub mod Steps

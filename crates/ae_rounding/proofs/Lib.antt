@@ -1,4 +1,4 @@
 pub mod Quotients
 pub mod Whole
 pub mod Legal
-mod Lines
+pub mod Lines

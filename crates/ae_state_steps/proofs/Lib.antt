@@ -1,6 +1,6 @@
 mod Stated
-mod OverTerms
-mod SideSorts
+pub mod OverTerms
+pub mod SideSorts
 mod Changes
 mod Orders
 mod Many

@@ -1,5 +1,5 @@
 -- Pairs of rows at places, and the last parts of their forms.
-use Rattle.std.specs.Prelude.{ℕ, ◌<◌, ◌≤◌, length, pos, ◌<ℤ◌, ◌≡◌, List, Some, slice_get}
+use Rattle.std.specs.Prelude.{ℕ, ◌<◌, ◌≤◌, length, pos, ◌<ℤ◌, ◌≡◌, List, Option, Some, slice_get}
 use Rattle.ae_num.specs.declared.forms.Lin.{Lin}
 use Rattle.ae_num.specs.Forms.{first_wide, combine_steps}
 use Rattle.ae_journal.specs.declared.answers.NumStep.TheVariants.{Combine}
@@ -12,6 +12,7 @@ use Rattle.ae_bounds.specs.declared.combining.Opposed.{Opposed}
 use Rattle.ae_bounds.specs.Combinations.{IsCombinationOf, IsDone}
 use Rattle.ae_bounds.specs.Rounding.{AreRounded}
 use Rattle.ae_bounds.specs.Findings.{AreFounded}
+use Rattle.ae_bounds.specs.Inner.Heads.{AreHeads}
 
 -- the name is the last one of both forms, with these factors
 pub record HaveLast (lower upper : Lin) (o : Opposed) : Type 0 where
@@ -36,14 +37,19 @@ pub record IsMadeOf (rows : List Row) (i j : ℕ) (r : Row) : Type 0 where
 abbrev pub IsPairThere : List Row → ℕ → ℕ → List Row → Type 0
 IsPairThere rows i j new = (p q : Row) (o : Opposed) → slice_get rows i ≡ Some p → slice_get rows j ≡ Some q → HaveLast p.lin q.lin o → IsDone new p q o.name
 
+-- so it is with a row and the first t rows, both ways
+abbrev pub ArePaired : List Row → ℕ → ℕ → List Row → Type 0
+ArePaired rows place t new = (k : ℕ) → k < t → IsPairThere rows place k new × IsPairThere rows k place new
+
 -- so it is with the first k rows
 abbrev pub AreClosedBelow : ℕ → List Row → Type 0
 AreClosedBelow k rows = (i j : ℕ) → i < k → j < k → IsPairThere rows i j rows
 
--- the state of an object: rows with their directions, each combination one of rows before it, and how many of the first rows have all their combinations
-pub record IsKept (rows : List Row) (ds : List Direction) (closed : ℕ) : Type 0 where
+-- the state of an object: rows with their directions, each combination one of rows before it, and the first rows, which have all their combinations, by their largest names
+pub record IsKept (rows : List Row) (ds : List Direction) (latest : ℕ → Option ℕ) (earlier : List (Option ℕ)) : Type 0 where
   pub indexed : AreIndexed rows ds
-  pub within : closed ≤ length rows
+  pub within : length earlier ≤ length rows
   pub founded : AreFounded rows
   pub rounded : AreRounded rows
-  pub pairs : AreClosedBelow closed rows
+  pub heads : AreHeads rows latest earlier
+  pub pairs : AreClosedBelow (length earlier) rows

@@ -1,0 +1,12 @@
+mod Saying
+mod Sorting
+pub mod Naming
+pub mod Marking
+mod Adding
+pub mod Rounding
+pub mod OneMore
+mod Ending
+mod Blocks
+mod TightSums
+mod Listing
+mod Dividing

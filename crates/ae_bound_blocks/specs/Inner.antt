@@ -1,0 +1,4 @@
+-- What the functions of this crate need. A reader need not believe any of it.
+pub mod Marks
+pub mod Emitting
+pub mod Listed

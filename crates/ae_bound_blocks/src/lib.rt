@@ -1,0 +1,9 @@
+//! Blocks of rows that can't hold: from the derivations of the assumed rows, line by line, to the end.
+#![tactic(auto)]
+
+mod ancestors;
+mod emitting;
+pub mod explaining;
+pub mod given;
+mod lines;
+pub mod tight;

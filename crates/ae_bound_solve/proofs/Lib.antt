@@ -1,0 +1,2 @@
+mod OneSort
+mod Extended

@@ -1,0 +1,3 @@
+-- Kept rows in one call: what gives the assumed rows, and what is asked of the names in rows of sort `int` (Given). Inner holds nothing to be believed.
+pub mod Given
+pub mod Inner

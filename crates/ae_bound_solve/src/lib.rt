@@ -1,0 +1,7 @@
+//! Kept rows in one call: their point, why they can't hold, or which of them are tight.
+#![tactic(auto)]
+
+pub mod answer;
+mod refuted;
+pub mod solving;
+mod sorts;
