@@ -1,0 +1,4 @@
+mod Maps
+mod Kept
+mod Puts
+mod Mapping
