@@ -1,0 +1,2 @@
+-- Names by what they apply (Index).
+pub mod Index

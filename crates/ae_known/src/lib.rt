@@ -1,0 +1,4 @@
+//! The names of a store by what they apply.
+#![tactic(auto)]
+
+pub mod known;
