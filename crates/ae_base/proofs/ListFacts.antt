@@ -1,14 +1,14 @@
 -- Lists and their places. The library has lemmas.List (map-append, map_push, map-id, append_assoc, append-nil, reverse-append,
 -- length-append, length-reverse, take_more, take_all, take-append-le, drop_all, get_or_default, set-get_or, get_or_append_left, ..),
 -- lemmas.List.Folds (list_all-append, list_all-map, list_any-append, ..), lemmas.Option (slice_get-map, ..) and Math.Seq.
-use Rattle.std.specs.Prelude.{ℕ, zero, suc, ◌+◌, ◌<◌, ◌≡◌, Bool, true, ◌⊎◌, List, [], ◌∷◌, ◌++◌, map, length, reverse, slice_get, Some}
+use Rattle.std.specs.Prelude.{ℕ, zero, suc, ◌+◌, ◌<◌, ◌≡◌, Bool, true, ◌||◌, nat_eq, ◌⊎◌, List, [], ◌∷◌, ◌++◌, map, length, reverse, slice_get, Some}
 use Rattle.std.specs.List.{list_all, list_any}
 use Rattle.std.proofs.Common.{refl, sym, ap, ◌∙◌, inl, inr, arith, get_or, take, drop}
-use Rattle.std.proofs.lemmas.Bool.{and_parts, and_from}
+use Rattle.std.proofs.lemmas.Bool.{and_parts, and_from, eqb-true}
 use Rattle.std.proofs.lemmas.Option.{none-some, same_Some, slice_get-map, slice_get-get_or, get_or_from_slice_get, slice_get_within}
 use Rattle.std.specs.Option.{option_map}
 use Rattle.std.proofs.lemmas.List.{map-append, reverse-append}
-use Rattle.ae_base.proofs.Tests.{by_either, false_true}
+use Rattle.ae_base.proofs.Tests.{by_bool, by_either, false_true}
 
 -- ---- the first and the rest
 pub cons_head : {X : Type 0} (x y : X) (xs ys : List X) → x ∷ xs ≡ y ∷ ys → x ≡ y
@@ -19,6 +19,10 @@ cons_tail x y xs ys e = ap (drop 1) e
 
 pub cons_same : {X : Type 0} (x y : X) (xs ys : List X) → x ≡ y → xs ≡ ys → x ∷ xs ≡ y ∷ ys
 cons_same x y xs ys p q = λ i. p i ∷ q i
+
+pub empty_parts : {X : Type 0} (xs ys : List X) → xs ++ ys ≡ [] → (xs ≡ []) × (ys ≡ [])
+empty_parts [] ys e = (refl, e)
+empty_parts (x ∷ xs) ys e = absurd (let z : ⊥ = cc e in z)
 
 -- ---- maps
 pub map_map : {X Y Z : Type 0} (f : X → Y) (g : Y → Z) (xs : List X) → map g (map f xs) ≡ map (λ x. g (f x)) xs
@@ -37,6 +41,13 @@ value_at (x ∷ xs) i l = (get_or (x ∷ xs) i x, slice_get-get_or (x ∷ xs) i 
 
 pub get_map : {X Y : Type 0} (f : X → Y) (xs : List X) (k : ℕ) (x : X) → slice_get xs k ≡ Some x → slice_get (map f xs) k ≡ Some (f x)
 get_map f xs k x e = slice_get-map f xs k ∙ ap (option_map f) e
+
+-- the place of a number that is among those of a list
+pub number_at : (ns : List ℕ) (n : ℕ) → list_any (nat_eq n) ns ≡ true → (k : ℕ) × (slice_get ns k ≡ Some n)
+number_at [] n e = false_true e
+number_at (m ∷ ns) n e =
+    by_bool (nat_eq n m) (λ t. (0, ap Some (sym (eqb-true n m t))))
+    (λ f. let x = number_at ns n (sym (ap (λ b. b || list_any (nat_eq n) ns) f) ∙ e) in (suc x.0, x.1))
 
 -- a place of the first of two lists
 pub get_before : {X : Type 0} (xs ys : List X) (i : ℕ) → i < length xs → slice_get (xs ++ ys) i ≡ slice_get xs i

@@ -5,7 +5,7 @@ use Rattle.std.proofs.Common.{arith, refl, sym, ap, ◌∙◌, subst, inl, inr}
 use Rattle.std.proofs.lemmas.List.{length-take-le}
 use Rattle.std.proofs.lemmas.Option.{slice_get_within}
 use Rattle.std.proofs.lemmas.List.Elements.{Contains-append_left, Contains-append_right}
-use Rattle.std.proofs.Math.Bool.{or-false}
+use Rattle.std.proofs.Math.Bool.{or-false, or_assoc}
 use native.Mathlib.Decide.{ℕ_discrete}
 use Rattle.ae_base.proofs.ListFacts.{get_front}
 use Rattle.ae_math.specs.Fractions.{ℚ, one_ℚ, neg_ℚ, ◌*ℚ◌, is_positive}
@@ -73,11 +73,7 @@ strict_times a (u ∷ us) = ap (λ b. u.row.strict || b) (strict_times a us)
 
 strict_both : (a b : ℚ) (us vs : List Share) → some_strict (map (times a) us ++ map (times b) vs) ≡ some_strict us || some_strict vs
 strict_both a b [] vs = strict_times b vs
-strict_both a b (u ∷ us) vs = ap (λ c. u.row.strict || c) (strict_both a b us vs) ∙ joined u.row.strict (some_strict us) (some_strict vs)
-  where
-    joined : (x y z : Bool) → x || (y || z) ≡ (x || y) || z
-    joined true y z = refl
-    joined false y z = refl
+strict_both a b (u ∷ us) vs = ap (λ c. u.row.strict || c) (strict_both a b us vs) ∙ sym (or_assoc u.row.strict (some_strict us) (some_strict vs))
 
 nonzero_front : (a : ℚ) (us vs : List Share) → SomeNonzero us → SomeNonzero (map (times a) us ++ vs)
 nonzero_front a [] vs h = absurd h

@@ -59,21 +59,18 @@ module _ (table : List ℕ) (hyps : List Lit) where
 
 -- ---- equal values follow
 module _ (table : List ℕ) (es : List Equation) (g : Equation) where
-  abbrev n : ℕ
-  n = length table
-
   -- whatever lines there are, more lead to the equation of two constants
   Equals : ℕ → ℕ → Type 0
   Equals c d = (lines : List EqLine) → IsDerivation table (assumed table es g) lines → Leads table (assumed table es g) lines c d
 
-  turned : (c d : ℕ) → c < n → d < n → Equals c d → Equals d c
+  turned : (c d : ℕ) → c < length table → d < length table → Equals c d → Equals d c
   unfolding Equals
   turned c d lc ld h lines all =
       let s = h lines all in
       from_before table (assumed table es g) lines s.more d c
       (one_line table (assumed table es g) (lines ++ s.more) (EqSym (constant table d) (constant table c) s.at) d c s.all ld lc refl tt s.is)
 
-  joined : (c m d : ℕ) → c < n → d < n → Equals c m → Equals m d → Equals c d
+  joined : (c m d : ℕ) → c < length table → d < length table → Equals c m → Equals m d → Equals c d
   unfolding Equals
   joined c m d lc ld h k lines all =
       let s = h lines all in
@@ -84,9 +81,9 @@ module _ (table : List ℕ) (es : List Equation) (g : Equation) where
       (constant table m, stated_before (lines ++ s.more) t.more s.at (equal (constant table c) (constant table m)) s.is, t.is)))
 
   Explained : List ℕ → Type 0
-  Explained vs = (k : ℕ) → k < n → Equals (get_or vs k 0) k
+  Explained vs = (k : ℕ) → k < length table → Equals (get_or vs k 0) k
 
-  step : (vs : List ℕ) (e : Equation) → IsValues n vs → IsEquationOver n e → Equals e.left e.right → Explained vs → Explained (merged vs e)
+  step : (vs : List ℕ) (e : Equation) → IsValues (length table) vs → IsEquationOver (length table) e → Equals e.left e.right → Explained vs → Explained (merged vs e)
   unfolding Explained
   step vs e is w h x k lt =
       let a = get_or vs e.left 0 in
@@ -99,8 +96,8 @@ module _ (table : List ℕ) (es : List Equation) (g : Equation) where
       ⊎_elim (λ o. subst (λ p. Equals p (max a b)) (sym o.0) (subst (λ q. Equals a q) (sym o.1) both))
       (λ o. subst (λ p. Equals p (max a b)) (sym o.0) (subst (λ q. Equals b q) (sym o.1) (turned a b la lb both)))
       (by_order a b) in
-      let small_within : min a b < n = ⊎_elim (λ o. subst (λ p. p < n) (sym o.0) la) (λ o. subst (λ p. p < n) (sym o.0) lb) (by_order a b) in
-      let at = merged_at n vs is e w k lt in
+      let small_within : min a b < length table = ⊎_elim (λ o. subst (λ p. p < length table) (sym o.0) la) (λ o. subst (λ p. p < length table) (sym o.0) lb) (by_order a b) in
+      let at = merged_at (length table) vs is e w k lt in
       let l = max a b in
       subst (λ u. Equals u k) (sym at)
       (⊎_elim
@@ -109,7 +106,7 @@ module _ (table : List ℕ) (es : List Equation) (g : Equation) where
       (eqb_tells v l))
 
   -- each hypothesis follows
-  given : (hs : List Equation) (k : ℕ) → ((i : ℕ) (e : Equation) → slice_get hs i ≡ Some e → slice_get es (k + i) ≡ Some e) → AllByRecursion (IsEquationOver n) hs → AllByRecursion (λ e. Equals e.left e.right) hs
+  given : (hs : List Equation) (k : ℕ) → ((i : ℕ) (e : Equation) → slice_get hs i ≡ Some e → slice_get es (k + i) ≡ Some e) → AllByRecursion (IsEquationOver (length table)) hs → AllByRecursion (λ e. Equals e.left e.right) hs
   unfolding Equals
   given [] k at ws = tt
   given (e ∷ hs) k at ws = (
@@ -119,14 +116,14 @@ module _ (table : List ℕ) (es : List Equation) (g : Equation) where
     given hs (k + 1) (λ i d h. subst (λ j. slice_get es j ≡ Some d) (let z : k + suc i ≡ k + 1 + i = omega arith in z) (at (suc i) d h)) ws.1,
   )
 
-  explained : (vs : List ℕ) (hs : List Equation) → IsValues n vs → AllByRecursion (IsEquationOver n) hs → AllByRecursion (λ e. Equals e.left e.right) hs → Explained vs → Explained (values_after vs hs)
+  explained : (vs : List ℕ) (hs : List Equation) → IsValues (length table) vs → AllByRecursion (IsEquationOver (length table)) hs → AllByRecursion (λ e. Equals e.left e.right) hs → Explained vs → Explained (values_after vs hs)
   explained vs [] is ws hold x = x
-  explained vs (e ∷ hs) is ws hold x = explained (merged vs e) hs (merged_are n vs is e ws.0) ws.1 hold.1 (step vs e is ws.0 hold.0 x)
+  explained vs (e ∷ hs) is ws hold x = explained (merged vs e) hs (merged_are (length table) vs is e ws.0) ws.1 hold.1 (step vs e is ws.0 hold.0 x)
 
-  at_first : Explained (from 0 n)
+  at_first : Explained (from 0 (length table))
   unfolding Explained Equals
   at_first k lt =
-      subst (λ u. (lines : List EqLine) → IsDerivation table (assumed table es g) lines → Leads table (assumed table es g) lines u k) (sym (get_first n k lt))
+      subst (λ u. (lines : List EqLine) → IsDerivation table (assumed table es g) lines → Leads table (assumed table es g) lines u k) (sym (get_first (length table) k lt))
       (λ lines all. one_line table (assumed table es g) lines (EqRefl (constant table k) (constant table k)) k k all lt lt refl tt refl)
 
   refutation_of : Equals g.left g.right → (r : Refutation) × Refutes table es g r
@@ -138,12 +135,12 @@ module _ (table : List ℕ) (es : List Equation) (g : Equation) where
       )
 
   -- a refutation, where the values of the two sides of the end are equal
-  refuted : AllByRecursion (IsEquationOver n) es → IsEquationOver n g → get_or (values_after (from 0 n) es) g.left 0 ≡ get_or (values_after (from 0 n) es) g.right 0 → (r : Refutation) × Refutes table es g r
+  refuted : AllByRecursion (IsEquationOver (length table)) es → IsEquationOver (length table) g → get_or (values_after (from 0 (length table)) es) g.left 0 ≡ get_or (values_after (from 0 (length table)) es) g.right 0 → (r : Refutation) × Refutes table es g r
   unfolding Explained Equals
   refuted ws w same =
-      let x = explained (from 0 n) es (first_are n) ws (given es 0 (λ i e h. subst (λ j. slice_get es j ≡ Some e) (let z : i ≡ 0 + i = omega arith in z) h) ws) at_first in
-      let vs = values_after (from 0 n) es in
-      let is = values_are n es ws in
+      let x = explained (from 0 (length table)) es (first_are (length table)) ws (given es 0 (λ i e h. subst (λ j. slice_get es j ≡ Some e) (let z : i ≡ 0 + i = omega arith in z) h) ws) at_first in
+      let vs = values_after (from 0 (length table)) es in
+      let is = values_are (length table) es ws in
       let l = get_or vs g.left 0 in
       let r = get_or vs g.right 0 in
       let from_left = turned l g.left (is.within g.left w.0) w.0 (x g.left w.0) in

@@ -1,5 +1,6 @@
 -- No fresh constant stands in the hypotheses and the goal of a lawful problem.
 use Rattle.std.specs.Prelude.{ℕ, true, ◌&&◌, List, [], ◌∷◌, ◌++◌, ◌≡◌, map, nat_eq, nat_lt, slice_get, Option, Some, None}
+use Rattle.ae_base.proofs.ListFacts.{empty_parts}
 use Rattle.std.specs.List.{AllByRecursion, flat_map}
 use mathlib.Core.Path.{refl, sym, ap, ◌∙◌}
 use Rattle.ae_core.specs.Putting.{put_sort, instance, instance_term}
@@ -20,7 +21,7 @@ use Rattle.ae_rules.specs.Instances.{hypothesis, axiom_with}
 use Rattle.ae_journal.specs.Ground.{IsGround, is_simple}
 use Rattle.ae_evaluation.proofs.Literals.{simple-Not, simple-And, simple-Or, simple-Xor, simple-Iff, lt_not_simple, le_not_simple, all_not_simple, ex_not_simple}
 use Rattle.ae_evaluation.proofs.PutTruth.{constants-Eq, constants-Pred, constants-Not, constants-And, constants-Or, constants-Xor, constants-Iff, constants-True, constants-False}
-use Rattle.ae_evaluation.proofs.Substitution.{constants-Apply, constants-Bound, constants-Num, constants-Fresh, left_empty}
+use Rattle.ae_evaluation.proofs.Substitution.{constants-Apply, constants-Bound, constants-Num, constants-Fresh}
 use Rattle.ae_base.proofs.AllOf.{all_at}
 use Rattle.ae_base.proofs.Options.{bind_some, only_some, when_some}
 use Rattle.std.proofs.lemmas.Bool.{and_parts}
@@ -39,7 +40,7 @@ module _ (ss : List Sort) where
       → flat_map (λ u. u) (map constants (map (instance_term ss) us)) ≡ []
   terms_stay [] a e = refl
   terms_stay (u ∷ us) a e =
-      let d = left_empty (constants u) (flat_map (λ u. u) (map constants us)) e in λ i. a.0 d.0 i ++ terms_stay us a.1 d.1 i
+      let d = empty_parts (constants u) (flat_map (λ u. u) (map constants us)) e in λ i. a.0 d.0 i ++ terms_stay us a.1 d.1 i
 
   term_stays : (t : Term) → TermStays t
   term_stays =
@@ -52,7 +53,7 @@ module _ (ss : List Sort) where
   arguments_stay : (us : List Term) → flat_map constants us ≡ [] → flat_map constants (map (instance_term ss) us) ≡ []
   arguments_stay [] e = refl
   arguments_stay (u ∷ us) e =
-      let d = left_empty (constants u) (flat_map constants us) e in λ i. term_stays u d.0 i ++ arguments_stay us d.1 i
+      let d = empty_parts (constants u) (flat_map constants us) e in λ i. term_stays u d.0 i ++ arguments_stay us d.1 i
 
   abbrev Stays : Formula → Type 0
   Stays f = is_simple (instance ss f) ≡ true → formula_constants f ≡ [] → formula_constants (instance ss f) ≡ []
@@ -62,7 +63,7 @@ module _ (ss : List Sort) where
       → formula_constants (instance ss a) ++ formula_constants (instance ss b) ≡ []
   both_stay a b h k i c =
       let s = and_parts (is_simple (instance ss a)) (is_simple (instance ss b)) i in
-      let d = left_empty (formula_constants a) (formula_constants b) c in
+      let d = empty_parts (formula_constants a) (formula_constants b) c in
       λ j. h s.0 d.0 j ++ k s.1 d.1 j
 
   formula_stays : (f : Formula) → Stays f
@@ -70,7 +71,7 @@ module _ (ss : List Sort) where
       by_formulas Stays (λ q. Unit {0})
       (λ i c. ap formula_constants (instance_true ss) ∙ constants-True) (λ i c. ap formula_constants (instance_false ss) ∙ constants-False)
       (λ a b i c.
-      let d = left_empty (constants a) (constants b) (sym (constants-Eq a b) ∙ c) in
+      let d = empty_parts (constants a) (constants b) (sym (constants-Eq a b) ∙ c) in
       ap formula_constants (instance_eq ss a b) ∙ constants-Eq (instance_term ss a) (instance_term ss b) ∙
       (λ j. term_stays a d.0 j ++ term_stays b d.1 j))
       (λ a b i. absurd (lt_not_simple (instance_term ss a) (instance_term ss b) (ap is_simple (sym (instance_lt ss a b)) ∙ i)))

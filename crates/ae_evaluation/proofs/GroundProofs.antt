@@ -57,12 +57,12 @@ use Rattle.ae_evaluation.proofs.KeptTerms.{keep, keeps, kept_sorts, kept_formula
 use Rattle.ae_evaluation.proofs.Evaluates.{fresh_value}
 use Rattle.ae_evaluation.proofs.Literals.{true_literal, lt_not_simple, le_not_simple, all_not_simple, ex_not_simple}
 use Rattle.ae_evaluation.proofs.PutTruth.{keeps_truth, put_no_formula, put_simple}
-use Rattle.ae_evaluation.proofs.Substitution.{left_empty}
+use Rattle.ae_base.proofs.ListFacts.{empty_parts}
 use Rattle.ae_evaluation.proofs.Truths.{truth_all, truth_eq, literal_is, rows_hold}
 use Rattle.ae_evaluation.proofs.GroundBlocks.{block_true}
 use Rattle.ae_evaluation.proofs.FreshValues.{fill_of, variables_same, constants_sorted, lookup, found_constant, found_term, EachValue, found_holds, own_values}
 use Rattle.ae_journal.specs.declared.systems.Saturated.{Saturated}
-use Rattle.ae_base.proofs.AllOf.{all_append, all_at}
+use Rattle.ae_base.proofs.AllOf.{all_append, all_at, all_reversed}
 use Rattle.ae_base.proofs.Decided.{decided_of}
 use Rattle.ae_base.proofs.Options.{bind_some, only_some, when_some}
 use Rattle.std.proofs.lemmas.Bool.{and_parts}
@@ -70,11 +70,6 @@ use Rattle.std.proofs.lemmas.List.Elements.{Contains-append_left, Contains-appen
 use Rattle.std.proofs.lemmas.Option.{same_Some}
 use Rattle.std.proofs.Math.Bool.{or-true}
 use Rattle.ae_journal.proofs.Splits.{all_contained}
-
-all_reverse : {A : Type 0} (P : A → Type 0) (xs : List A) → AllByRecursion P xs → AllByRecursion P (reverse xs)
-all_reverse P [] a = tt
-all_reverse P (x ∷ xs) a =
-    subst (AllByRecursion P) (sym (reverse-append (x ∷ []) xs)) (all_append P (reverse xs) (x ∷ []) (all_reverse P xs a.1) (a.0, tt))
 
 same_all : (q r : Quant) → All q ≡ All r → q ≡ r
 same_all q r e = let f : layer.All q ≡ layer.All r = sym (outs-All q) ∙ ap out-Formula e ∙ outs-All r in cc
@@ -97,7 +92,7 @@ constants-All q =
     fold_all (List Term) (List Term) formula_constants_step _ q ∙ fold_block (List Term) (List Term) formula_constants_step _ q
 
 body_constants : (q : Quant) → formula_constants (All q) ≡ [] → formula_constants q.body ≡ []
-body_constants q e = (left_empty (flat_map (flat_map constants) q.triggers) (formula_constants q.body) (sym (constants-All q) ∙ e)).1
+body_constants q e = (empty_parts (flat_map (flat_map constants) q.triggers) (formula_constants q.body) (sym (constants-All q) ∙ e)).1
 
 or_next : Option Val → Option Val → Option Val
 or_next (Some v) o = Some v
@@ -651,7 +646,7 @@ module _ (p : Problem) (g : ℕ) (st : Saturated) (takes : Lit → Lit) (bound :
     no_empty : AllByRecursion Holds lines → (last_of lines >>= conclusion p g) ≡ Some [] → ⊥
     no_empty h e =
         let b = bind_some (last_of lines) (conclusion p g) [] e in
-        let z = all_at Holds (reverse lines) 0 b.0 (all_reverse Holds lines h) b.1 [] b.2 in
+        let z = all_at Holds (reverse lines) 0 b.0 (all_reversed Holds lines h) b.1 [] b.2 in
         cc
 
   -- the clauses of allowed lines are true, where fresh constants have the values of the terms chosen for the goal's variables

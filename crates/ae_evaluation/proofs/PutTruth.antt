@@ -1,5 +1,6 @@
 -- The truth of a formula of the ground fragment, with terms put for its variables or constants of their values.
 use Rattle.std.specs.Prelude.{ℕ, zero, suc, ◌-◌, Bool, true, false, cond, not, ◌&&◌, ◌||◌, nat_eq, nat_lt, List, [], ◌∷◌, ◌++◌, ◌≡◌, map, length, reverse, slice_get, Option, Some, None}
+use Rattle.ae_base.proofs.ListFacts.{empty_parts}
 use Rattle.std.specs.List.{AllByRecursion, flat_map}
 use Rattle.std.proofs.lemmas.Bool.Decides.{nat_tests}
 use mathlib.Core.Path.{refl, sym, ap, ◌∙◌, subst}
@@ -30,7 +31,7 @@ use Rattle.ae_journal.specs.Ground.{is_simple, simple_step, atom_terms, atom_ter
 use Rattle.ae_evaluation.proofs.Facts.{Shapes}
 use Rattle.ae_evaluation.proofs.Decisions.{both_all}
 use Rattle.ae_evaluation.proofs.Linear.{firsts}
-use Rattle.ae_evaluation.proofs.Substitution.{Fill, put_same, left_empty}
+use Rattle.ae_evaluation.proofs.Substitution.{Fill, put_same}
 use Rattle.ae_evaluation.proofs.Truths.{truth_true, truth_false, truth_eq, truth_pred, truth_not, truth_and, truth_or, truth_xor, truth_iff}
 use Rattle.ae_evaluation.proofs.Literals.{simple-Not, simple-And, simple-Or, simple-Xor, simple-Iff, lt_not_simple, le_not_simple, all_not_simple, ex_not_simple}
 use Rattle.ae_journal.specs.declared.systems.System.{System}
@@ -249,7 +250,7 @@ module _ (sig : Signature) (y : System) (num : Numbering) (reduce : Head → Lis
         → map (ev sig y num reduce choosing A) (map (put_terms 0 cs) us) ≡ map (ev sig y num reduce choosing B) (map (put_terms 0 ts) us)
     terms_same [] a c = refl
     terms_same (u ∷ us) a c =
-        let d = left_empty (constants u) (flat_map constants us) c in λ i. term_same u a.0 d.0 i ∷ terms_same us a.1 d.1 i
+        let d = empty_parts (constants u) (flat_map constants us) c in λ i. term_same u a.0 d.0 i ∷ terms_same us a.1 d.1 i
 
     abbrev TA : Formula → Bool
     TA = is_true_in sig y num reduce choosing A ls
@@ -268,7 +269,7 @@ module _ (sig : Signature) (y : System) (num : Numbering) (reduce : Head → Lis
     two_parts a b h k i f c =
         let s = and_parts (is_simple a) (is_simple b) i in
         let g = both_all (IsFragmentTerm sig env) (atom_terms a) (atom_terms b) f in
-        let d = left_empty (formula_constants a) (formula_constants b) c in
+        let d = empty_parts (formula_constants a) (formula_constants b) c in
         (h s.0 g.0 d.0, k s.1 g.1 d.1)
 
     pub keeps_truth : (f : Formula) → KeepsTruth f
@@ -278,7 +279,7 @@ module _ (sig : Signature) (y : System) (num : Numbering) (reduce : Head → Lis
         (λ i f c. ap TA (put_false 0 cs) ∙ truth_false _ _ ∙ sym (ap TB (put_false 0 ts) ∙ truth_false _ _))
         (λ a b i f c.
         let g = subst (AllByRecursion (IsFragmentTerm sig env)) (atoms-Eq a b) f in
-        let d = left_empty (constants a) (constants b) (sym (constants-Eq a b) ∙ c) in
+        let d = empty_parts (constants a) (constants b) (sym (constants-Eq a b) ∙ c) in
         ap TA (put_eq 0 cs a b) ∙ truth_eq _ _ _ _ ∙ (λ j. decided (Val_discrete (term_same a g.0 d.0 j) (term_same b (g.1).0 d.1 j))) ∙ sym
         (ap TB (put_eq 0 ts a b) ∙ truth_eq _ _ _ _))
         (λ a b i. absurd (lt_not_simple a b i)) (λ a b i. absurd (le_not_simple a b i))

@@ -1,5 +1,6 @@
 -- Terms put for a block's variables, or constants with the values of these terms: the values, and the truth of formulas, are the same.
 use Rattle.std.specs.Prelude.{ℤ, Bool, ℕ, ◌-◌, true, false, cond, nat_lt, List, [], ◌∷◌, ◌++◌, ◌≡◌, ◌⊎◌, map, length, reverse, slice_get, Option, Some}
+use Rattle.ae_base.proofs.ListFacts.{empty_parts}
 use Rattle.std.specs.List.{AllByRecursion, list_all, flat_map}
 use Rattle.std.proofs.Common.{inl, inr}
 use mathlib.Core.Path.{refl, sym, ap, ◌∙◌}
@@ -47,10 +48,6 @@ constants-Fresh n s = fold_fresh (List Term) constants_step n s
 pub constants-Apply : (h : Head) (ss : List Sort) (us : List Term) → constants (Apply h ss us) ≡ flat_map (λ u. u) (map constants us)
 unfolding constants
 constants-Apply h ss us = fold_apply (List Term) constants_step h ss us
-
-pub left_empty : {A : Type 0} (xs ys : List A) → xs ++ ys ≡ [] → (xs ≡ []) × (ys ≡ [])
-left_empty [] ys e = (refl, e)
-left_empty (x ∷ xs) ys e = absurd (cc)
 
 -- ---- a node of a plain term stays one
 numeral_put : (ts : List Term) (b : Term) → IsNumeral b → IsNumeral (put_terms 0 ts b)
@@ -159,7 +156,7 @@ module _ (sig : Signature) (y : System) (num : Numbering) (reduce : Head → Lis
       (λ x. all_known (map (sort_in sig (is_closed_sort sig) env) us) >>= λ xs. Some (x ∷ xs)) args e in
       let d = bind_some (all_known (map (sort_in sig (is_closed_sort sig) env) us)) (λ xs. Some (b.0 ∷ xs)) args b.2 in
       let q = and_parts (is_plain u) (list_all is_plain us) p in
-      let f = left_empty (constants u) (flat_map (λ u. u) (map constants us)) c in
+      let f = empty_parts (constants u) (flat_map (λ u. u) (map constants us)) c in
       λ i. a.0 b.0 b.1 q.0 f.0 i ∷ each_same us d.0 a.1 d.1 q.1 f.1 i
 
   numbers_at : (h : Head) (ss : List Sort) (us : List Term) (s : Sort) → sort_of sig (Apply h ss us) ≡ Some s

@@ -3,7 +3,7 @@ use Rattle.std.specs.Prelude.{ℕ, ℤ, pos, ◌≡◌, ◌⊎◌, ◌<◌, ◌<
 use Rattle.std.proofs.Common.{refl, sym, ap, ◌∙◌, subst, inl, inr}
 use Rattle.std.specs.List.{AllByRecursion}
 use Rattle.std.proofs.lemmas.List.{map-append}
-use Rattle.std.proofs.Math.Bool.{or-false}
+use Rattle.std.proofs.Math.Bool.{or-false, or_assoc}
 use native.Mathlib.Decide.{ℕ_discrete}
 use Rattle.ae_base.proofs.AllOf.{all_append, all_of_map, all_weaker}
 use Rattle.ae_math.specs.Fractions.{ℚ, one_ℚ, zero_ℚ, neg_ℚ, ◌*ℚ◌, is_positive}
@@ -28,13 +28,9 @@ abbrev times : ℚ → Share → Share
 times a u = record { factor = a *ℚ u.factor; row = u.row }
 
 -- ---- strictness
-or_assoc : (a b c : Bool) → a || (b || c) ≡ (a || b) || c
-or_assoc true b c = refl
-or_assoc false b c = refl
-
 strict-append : (us vs : List Share) → some_strict (us ++ vs) ≡ some_strict us || some_strict vs
 strict-append [] vs = refl
-strict-append (u ∷ us) vs = ap (λ b. u.row.strict || b) (strict-append us vs) ∙ or_assoc u.row.strict (some_strict us) (some_strict vs)
+strict-append (u ∷ us) vs = ap (λ b. u.row.strict || b) (strict-append us vs) ∙ sym (or_assoc u.row.strict (some_strict us) (some_strict vs))
 
 strict-times : (a : ℚ) (us : List Share) → some_strict (map (times a) us) ≡ some_strict us
 strict-times a [] = refl

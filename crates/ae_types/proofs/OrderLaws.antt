@@ -1,10 +1,10 @@
 -- Laws of levels from before places were joined, and of the levels that a walk from the joined places gives.
-use Rattle.std.proofs.Common.{◌≡◌, ◌≢◌, ℕ, zero, suc, ◌+◌, ◌<◌, ◌≤◌, ◌⊎◌, inl, inr, Bool, true, false, List, [], ◌∷◌, ◌++◌, map, length, get_or, refl, ap, sym, ◌∙◌, subst, arith, Contains, Result, Ok, Err, OnOk, slice_set, get_or-set_other, get_or-set_same}
+use Rattle.std.proofs.Common.{◌≡◌, ◌≢◌, ℕ, zero, suc, ◌+◌, ◌<◌, ◌≤◌, ◌⊎◌, inl, inr, Bool, true, false, List, [], ◌∷◌, ◌++◌, map, length, get_or, refl, ap, sym, ◌∙◌, subst, arith, Contains, Result, Ok, Err, OnOk, slice_set, get_or-set_other, get_or-set_same, cond}
 use Rattle.std.specs.Prelude.{nat_lt}
 use Rattle.std.proofs.lemmas.Bool.{cases_lt}
 use Rattle.std.proofs.lemmas.Bool.Decides.{nat_tests}
 use Rattle.std.proofs.lemmas.List.{length-map, get_or-map}
-use Rattle.std.proofs.lemmas.List.Elements.{Contains-append_left, Contains-append_right, Contains-push_cases}
+use Rattle.std.proofs.lemmas.List.Elements.{Contains-append_left, Contains-append_right, Contains-push, Contains-push_cases}
 use Rattle.ae_types.specs.declared.cycles.Mark.{Mark}
 use Rattle.ae_types.specs.declared.cycles.Mark.TheVariants.{New, Open, Done}
 use Rattle.ae_types.specs.declared.cycles.Walk.{Walk}
@@ -69,9 +69,6 @@ loosened_more old new js e z h =
 beneath_more : (ls js : List ℕ) (low n : ℕ) (s : Slot) → Beneath ls js n s → Beneath ls (js ++ low ∷ []) n s
 beneath_more ls js low n s b = λ k h. elim (b k h) [ inl c ↦ inl (Contains-append_left js (low ∷ []) (get_or (refs s) k 0) c) | inr l ↦ inr l ]
 
-now_among : (js : List ℕ) (low : ℕ) → Contains (js ++ low ∷ []) low
-now_among js low = Contains-append_right js (low ∷ []) low (0, omega arith, refl)
-
 no_link : (s t : Slot) → IsRoot s → IsRoot t → (j : ℕ) → kept s t ≡ Link j → ⊥
 no_link Free Free p q j e = cc
 no_link Free (Link i) p q j e = q
@@ -82,7 +79,7 @@ no_link (Plain c) t p q j e = cc
 no_link (Built h args) t p q j e = cc
 
 only_low : (ls js : List ℕ) (low n : ℕ) → Beneath ls (js ++ low ∷ []) n (Link low)
-only_low ls js low n zero h = inl (now_among js low)
+only_low ls js low n zero h = inl (Contains-push js low)
 only_low ls js low n (suc k) h = absurd (omega arith)
 
 pub ordered_joined : (ls js : List ℕ) (slots : List Slot) (low high : ℕ) → low < high → high < length slots → IsRoot (slot_at slots low) → IsRoot (slot_at slots high)
@@ -91,7 +88,7 @@ ordered_joined ls js slots low high a b p q o =
     let more = js ++ low ∷ [] in
     record {
       among = joined_each (λ i s. Contains more i → LinksAmong more s) slots low high a b
-          (λ c j e. (let x : low ≡ j = cc in subst (Contains more) x (now_among js low)))
+          (λ c j e. (let x : low ≡ j = cc in subst (Contains more) x (Contains-push js low)))
           (λ c j e. absurd (no_link (slot_at slots low) (slot_at slots high) p q j e))
           (λ i w c j e. elim (Contains-push_cases js low i c) [
             | inl d ↦ Contains-append_left js (low ∷ []) j (o.among i w d j e)
@@ -99,7 +96,7 @@ ordered_joined ls js slots low high a b p q o =
           ]);
       each = joined_each (λ i s. Contains more i ⊎ Beneath ls more (get_or ls i 0) s) slots low high a b
           (inr (only_low ls js low (get_or ls high 0)))
-          (inl (now_among js low))
+          (inl (Contains-push js low))
           (λ i w. elim (o.each i w) [
             | inl c ↦ inl (Contains-append_left js (low ∷ []) i c)
             | inr d ↦ inr (beneath_more ls js low (get_or ls i 0) (slot_at slots i) d)
@@ -114,8 +111,7 @@ ordered_joined ls js slots low high a b p q o =
 
 -- ---- levels within the number of places
 abbrev counts : Bool → ℕ
-counts true = 1
-counts false = 0
+counts b = cond b 1 0
 
 -- how many numbers are below one
 abbrev below : List ℕ → ℕ → ℕ

@@ -27,7 +27,7 @@ use Rattle.ae_math.proofs.Wholes.{zero_whole}
 use Rattle.ae_base.proofs.Decided.{decided_of, decided_yes}
 use Rattle.ae_base.proofs.Tests.{false_true}
 use Rattle.ae_models.proofs.Entries.{HasLawfulEntries}
-use Rattle.ae_base.proofs.ListFacts.{get_seam}
+use Rattle.ae_base.proofs.ListFacts.{get_seam, number_at}
 use Rattle.ae_core.proofs.ClosedSorts.{put_closed}
 use Rattle.ae_models.specs.Structures.{Value, Element, Number, Truth, Void, Structure, BelongsTo, Belongs, AllBelong, AreSorts, fields_of}
 use Rattle.ae_models.specs.Structures.{field_sorts, IsInterpretation}
@@ -40,16 +40,6 @@ use Rattle.ae_models.proofs.Trees.Shapes.{Tree_discrete, tuple, parts, parts_of_
 use Rattle.ae_models.proofs.Trees.Shapes.{kind_fields, record_fields, is_record, measured, tree_sort, sorted_value, all_fit, all_fit_more}
 use Rattle.ae_models.proofs.Trees.Shapes.{tuple_of_parts}
 use Rattle.ae_models.proofs.Trees.Inhabited.{is_among, thing_fits, atom_sort, record_tree_sort, closed_inhabited}
-
--- the place of a number in a list
-place_of : (cs : List ℕ) (c : ℕ) → list_any (nat_eq c) cs ≡ true → (k : ℕ) × (slice_get cs k ≡ Some c)
-place_of [] c e = absurd (true≢false (sym e))
-place_of (d ∷ cs) c e = go (nat_eq c d) refl e (place_of cs c)
-  where
-    go : (b : Bool) → nat_eq c d ≡ b → b || list_any (nat_eq c) cs ≡ true
-        → (list_any (nat_eq c) cs ≡ true → (k : ℕ) × (slice_get cs k ≡ Some c)) → (k : ℕ) × (slice_get (d ∷ cs) k ≡ Some c)
-    go true is h later = (0, ap Some (sym (eqb-true c d is)))
-    go false is h later = let r = later h in (suc r.0, r.1)
 
 -- ---- the structure
 module _ (sig : Signature) (lawful : HasLawfulEntries sig) where
@@ -247,7 +237,7 @@ module _ (sig : Signature) (lawful : HasLawfulEntries sig) where
       go (Atom m s) h =
           let a = atom_is m n s ss e (Choices cs) g k h in
           let p = and_parts (no_sorts ss) (list_any (nat_eq m) cs) a.1 in
-          let at = place_of cs m p.1 in
+          let at = number_at cs m p.1 in
           let choice = ((enumeration n e cs g k).each m at.0).0 at.1 in
           (at.0, m, at.1, ap (λ r. Element (Atom m r)) (a.0 ∙ ap (Named n) (none_left ss p.0)) ∙ sym (choice_value m n at.0 [] choice))
       go (Record m rs t) h = false_true (record_is m n rs ss t e (Choices cs) g k h).2
