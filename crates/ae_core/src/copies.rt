@@ -104,6 +104,16 @@ fn copy_quant(alloc: Global, quant: &Quant) -> Result<Quant, AllocError>
     })
 }
 
+/// Two terms, each equal to its own.
+fn copy_both(alloc: Global, left: &Term, right: &Term) -> Result<(Term, Term), AllocError>
+    ensures left { IfOk result (λ both. both.0 ≡ left.now) }
+    ensures right { IfOk result (λ both. both.1 ≡ right.now) }
+{
+    let left = copy_term(alloc, left)?;
+    let right = copy_term(alloc, right)?;
+    Ok((left, right))
+}
+
 #[cycle(formula)]
 fn copy_boxed(alloc: Global, formula: &Boxed<Formula>) -> Result<Boxed<Formula>, AllocError>
     ensures { IfOk result (λ copy. copy ≡ formula.now) }
@@ -119,18 +129,18 @@ pub fn copy_formula(alloc: Global, formula: &Formula) -> Result<Formula, AllocEr
     match formula {
         Formula::True => Ok(Formula::True),
         Formula::False => Ok(Formula::False),
-        Formula::Eq { left, right } => Ok(Formula::Eq {
-            left: copy_term(alloc, left)?,
-            right: copy_term(alloc, right)?,
-        }),
-        Formula::Lt { left, right } => Ok(Formula::Lt {
-            left: copy_term(alloc, left)?,
-            right: copy_term(alloc, right)?,
-        }),
-        Formula::Le { left, right } => Ok(Formula::Le {
-            left: copy_term(alloc, left)?,
-            right: copy_term(alloc, right)?,
-        }),
+        Formula::Eq { left, right } => {
+            let (left, right) = copy_both(alloc, left, right)?;
+            Ok(Formula::Eq { left, right })
+        }
+        Formula::Lt { left, right } => {
+            let (left, right) = copy_both(alloc, left, right)?;
+            Ok(Formula::Lt { left, right })
+        }
+        Formula::Le { left, right } => {
+            let (left, right) = copy_both(alloc, left, right)?;
+            Ok(Formula::Le { left, right })
+        }
         Formula::Pred {
             symbol,
             sorts,

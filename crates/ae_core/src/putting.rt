@@ -116,6 +116,21 @@ fn instance_quant(alloc: Global, quant: &Quant, sorts: &[Sort]) -> Result<Quant,
     })
 }
 
+/// Two terms with sorts put for their type variables.
+fn both_instances(
+    alloc: Global,
+    left: &Term,
+    right: &Term,
+    sorts: &[Sort],
+) -> Result<(Term, Term), AllocError>
+    ensures left { IfOk result (λ both. both.0 ≡ spec.instance_term sorts.now left.now) }
+    ensures right { IfOk result (λ both. both.1 ≡ spec.instance_term sorts.now right.now) }
+{
+    let left = instance_term(alloc, left, sorts)?;
+    let right = instance_term(alloc, right, sorts)?;
+    Ok((left, right))
+}
+
 #[cycle(instance)]
 fn instance_boxed(
     alloc: Global,
@@ -138,18 +153,18 @@ pub fn instance(alloc: Global, formula: &Formula, sorts: &[Sort]) -> Result<Form
     match formula {
         Formula::True => Ok(Formula::True),
         Formula::False => Ok(Formula::False),
-        Formula::Eq { left, right } => Ok(Formula::Eq {
-            left: instance_term(alloc, left, sorts)?,
-            right: instance_term(alloc, right, sorts)?,
-        }),
-        Formula::Lt { left, right } => Ok(Formula::Lt {
-            left: instance_term(alloc, left, sorts)?,
-            right: instance_term(alloc, right, sorts)?,
-        }),
-        Formula::Le { left, right } => Ok(Formula::Le {
-            left: instance_term(alloc, left, sorts)?,
-            right: instance_term(alloc, right, sorts)?,
-        }),
+        Formula::Eq { left, right } => {
+            let (left, right) = both_instances(alloc, left, right, sorts)?;
+            Ok(Formula::Eq { left, right })
+        }
+        Formula::Lt { left, right } => {
+            let (left, right) = both_instances(alloc, left, right, sorts)?;
+            Ok(Formula::Lt { left, right })
+        }
+        Formula::Le { left, right } => {
+            let (left, right) = both_instances(alloc, left, right, sorts)?;
+            Ok(Formula::Le { left, right })
+        }
         Formula::Pred {
             symbol,
             sorts: own,
@@ -276,6 +291,22 @@ fn put_quant(
     })
 }
 
+/// Two terms with terms put for the variables beyond `inner`.
+fn put_both(
+    alloc: Global,
+    left: &Term,
+    right: &Term,
+    terms: &[Term],
+    inner: usize,
+) -> Result<(Term, Term), AllocError>
+    ensures left { IfOk result (λ both. both.0 ≡ spec.put_terms inner terms.now left.now) }
+    ensures right { IfOk result (λ both. both.1 ≡ spec.put_terms inner terms.now right.now) }
+{
+    let left = put_term(alloc, left, terms, inner)?;
+    let right = put_term(alloc, right, terms, inner)?;
+    Ok((left, right))
+}
+
 #[cycle(put_formula)]
 fn put_boxed(
     alloc: Global,
@@ -301,18 +332,18 @@ fn put_formula(
     match formula {
         Formula::True => Ok(Formula::True),
         Formula::False => Ok(Formula::False),
-        Formula::Eq { left, right } => Ok(Formula::Eq {
-            left: put_term(alloc, left, terms, inner)?,
-            right: put_term(alloc, right, terms, inner)?,
-        }),
-        Formula::Lt { left, right } => Ok(Formula::Lt {
-            left: put_term(alloc, left, terms, inner)?,
-            right: put_term(alloc, right, terms, inner)?,
-        }),
-        Formula::Le { left, right } => Ok(Formula::Le {
-            left: put_term(alloc, left, terms, inner)?,
-            right: put_term(alloc, right, terms, inner)?,
-        }),
+        Formula::Eq { left, right } => {
+            let (left, right) = put_both(alloc, left, right, terms, inner)?;
+            Ok(Formula::Eq { left, right })
+        }
+        Formula::Lt { left, right } => {
+            let (left, right) = put_both(alloc, left, right, terms, inner)?;
+            Ok(Formula::Lt { left, right })
+        }
+        Formula::Le { left, right } => {
+            let (left, right) = put_both(alloc, left, right, terms, inner)?;
+            Ok(Formula::Le { left, right })
+        }
         Formula::Pred {
             symbol,
             sorts,

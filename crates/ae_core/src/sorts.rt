@@ -524,6 +524,38 @@ pub fn inner_sorts(alloc: Global, env: &[Sort], more: &[Sort]) -> Result<List<So
     Ok(inner)
 }
 
+/// Whether two terms are well sorted and have one sort under variables of these sorts.
+fn have_one_sort(
+    alloc: Global,
+    signature: &Signature,
+    left: &Term,
+    right: &Term,
+    env: &[Sort],
+) -> Result<bool, AllocError>
+    ensures { IfOk result (λ b. b ≡ spec.same_known (spec.sort_in signature.now (spec.is_closed_sort signature.now) env.now left.now)
+        (spec.sort_in signature.now (spec.is_closed_sort signature.now) env.now right.now)) }
+{
+    let from = sort_in(alloc, signature, left, env)?;
+    let to = sort_in(alloc, signature, right, env)?;
+    Ok(same_known(&from, &to))
+}
+
+/// The same, where that sort is numeric.
+fn have_one_numeric_sort(
+    alloc: Global,
+    signature: &Signature,
+    left: &Term,
+    right: &Term,
+    env: &[Sort],
+) -> Result<bool, AllocError>
+    ensures { IfOk result (λ b. b ≡ spec.same_numeric (spec.sort_in signature.now (spec.is_closed_sort signature.now) env.now left.now)
+        (spec.sort_in signature.now (spec.is_closed_sort signature.now) env.now right.now)) }
+{
+    let from = sort_in(alloc, signature, left, env)?;
+    let to = sort_in(alloc, signature, right, env)?;
+    Ok(same_numeric(&from, &to))
+}
+
 /// Whether a formula is well sorted under variables of these sorts.
 #[cycle(formula_in)]
 #[tactic(auto, using(crate::proofs::SortLaws::formula_in_rules))]
@@ -538,21 +570,9 @@ pub fn formula_in(
     match formula {
         Formula::True => Ok(true),
         Formula::False => Ok(true),
-        Formula::Eq { left, right } => {
-            let from = sort_in(alloc, signature, left, env)?;
-            let to = sort_in(alloc, signature, right, env)?;
-            Ok(same_known(&from, &to))
-        }
-        Formula::Lt { left, right } => {
-            let from = sort_in(alloc, signature, left, env)?;
-            let to = sort_in(alloc, signature, right, env)?;
-            Ok(same_numeric(&from, &to))
-        }
-        Formula::Le { left, right } => {
-            let from = sort_in(alloc, signature, left, env)?;
-            let to = sort_in(alloc, signature, right, env)?;
-            Ok(same_numeric(&from, &to))
-        }
+        Formula::Eq { left, right } => have_one_sort(alloc, signature, left, right, env),
+        Formula::Lt { left, right } => have_one_numeric_sort(alloc, signature, left, right, env),
+        Formula::Le { left, right } => have_one_numeric_sort(alloc, signature, left, right, env),
         Formula::Pred {
             symbol,
             sorts,
