@@ -1,13 +1,13 @@
 -- A most general typing puts sorts that fit, where the sorts of the conditions do.
-use Rattle.std.proofs.Common.{◌≡◌, ◌∙◌, ◌⊎◌, inl, inr, ℕ, Bool, true, false, ◌&&◌, List, [], ◌∷◌, map, reverse, length, refl, sym, ap, subst}
+use Rattle.std.proofs.Common.{◌≡◌, ◌∙◌, inl, inr, ℕ, Bool, true, false, List, [], ◌∷◌, map, length, refl, sym, ap}
 use Rattle.std.specs.List.{AllByRecursion, list_all}
-use Rattle.std.proofs.lemmas.Bool.{and_parts, and_from}
+use Rattle.std.proofs.lemmas.Bool.{and_parts}
 use Rattle.std.proofs.lemmas.List.{length-map}
-use Rattle.ae_base.proofs.AllOf.{all_of_map}
+use Rattle.ae_base.proofs.AllOf.{all_of_map, all_reversed}
 use Rattle.ae_base.proofs.ListFacts.{cons_same}
 use Rattle.ae_base.proofs.Tests.{by_bool}
 use Rattle.ae_core.specs.Inner.Induction.{by_sorts}
-use Rattle.ae_core.specs.Sorts.{sort_ok, type_fits}
+use Rattle.ae_core.specs.Sorts.{type_fits}
 use Rattle.ae_core.proofs.Recursion.{fold_var, fold_rigid, fold_int, fold_real, fold_bool, fold_unit, fold_named}
 use Rattle.ae_core.proofs.SortLaws.{ok_var, ok_rigid, ok_int, ok_real, ok_bool, ok_unit, ok_named}
 use Rattle.ae_core.specs.declared.terms.Sort.{Sort, Sort-F, Var, Rigid, Int, Real, Bool as BoolSort, Unit as UnitSort, Named, fold-Sort}
@@ -18,7 +18,6 @@ use Rattle.ae_elab.specs.declared.numbers.Numbers.{Numbers}
 use Rattle.ae_elab.specs.declared.numbers.Numbers.TheVariants.{IntAlone, IntOrReal}
 use Rattle.ae_elab.specs.Conditions.{Demand, Test, Same, Possible, First, IsFirstOf, sorts_among, Meets, Condition, demands, IsTyping, IsPrincipal}
 use Rattle.ae_elab.proofs.PutLaws.{put_var, put_rigid, put_int, put_real, put_bool, put_unit, put_named}
-use Rattle.ae_typed_laws.proofs.MetConditions.{all_reversed}
 use Rattle.ae_lawful_problems.proofs.SortedTrees.{fits, AllFit}
 use Rattle.ae_lawful_problems.proofs.PutFits.{named_fits}
 use Rattle.ae_lawful_problems.proofs.FitRules.{FitDemand, FitCondition}

@@ -1,12 +1,12 @@
 -- What holds of a part whose conditions are met: the sorts of its conditions fit too.
-use Rattle.std.proofs.Common.{◌≡◌, ℕ, true, false, Bool, List, [], ◌∷◌, ◌++◌}
+use Rattle.std.proofs.Common.{◌≡◌, ℕ, true, List, [], ◌∷◌}
 use Rattle.std.specs.List.{AllByRecursion}
 use Rattle.ae_base.proofs.AllOf.{all_append, all_front, all_back}
 use Rattle.ae_core.specs.declared.terms.Sort.{Sort}
 use Rattle.ae_core.specs.declared.problems.Signature.{Signature}
 use Rattle.ae_elab.specs.Conditions.{Demand, Test, Same, Possible, First, Condition}
 use Rattle.ae_elab.specs.Rules.{Passed, Rule, give, ◌>>◌, ◌⇒◌, all_of}
-use Rattle.ae_typed_laws.proofs.MetConditions.{IsMetOne, Grows, grows_not, grows_then, Meeting, Given}
+use Rattle.ae_typed_laws.proofs.MetConditions.{IsMetOne, Grows, grows_not, grows_then, Meeting}
 use Rattle.ae_lawful_problems.proofs.SortedTrees.{fits}
 
 module _ (F : Signature) where

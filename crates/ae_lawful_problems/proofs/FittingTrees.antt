@@ -1,7 +1,8 @@
 -- A formula whose trees fit is elaborated to a formula that is well sorted.
-use Rattle.std.proofs.Common.{arith, ◌≡◌, ◌∙◌, ◌<◌, ℕ, suc, Bool, true, false, ◌&&◌, ◌||◌, List, [], ◌∷◌, ◌++◌, map, reverse, length, refl, sym, ap, subst, Option, Some, None, append_assoc}
+use Rattle.std.proofs.Common.{arith, ◌≡◌, ◌∙◌, ◌<◌, ℕ, suc, Bool, true, ◌&&◌, ◌||◌, List, [], ◌∷◌, ◌++◌, map, reverse, length, refl, sym, ap, subst}
+use Rattle.std.proofs.Common.{Option, Some, None, append_assoc}
 use Rattle.std.specs.List.{AllByRecursion, list_all}
-use Rattle.std.proofs.lemmas.Bool.{and_parts, and_from, or_right}
+use Rattle.std.proofs.lemmas.Bool.{and_from, or_right}
 use Rattle.std.proofs.lemmas.List.{reverse-reverse, reverse-append, map-append}
 use Rattle.std.proofs.lemmas.List.Folds.{list_all-append}
 use Rattle.std.proofs.lemmas.Option.{none-some, same_Some}
@@ -10,14 +11,15 @@ use Rattle.ae_base.proofs.AllOf.{test_of_all}
 use Rattle.ae_base.proofs.ListFacts.{map_reverse}
 use Rattle.ae_base.proofs.Tests.{three_parts}
 use Rattle.ae_core.specs.Sorts.{sort_in, operands, formula_in, quant_in, predicate_ok, trigger_ok, applied_ok}
-use Rattle.ae_core.proofs.SortLaws.{formula_in_true, formula_in_false, formula_in_pred, formula_in_not, formula_in_and, formula_in_or, formula_in_xor, formula_in_iff, formula_in_all, formula_in_ex, quant_in_block}
+use Rattle.ae_core.proofs.SortLaws.{formula_in_true, formula_in_false, formula_in_pred, formula_in_not, formula_in_and, formula_in_or, formula_in_xor}
+use Rattle.ae_core.proofs.SortLaws.{formula_in_iff, formula_in_all, formula_in_ex, quant_in_block}
 use Rattle.ae_core.specs.declared.terms.Sort.{Sort, Named, Bool as BoolSort, out-Sort}
 use Rattle.ae_core.specs.declared.terms.Head.{Head}
 use Rattle.ae_core.specs.declared.terms.Head.TheVariants as head
-use Rattle.ae_core.specs.declared.terms.Term.{Term, Bound, Num, Apply, out-Term, out-roll-Term}
+use Rattle.ae_core.specs.declared.terms.Term.{Term, Apply, out-Term, out-roll-Term}
 use Rattle.ae_core.specs.declared.terms.Term.TheOpen as layer
 use Rattle.ae_core.specs.declared.terms.Term.TheVariants.{rolls-Apply}
-use Rattle.ae_core.specs.declared.formulas.Formula.{Formula, Formula-F, True, False, Eq, Pred, Not, And, Or, Xor, Iff, All, Ex, out-Formula, roll-Formula, roll-out-Formula}
+use Rattle.ae_core.specs.declared.formulas.Formula.{Formula, Eq, Pred, Not, All, Ex, out-Formula, roll-Formula, roll-out-Formula}
 use Rattle.ae_core.specs.declared.formulas.Formula.TheOpen as formula_layer
 use Rattle.ae_core.specs.declared.formulas.Formula.TheVariants.{rolls-All, rolls-Ex}
 use Rattle.ae_core.specs.declared.formulas.Quant.{Quant}
@@ -25,11 +27,21 @@ use Rattle.ae_core.specs.declared.problems.Signature.{Signature}
 use Rattle.ae_types.specs.Substitutions.{put}
 use Rattle.ae_syntax.specs.declared.exprs.Quantifier.{Quantifier}
 use Rattle.ae_syntax.specs.declared.exprs.Quantifier.TheVariants as quantifier
-use Rattle.ae_elab.specs.Trees.{Tree, Trees, Patterns, Claim, none, more}
-use Rattle.ae_elab.specs.Elaboration.{Cases, leaf, branch, ◌|>◌, value_of, formula_of, distance, related, true_term, differences, all_true, head_on, record_of, block, merged_quant, all_over, some_over, over, term_cases, terms_cases, triggers_in, formula_in as elaborated}
-use Rattle.ae_lawful_problems.proofs.SortedTrees.{Env, numbers, sorts, fits, AllFit, Sorted, of_variable, of_whole, of_decimal, of_apply, of_operation, of_build, of_update, of_choice, AreSorted, of_none, of_more, IsTriggerTerm, a_trigger_term, a_predicate_term, AreTriggerTerms, no_terms, more_terms, AreTriggers, no_triggers, more_triggers, Fitting, fits_truth, fits_falsity, fits_relation, fits_predicate, fits_distinct, fits_holds, fits_negation, fits_conjunction, fits_disjunction, fits_exclusion, fits_equivalence, fits_implication, fits_conditional, fits_quantified}
+use Rattle.ae_elab.specs.Trees.{Tree, Trees, Patterns, Claim}
+use Rattle.ae_elab.specs.Elaboration.{Cases, leaf, branch, ◌|>◌, value_of, related, true_term, differences, all_true, head_on, record_of, block}
+use Rattle.ae_elab.specs.Elaboration.{merged_quant, all_over, some_over, over, term_cases, terms_cases, triggers_in, formula_in as elaborated}
+use Rattle.ae_lawful_problems.proofs.MergedBlocks.{all_over_by, some_over_by}
+use Rattle.ae_lawful_problems.proofs.SortedTrees.{Env, numbers, sorts, fits, AllFit, Sorted, of_variable, of_whole, of_decimal, of_apply}
+use Rattle.ae_lawful_problems.proofs.SortedTrees.{of_operation, of_build, of_update, of_choice, AreSorted, of_none, of_more, IsTriggerTerm}
+use Rattle.ae_lawful_problems.proofs.SortedTrees.{a_trigger_term, a_predicate_term, AreTriggerTerms, no_terms, more_terms, AreTriggers, no_triggers}
+use Rattle.ae_lawful_problems.proofs.SortedTrees.{more_triggers, Fitting, fits_truth, fits_falsity, fits_relation, fits_predicate, fits_distinct}
+use Rattle.ae_lawful_problems.proofs.SortedTrees.{fits_holds, fits_negation, fits_conjunction, fits_disjunction, fits_exclusion, fits_equivalence}
+use Rattle.ae_lawful_problems.proofs.SortedTrees.{fits_implication, fits_conditional, fits_quantified}
 use Rattle.ae_lawful_problems.proofs.PutFits.{puts_fit}
-use Rattle.ae_lawful_problems.proofs.SortedTerms.{Right, SortOf, SortsOf, EachCase, each_then, right_either, right_cases, value_right, more_sorts, applied_sort, whole_sort, decimal_sort, true_sort, operation_sort, right_eq, right_related, right_true, right_differences, right_pred, cons_known, record_sorted, from_base, all_written, variable_right}
+use Rattle.ae_lawful_problems.proofs.SortedTerms.{Right, SortOf, SortsOf, EachCase, each_then, right_either, right_cases, value_right, more_sorts}
+use Rattle.ae_lawful_problems.proofs.SortedTerms.{applied_sort, whole_sort, decimal_sort, true_sort, operation_sort, right_eq, right_related}
+use Rattle.ae_lawful_problems.proofs.SortedTerms.{right_true, right_differences, right_pred, cons_known, record_sorted, from_base, all_written}
+use Rattle.ae_lawful_problems.proofs.SortedTerms.{variable_right}
 
 -- ---- blocks
 module _ (F : Signature) (E : List Sort) where
@@ -69,43 +81,21 @@ module _ (F : Signature) (E : List Sort) where
     plain_some : Right F E (Ex (block ss [] f))
     plain_some = right_exists ss [] f a refl c
 
-    right_all_over : (l : Formula-F Formula Quant) → out-Formula f ≡ l → Right F E (all_over ss f l)
-    right_all_over (formula_layer.All q) e =
-        formula_in_all F (fits F) E (merged_quant ss q)
-        ∙ right_merged ss q a (sym (formula_in_all F (fits F) (E ++ ss) q) ∙ subst (Right F (E ++ ss)) (is_all f q e) c)
-    right_all_over formula_layer.True e = plain_all
-    right_all_over formula_layer.False e = plain_all
-    right_all_over (formula_layer.Eq s t) e = plain_all
-    right_all_over (formula_layer.Lt s t) e = plain_all
-    right_all_over (formula_layer.Le s t) e = plain_all
-    right_all_over (formula_layer.Pred p os us) e = plain_all
-    right_all_over (formula_layer.Not g) e = plain_all
-    right_all_over (formula_layer.And g h) e = plain_all
-    right_all_over (formula_layer.Or g h) e = plain_all
-    right_all_over (formula_layer.Xor g h) e = plain_all
-    right_all_over (formula_layer.Iff g h) e = plain_all
-    right_all_over (formula_layer.Ex q) e = plain_all
+    right_all_over : Right F E (all_over ss f (out-Formula f))
+    right_all_over =
+        all_over_by (Right F E) ss f plain_all
+        (λ q e. formula_in_all F (fits F) E (merged_quant ss q)
+        ∙ right_merged ss q a (sym (formula_in_all F (fits F) (E ++ ss) q) ∙ subst (Right F (E ++ ss)) (is_all f q e) c))
 
-    right_some_over : (l : Formula-F Formula Quant) → out-Formula f ≡ l → Right F E (some_over ss f l)
-    right_some_over (formula_layer.Ex q) e =
-        formula_in_ex F (fits F) E (merged_quant ss q)
-        ∙ right_merged ss q a (sym (formula_in_ex F (fits F) (E ++ ss) q) ∙ subst (Right F (E ++ ss)) (is_some f q e) c)
-    right_some_over formula_layer.True e = plain_some
-    right_some_over formula_layer.False e = plain_some
-    right_some_over (formula_layer.Eq s t) e = plain_some
-    right_some_over (formula_layer.Lt s t) e = plain_some
-    right_some_over (formula_layer.Le s t) e = plain_some
-    right_some_over (formula_layer.Pred p os us) e = plain_some
-    right_some_over (formula_layer.Not g) e = plain_some
-    right_some_over (formula_layer.And g h) e = plain_some
-    right_some_over (formula_layer.Or g h) e = plain_some
-    right_some_over (formula_layer.Xor g h) e = plain_some
-    right_some_over (formula_layer.Iff g h) e = plain_some
-    right_some_over (formula_layer.All q) e = plain_some
+    right_some_over : Right F E (some_over ss f (out-Formula f))
+    right_some_over =
+        some_over_by (Right F E) ss f plain_some
+        (λ q e. formula_in_ex F (fits F) E (merged_quant ss q)
+        ∙ right_merged ss q a (sym (formula_in_ex F (fits F) (E ++ ss) q) ∙ subst (Right F (E ++ ss)) (is_some f q e) c))
 
   pub right_over : (q : Quantifier) (ss : List Sort) (ts : List (List Term)) (f : Formula) → list_all (fits F) ss ≡ true → ok_triggers (E ++ ss) ts ≡ true → Right F (E ++ ss) f → Right F E (over q ss ts f)
-  right_over quantifier.Forall ss [] f a b c = right_all_over ss f a c (out-Formula f) refl
-  right_over quantifier.Exists ss [] f a b c = right_some_over ss f a c (out-Formula f) refl
+  right_over quantifier.Forall ss [] f a b c = right_all_over ss f a c
+  right_over quantifier.Exists ss [] f a b c = right_some_over ss f a c
   right_over quantifier.Forall ss (t ∷ ts) f a b c = right_forall ss (t ∷ ts) f a b c
   right_over quantifier.Exists ss (t ∷ ts) f a b c = right_exists ss (t ∷ ts) f a b c
 
@@ -262,4 +252,5 @@ module _ (F : Signature) (m : ℕ → Sort) (known : (n : ℕ) → fits F (m n) 
         let triggers = subst (λ G. list_all (list_all (trigger_ok F (fits F) G)) (triggers_in m (numbers inner) ps) ≡ true) under (triggers_right h) in
         subst (λ (os : List Sort). Right F (core env) (over q os (triggers_in m (reverse xs ++ numbers env) ps) (elaborated m (reverse xs ++ numbers env) f))) (sym y)
         (subst (λ (ys : List ℕ). Right F (core env) (over q (sorts bs) (triggers_in m ys ps) (elaborated m ys f))) (sym ns)
-        (right_over F (core env) q (sorts bs) (triggers_in m (numbers inner) ps) (elaborated m (numbers inner) f) (test_of_all (λ s. fits F s ≡ true) (fits F) (λ s e. e) (sorts bs) (subst (AllFit F) y (puts_fit F m known ss a))) triggers body))
+        (right_over F (core env) q (sorts bs) (triggers_in m (numbers inner) ps) (elaborated m (numbers inner) f)
+        (test_of_all (λ s. fits F s ≡ true) (fits F) (λ s e. e) (sorts bs) (subst (AllFit F) y (puts_fit F m known ss a))) triggers body))

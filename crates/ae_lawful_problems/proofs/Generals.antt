@@ -1,16 +1,16 @@
 -- The sorts of a definition: its type variables are those of its own axiom.
-use Rattle.std.proofs.Common.{arith, ◌≡◌, ◌∙◌, ◌<◌, ◌+◌, ◌-◌, ℕ, zero, suc, Bool, true, false, ◌&&◌, nat_lt, List, [], ◌∷◌, map, length, refl, sym, ap, subst, Option, Some, None, slice_get}
+use Rattle.std.proofs.Common.{arith, ◌≡◌, ◌∙◌, ◌<◌, ◌+◌, ℕ, zero, suc, Bool, true, false, nat_lt, List, [], ◌∷◌, map, length, refl, sym, ap, Some}
+use Rattle.std.proofs.Common.{slice_get}
 use Rattle.std.specs.List.{AllByRecursion, list_all}
 use Rattle.std.proofs.lemmas.Bool.{and_parts, ltb-true}
 use Rattle.ae_base.specs.Options.{or_else}
-use Rattle.ae_base.proofs.AllOf.{all_of_test}
 use Rattle.ae_base.proofs.ListFacts.{cons_same}
 use Rattle.ae_core.specs.Inner.Induction.{by_sorts}
 use Rattle.ae_core.specs.Putting.{put_sort}
 use Rattle.ae_core.specs.Sorts.{sort_ok, type_fits}
 use Rattle.ae_core.proofs.PuttingLaws as core
 use Rattle.ae_core.proofs.SortLaws.{ok_var, ok_rigid, ok_named}
-use Rattle.ae_core.specs.declared.terms.Sort.{Sort, Var, Rigid, Int, Real, Bool as BoolSort, Unit as UnitSort, Named}
+use Rattle.ae_core.specs.declared.terms.Sort.{Sort, Var, Rigid, Named}
 use Rattle.ae_core.specs.declared.problems.Signature.{Signature}
 use Rattle.ae_types.specs.Substitutions.{put}
 use Rattle.ae_elab.specs.Declarations.{generalize, rigids}

@@ -1,4 +1,5 @@
 pub mod SortedTrees
+pub mod MergedBlocks
 pub mod PutFits
 pub mod SortedTerms
 pub mod FittingTrees
@@ -17,3 +18,12 @@ pub mod NumberedFormulas
 pub mod NumberedProblems
 pub mod NoConstants
 pub mod SortedProblems
+pub mod CoveredTrees
+pub mod CoveredRules
+pub mod CoveredFormulas
+pub mod CoveredParts
+pub mod CoveredFiles
+pub mod FormulaTriggers
+pub mod VariableTerms
+pub mod TriggerFormulas
+pub mod LawfulProblems

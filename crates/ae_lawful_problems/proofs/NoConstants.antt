@@ -1,26 +1,35 @@
 -- No fresh constant stands in the formula of a text.
 use Rattle.std.proofs.Common.{◌≡◌, ◌∙◌, ℕ, ℤ, Bool, true, false, nat_eq, List, [], ◌∷◌, ◌++◌, map, reverse, refl, sym, ap, subst, Option, Some, None}
+use Rattle.ae_base.proofs.ListFacts.{empty_parts}
 use Rattle.std.specs.List.{AllByRecursion, flat_map}
 use Rattle.std.proofs.lemmas.Option.{none-some, same_Some}
 use Rattle.ae_base.proofs.AllOf.{all_append}
 use Rattle.ae_core.specs.Constants.{constants, constants_step, formula_constants, formula_constants_step}
 use Rattle.ae_core.specs.Inner.Induction.{by_terms, by_formulas}
-use Rattle.ae_core.proofs.Recursion.{fold_bound, fold_num, fold_fresh, fold_apply, fold_true, fold_false, fold_eq, fold_lt, fold_le, fold_pred, fold_not, fold_and, fold_or, fold_xor, fold_iff, fold_all, fold_ex, fold_block}
+use Rattle.ae_core.proofs.Recursion.{fold_bound, fold_num, fold_fresh, fold_apply, fold_true, fold_false, fold_eq, fold_lt, fold_le, fold_pred}
+use Rattle.ae_core.proofs.Recursion.{fold_not, fold_and, fold_or, fold_xor, fold_iff, fold_all, fold_ex, fold_block}
 use Rattle.ae_core.specs.declared.terms.Sort.{Sort, out-Sort}
 use Rattle.ae_core.specs.declared.terms.Head.{Head}
 use Rattle.ae_core.specs.declared.terms.Head.TheVariants as head
 use Rattle.ae_core.specs.declared.terms.Term.{Term, Bound, Num, Fresh, Apply}
-use Rattle.ae_core.specs.declared.formulas.Formula.{Formula, Formula-F, True, False, Eq, Lt, Le, Pred, Not, And, Or, Xor, Iff, All, Ex, out-Formula, roll-Formula, roll-out-Formula}
+use Rattle.ae_core.specs.declared.formulas.Formula.{Formula, True, False, Eq, Lt, Le, Pred, Not, And, Or, Xor, Iff, All, Ex, out-Formula}
+use Rattle.ae_core.specs.declared.formulas.Formula.{roll-Formula, roll-out-Formula}
 use Rattle.ae_core.specs.declared.formulas.Formula.TheOpen as formula_layer
 use Rattle.ae_core.specs.declared.formulas.Formula.TheVariants.{rolls-All, rolls-Ex}
 use Rattle.ae_core.specs.declared.formulas.Quant.{Quant, fold-Quant}
 use Rattle.ae_types.specs.Substitutions.{put}
 use Rattle.ae_syntax.specs.declared.exprs.Quantifier.{Quantifier}
 use Rattle.ae_syntax.specs.declared.exprs.Quantifier.TheVariants as quantifier
-use Rattle.ae_elab.specs.Trees.{Tree, Trees, Patterns, Claim, Relation, equal, unequal, less, at_most, greater, at_least, none, more, no_pattern, and_pattern, variable, numeral, apply, operation, build, update, choice, truth, falsity, relation, predicate, distinct, holds, negation, conjunction, disjunction, exclusion, equivalence, implication, conditional, quantified}
-use Rattle.ae_elab.specs.Elaboration.{Cases, leaf, branch, ◌|>◌, value_of, either_way, formula_of, distance, related, true_term, differs_from, differences, all_after, all_true, head_on, value_at, field_term, fields_from, record_of, block, merged_quant, all_over, some_over, over, term_cases, terms_cases, triggers_in, formula_in}
+use Rattle.ae_elab.specs.Trees.{Tree, Trees, Patterns, Claim, Relation, equal, unequal, less, at_most, greater, at_least, none, more, no_pattern}
+use Rattle.ae_elab.specs.Trees.{and_pattern, variable, numeral, apply, operation, build, update, choice, truth, falsity, relation, predicate}
+use Rattle.ae_elab.specs.Trees.{distinct, holds, negation, conjunction, disjunction, exclusion, equivalence, implication, conditional, quantified}
+use Rattle.ae_elab.specs.Elaboration.{Cases, leaf, branch, ◌|>◌, value_of, either_way, formula_of, distance, related, true_term, differs_from}
+use Rattle.ae_elab.specs.Elaboration.{differences, all_after, all_true, head_on, value_at, field_term, fields_from, record_of, block, merged_quant}
+use Rattle.ae_elab.specs.Elaboration.{all_over, some_over, over, term_cases, terms_cases, triggers_in, formula_in}
 use Rattle.ae_elab.specs.Numbering.{with_sorts_term, with_sorts, with_sorts_block}
-use Rattle.ae_elab.proofs.NumberRules.{with_bound, with_num, with_fresh, with_apply, with_true, with_false, with_eq, with_lt, with_le, with_pred, with_not, with_and, with_or, with_xor, with_iff, with_all, with_ex, with_block}
+use Rattle.ae_lawful_problems.proofs.MergedBlocks.{all_over_by, some_over_by}
+use Rattle.ae_elab.proofs.NumberRules.{with_bound, with_num, with_apply, with_true, with_false, with_eq, with_lt, with_le, with_pred, with_not}
+use Rattle.ae_elab.proofs.NumberRules.{with_and, with_or, with_xor, with_iff, with_all, with_ex, with_block}
 
 -- ---- the constants of a term and of a formula, at each form
 abbrev block_constants : Quant → List Term
@@ -109,10 +118,6 @@ of_ex q = fold_ex (List Term) (List Term) formula_constants_step (λ q. flat_map
 both_empty : {X : Type 0} (xs ys : List X) → xs ≡ [] → ys ≡ [] → xs ++ ys ≡ []
 both_empty xs ys a b = ap (λ zs. zs ++ ys) a ∙ b
 
-parts_empty : {X : Type 0} (xs ys : List X) → xs ++ ys ≡ [] → (xs ≡ []) × (ys ≡ [])
-parts_empty [] ys e = (refl, e)
-parts_empty (x ∷ xs) ys e = absurd (let z : ⊥ = cc e in z)
-
 abbrev pub Free : Term → Type 0
 Free u = constants u ≡ []
 
@@ -125,7 +130,7 @@ free_list (u ∷ us) a = both_empty (constants u) (flat_map constants us) a.0 (f
 
 list_free : (us : List Term) → flat_map constants us ≡ [] → AllByRecursion Free us
 list_free [] e = tt
-list_free (u ∷ us) e = let p = parts_empty (constants u) (flat_map constants us) e in (p.0, list_free us p.1)
+list_free (u ∷ us) e = let p = empty_parts (constants u) (flat_map constants us) e in (p.0, list_free us p.1)
 
 free_apply : (h : Head) (ss : List Sort) (us : List Term) → AllByRecursion Free us → Free (Apply h ss us)
 free_apply h ss us a = of_apply h ss us ∙ free_list us a
@@ -236,39 +241,15 @@ module _ (ss : List Sort) (f : Formula) (h : FreeFormula f) where
   plain_some : FreeFormula (Ex (block ss [] f))
   plain_some = of_ex (block ss [] f) ∙ h
 
-  free_all_over : (l : Formula-F Formula Quant) → out-Formula f ≡ l → FreeFormula (all_over ss f l)
-  free_all_over (formula_layer.All q) e = free_merged_all ss f q e h
-  free_all_over formula_layer.True e = plain_all
-  free_all_over formula_layer.False e = plain_all
-  free_all_over (formula_layer.Eq s t) e = plain_all
-  free_all_over (formula_layer.Lt s t) e = plain_all
-  free_all_over (formula_layer.Le s t) e = plain_all
-  free_all_over (formula_layer.Pred p os us) e = plain_all
-  free_all_over (formula_layer.Not g) e = plain_all
-  free_all_over (formula_layer.And a b) e = plain_all
-  free_all_over (formula_layer.Or a b) e = plain_all
-  free_all_over (formula_layer.Xor a b) e = plain_all
-  free_all_over (formula_layer.Iff a b) e = plain_all
-  free_all_over (formula_layer.Ex q) e = plain_all
+  free_all_over : FreeFormula (all_over ss f (out-Formula f))
+  free_all_over = all_over_by FreeFormula ss f plain_all (λ q e. free_merged_all ss f q e h)
 
-  free_some_over : (l : Formula-F Formula Quant) → out-Formula f ≡ l → FreeFormula (some_over ss f l)
-  free_some_over (formula_layer.Ex q) e = free_merged_some ss f q e h
-  free_some_over formula_layer.True e = plain_some
-  free_some_over formula_layer.False e = plain_some
-  free_some_over (formula_layer.Eq s t) e = plain_some
-  free_some_over (formula_layer.Lt s t) e = plain_some
-  free_some_over (formula_layer.Le s t) e = plain_some
-  free_some_over (formula_layer.Pred p os us) e = plain_some
-  free_some_over (formula_layer.Not g) e = plain_some
-  free_some_over (formula_layer.And a b) e = plain_some
-  free_some_over (formula_layer.Or a b) e = plain_some
-  free_some_over (formula_layer.Xor a b) e = plain_some
-  free_some_over (formula_layer.Iff a b) e = plain_some
-  free_some_over (formula_layer.All q) e = plain_some
+  free_some_over : FreeFormula (some_over ss f (out-Formula f))
+  free_some_over = some_over_by FreeFormula ss f plain_some (λ q e. free_merged_some ss f q e h)
 
 free_over : (q : Quantifier) (ss : List Sort) (ts : List (List Term)) (f : Formula) → FreeLists ts → FreeFormula f → FreeFormula (over q ss ts f)
-free_over quantifier.Forall ss [] f a h = free_all_over ss f h (out-Formula f) refl
-free_over quantifier.Exists ss [] f a h = free_some_over ss f h (out-Formula f) refl
+free_over quantifier.Forall ss [] f a h = free_all_over ss f h
+free_over quantifier.Exists ss [] f a h = free_some_over ss f h
 free_over quantifier.Forall ss (t ∷ ts) f a h = of_all (block ss (t ∷ ts) f) ∙ free_block (block ss (t ∷ ts) f) (lists_free (t ∷ ts) a) h
 free_over quantifier.Exists ss (t ∷ ts) f a h = of_ex (block ss (t ∷ ts) f) ∙ free_block (block ss (t ∷ ts) f) (lists_free (t ∷ ts) a) h
 
@@ -344,13 +325,13 @@ module _ (r : Sort → Sort) where
   terms_free : (us : List Term) → flat_map constants us ≡ [] → flat_map constants (map (with_sorts_term r) us) ≡ []
   terms_free [] e = refl
   terms_free (u ∷ us) e =
-      let p = parts_empty (constants u) (flat_map constants us) e in
+      let p = empty_parts (constants u) (flat_map constants us) e in
       both_empty (constants (with_sorts_term r u)) (flat_map constants (map (with_sorts_term r) us)) (term_free u p.0) (terms_free us p.1)
 
   triggers_free : (ts : List (List Term)) → flat_map (flat_map constants) ts ≡ [] → flat_map (flat_map constants) (map (map (with_sorts_term r)) ts) ≡ []
   triggers_free [] e = refl
   triggers_free (us ∷ ts) e =
-      let p = parts_empty (flat_map constants us) (flat_map (flat_map constants) ts) e in
+      let p = empty_parts (flat_map constants us) (flat_map (flat_map constants) ts) e in
       both_empty (flat_map constants (map (with_sorts_term r) us)) (flat_map (flat_map constants) (map (map (with_sorts_term r)) ts)) (terms_free us p.0) (triggers_free ts p.1)
 
   FormulaFree : Formula → Type 0
@@ -363,7 +344,7 @@ module _ (r : Sort → Sort) where
       → (a b : Term) → FormulaFree (C a b)
   unfolding FormulaFree
   pair_free C rule with a b h =
-      let p = parts_empty (constants a) (constants b) (sym (rule a b) ∙ h) in
+      let p = empty_parts (constants a) (constants b) (sym (rule a b) ∙ h) in
       ap formula_constants (with a b) ∙ rule (with_sorts_term r a) (with_sorts_term r b)
       ∙ both_empty (constants (with_sorts_term r a)) (constants (with_sorts_term r b)) (term_free a p.0) (term_free b p.1)
 
@@ -371,7 +352,7 @@ module _ (r : Sort → Sort) where
       → (a b : Formula) → FormulaFree a → FormulaFree b → FormulaFree (C a b)
   unfolding FormulaFree
   two_free C rule with a b x y h =
-      let p = parts_empty (formula_constants a) (formula_constants b) (sym (rule a b) ∙ h) in
+      let p = empty_parts (formula_constants a) (formula_constants b) (sym (rule a b) ∙ h) in
       ap formula_constants (with a b) ∙ rule (with_sorts r a) (with_sorts r b) ∙ both_empty (formula_constants (with_sorts r a)) (formula_constants (with_sorts r b)) (x p.0) (y p.1)
 
   pub changed_free : (f : Formula) → FreeFormula f → FreeFormula (with_sorts r f)
@@ -384,6 +365,6 @@ module _ (r : Sort → Sort) where
       (two_free And of_and (with_and r)) (two_free Or of_or (with_or r)) (two_free Xor of_xor (with_xor r)) (two_free Iff of_iff (with_iff r))
       (λ q x h. ap formula_constants (with_all r q) ∙ of_all (with_sorts_block r q) ∙ x (sym (of_all q) ∙ h))
       (λ q x h. ap formula_constants (with_ex r q) ∙ of_ex (with_sorts_block r q) ∙ x (sym (of_ex q) ∙ h))
-      (λ q x h. let p = parts_empty (flat_map (flat_map constants) q.triggers) (formula_constants q.body) h in
+      (λ q x h. let p = empty_parts (flat_map (flat_map constants) q.triggers) (formula_constants q.body) h in
       ap block_constants (with_block r q)
       ∙ both_empty (flat_map (flat_map constants) (map (map (with_sorts_term r)) q.triggers)) (formula_constants (with_sorts r q.body)) (triggers_free q.triggers p.0) (x p.1))

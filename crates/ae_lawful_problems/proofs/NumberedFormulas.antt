@@ -1,9 +1,10 @@
 -- A formula whose sorts are changed part by part is well sorted where it was, and where each changed sort may stand: formulas.
-use Rattle.std.proofs.Common.{◌≡◌, ◌∙◌, ℕ, ℤ, Bool, true, false, ◌&&◌, ◌||◌, nat_eq, List, [], ◌∷◌, ◌++◌, map, length, refl, sym, ap, subst, Option, Some, None, slice_get, true≢false}
+use Rattle.std.proofs.Common.{◌≡◌, ◌∙◌, ℕ, Bool, true, false, ◌&&◌, ◌||◌, nat_eq, List, [], ◌∷◌, ◌++◌, map, length, refl, sym, ap, subst, Option}
+use Rattle.std.proofs.Common.{Some, None, slice_get, true≢false}
 use Rattle.std.specs.List.{AllByRecursion, list_all, flat_map}
 use Rattle.std.proofs.lemmas.Bool.{and_parts, and_from, or_right, eqb-true, eq-eqb}
 use Rattle.std.proofs.lemmas.List.{length-map, map-append}
-use Rattle.std.proofs.lemmas.Option.{none-some, same_Some}
+use Rattle.std.proofs.lemmas.Option.{same_Some}
 use Rattle.ae_base.specs.Options.{or_else, ◌>>=◌, all_known, known}
 use Rattle.ae_base.proofs.AllOf.{all_front, all_back}
 use Rattle.ae_base.proofs.Decided.{decided_of, decided_yes}
@@ -13,22 +14,26 @@ use Rattle.ae_core.specs.Decided.{Sort_discrete, Sorts_discrete}
 use Rattle.ae_core.specs.Inner.Induction.{by_terms, by_formulas}
 use Rattle.ae_core.specs.Putting.{put_sort}
 use Rattle.ae_core.specs.Signatures.{is_sort_over, IsLawful}
-use Rattle.ae_core.specs.Sorts.{sort_in, same_sort, same_sorts, same_known, same_numeric, is_numeric, predicate_fits, predicate_ok, applied_ok, trigger_ok, formula_in, quant_in}
+use Rattle.ae_core.specs.Sorts.{sort_in, same_sort, same_sorts, same_known, same_numeric, is_numeric, predicate_fits, predicate_ok, applied_ok}
+use Rattle.ae_core.specs.Sorts.{trigger_ok, formula_in, quant_in}
 use Rattle.ae_core.proofs.SortFacts.{same_known_is, same_known_of, numeric_known}
-use Rattle.ae_core.proofs.SortLaws.{formula_in_true, formula_in_false, formula_in_eq, formula_in_lt, formula_in_le, formula_in_pred, formula_in_not, formula_in_and, formula_in_or, formula_in_xor, formula_in_iff, formula_in_all, formula_in_ex, quant_in_block}
+use Rattle.ae_core.proofs.SortLaws.{formula_in_true, formula_in_false, formula_in_eq, formula_in_lt, formula_in_le, formula_in_pred, formula_in_not}
+use Rattle.ae_core.proofs.SortLaws.{formula_in_and, formula_in_or, formula_in_xor, formula_in_iff, formula_in_all, formula_in_ex, quant_in_block}
 use Rattle.ae_core.specs.declared.terms.Sort.{Sort, Int, Real}
 use Rattle.ae_core.specs.declared.terms.Head.{Head}
 use Rattle.ae_core.specs.declared.terms.Head.TheVariants as head
 use Rattle.ae_core.specs.declared.terms.Term.{Term, Term-F, Bound, Num, Fresh, Apply, out-Term, out-roll-Term}
 use Rattle.ae_core.specs.declared.terms.Term.TheOpen as layer
 use Rattle.ae_core.specs.declared.terms.Term.TheVariants.{rolls-Bound, rolls-Num, rolls-Fresh, rolls-Apply}
-use Rattle.ae_core.specs.declared.formulas.Formula.{Formula, True, False, Eq, Lt, Le, Pred, Not, And, Or, Xor, Iff, All, Ex}
+use Rattle.ae_core.specs.declared.formulas.Formula.{Formula, And, Or, Xor, Iff}
 use Rattle.ae_core.specs.declared.formulas.Quant.{Quant}
 use Rattle.ae_core.specs.declared.problems.Signature.{Signature}
 use Rattle.ae_core.specs.declared.problems.SymbolEntry.{SymbolEntry}
 use Rattle.ae_elab.specs.Numbering.{sorts_in_term, sorts_in, sorts_in_block, with_sorts_term, with_sorts, with_sorts_block}
-use Rattle.ae_elab.proofs.NumberRules.{with_bound, with_num, with_fresh, with_apply, in_apply, with_true, with_false, with_eq, with_lt, with_le, with_pred, with_not, with_and, with_or, with_xor, with_iff, with_all, with_ex, with_block, in_eq, in_lt, in_le, in_pred, in_not, in_and, in_or, in_xor, in_iff, in_all, in_ex, in_block}
-use Rattle.ae_lawful_problems.proofs.NumberedSorts.{Allowed, term_changed}
+use Rattle.ae_elab.proofs.NumberRules.{with_apply, in_apply, with_true, with_false, with_eq, with_lt, with_le, with_pred, with_not, with_and, with_or}
+use Rattle.ae_elab.proofs.NumberRules.{with_xor, with_iff, with_all, with_ex, with_block, in_eq, in_lt, in_le, in_pred, in_not, in_and, in_or, in_xor}
+use Rattle.ae_elab.proofs.NumberRules.{in_iff, in_all, in_ex, in_block}
+use Rattle.ae_lawful_problems.proofs.NumberedSorts.{term_changed}
 use Rattle.ae_lawful_problems.proofs.PutFits.{Changes, puts_changed}
 
 module _ (F : Signature) (law : IsLawful F) (r : Sort → Sort) (change : Changes r) (may may' : Sort → Bool) where
@@ -53,7 +58,8 @@ module _ (F : Signature) (law : IsLawful F) (r : Sort → Sort) (change : Change
         let k = same_known_is (sort a) (sort b) h in
         let x = known_some (sort a) k.0 in
         let b_is = sym k.1 ∙ x.1 in
-        (x.0, x.1, b_is, changed a x.0 x.1 (all_front (λ s. may s ≡ true → may' (r s) ≡ true) (sorts_in_term a) (sorts_in_term b) c), changed b x.0 b_is (all_back (λ s. may s ≡ true → may' (r s) ≡ true) (sorts_in_term a) (sorts_in_term b) c))
+        let Kept = λ (s : Sort). may s ≡ true → may' (r s) ≡ true in
+        (x.0, x.1, b_is, changed a x.0 x.1 (all_front Kept (sorts_in_term a) (sorts_in_term b) c), changed b x.0 b_is (all_back Kept (sorts_in_term a) (sorts_in_term b) c))
 
     same_changed : (a b : Term) → same_known (sort a) (sort b) ≡ true → May (sorts_in_term a ++ sorts_in_term b) → same_known (sort' (terms a)) (sort' (terms b)) ≡ true
     same_changed a b h c =

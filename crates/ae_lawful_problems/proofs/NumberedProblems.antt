@@ -1,5 +1,6 @@
 -- Type variables are numbered: each that stands in a formula is among those that are counted.
-use Rattle.std.proofs.Common.{◌≡◌, ◌∙◌, ◌<◌, ℕ, Bool, true, false, ◌&&◌, ◌||◌, nat_lt, List, [], ◌∷◌, ◌++◌, map, length, refl, sym, ap, subst, Option, Some, None, append_assoc}
+use Rattle.std.proofs.Common.{◌≡◌, ◌∙◌, ◌<◌, ℕ, Bool, true, false, ◌||◌, nat_lt, List, [], ◌∷◌, ◌++◌, map, length, refl, sym, ap, subst, Option, Some}
+use Rattle.std.proofs.Common.{None, append_assoc}
 use Rattle.std.specs.List.{AllByRecursion, list_all, list_any, flat_map}
 use Rattle.std.proofs.lemmas.Bool.{and_parts, and_from, lt-ltb}
 use Rattle.std.proofs.lemmas.List.{length-map, append-nil}
@@ -16,9 +17,10 @@ use Rattle.ae_core.specs.declared.terms.Sort.{Sort, Var, Rigid, Int, Real, Bool 
 use Rattle.ae_core.specs.declared.formulas.Formula.{Formula}
 use Rattle.ae_core.specs.declared.problems.Signature.{Signature}
 use Rattle.ae_elab.specs.Scope.{first_place, after_one}
-use Rattle.ae_elab.specs.Numbering.{sorts_in, open_sorts, once_more, variables_among_sorts, numbered_as, by_place, numbered_sort, with_sorts, numbered}
+use Rattle.ae_elab.specs.Numbering.{sorts_in, open_sorts, once_more, variables_among_sorts, numbered_as, by_place, numbered_sort, numbered}
 use Rattle.ae_elab.proofs.IndexLaws.{first_stays}
-use Rattle.ae_elab.proofs.NumberRules.{open_var, open_rigid, open_named, number_var, number_rigid, number_int, number_real, number_bool, number_unit, number_named}
+use Rattle.ae_elab.proofs.NumberRules.{open_var, open_rigid, open_named, number_var, number_rigid, number_int, number_real, number_bool, number_unit}
+use Rattle.ae_elab.proofs.NumberRules.{number_named}
 use Rattle.ae_typed_laws.proofs.SortRules.{first_within}
 use Rattle.ae_lawful_problems.proofs.SortedTrees.{fits}
 use Rattle.ae_lawful_problems.proofs.PutFits.{Changes}

@@ -1,38 +1,37 @@
 -- A formula whose sorts are changed part by part is well sorted where it was, and where each changed sort may stand.
-use Rattle.std.proofs.Common.{◌≡◌, ◌≢◌, ◌∙◌, ◌<◌, ℕ, ℤ, Bool, true, false, cond, ◌&&◌, nat_eq, nat_lt, List, [], ◌∷◌, ◌++◌, map, reverse, length, refl, sym, ap, subst, Option, Some, None, slice_get, get_or}
+use Rattle.std.proofs.Common.{◌≡◌, ◌≢◌, ◌∙◌, ℕ, ℤ, Bool, true, false, ◌&&◌, nat_eq, List, [], ◌∷◌, map, reverse, length, refl, sym, ap, subst, Option}
+use Rattle.std.proofs.Common.{Some, None, slice_get}
 use Rattle.std.specs.List.{AllByRecursion, list_all, flat_map}
 use Rattle.std.specs.Option.{option_map}
-use Rattle.std.proofs.lemmas.Bool.{and_parts, and_from, ltb-true, eqb-true, eq-eqb}
-use Rattle.std.proofs.lemmas.List.{length-map, map-append}
-use Rattle.std.proofs.lemmas.Option.{none-some, same_Some, slice_get-map, slice_get-get_or}
-use Rattle.ae_base.specs.Options.{or_else, ◌>>=◌, only, when, all_known}
-use Rattle.ae_base.proofs.AllOf.{all_front, all_back, test_of_all}
+use Rattle.std.proofs.lemmas.Bool.{and_parts, and_from, eqb-true, eq-eqb}
+use Rattle.std.proofs.lemmas.List.{length-map}
+use Rattle.std.proofs.lemmas.Option.{none-some, same_Some, slice_get-map}
+use Rattle.ae_base.specs.Options.{◌>>=◌, only, when, all_known}
+use Rattle.ae_base.proofs.AllOf.{all_front, all_back}
 use Rattle.ae_base.proofs.Decided.{decided_of, decided_yes}
 use Rattle.ae_base.proofs.ListFacts.{cons_same, map_reverse, list_all_at, list_all_weaker}
 use Rattle.ae_base.proofs.Tests.{three_parts}
 use Rattle.ae_base.proofs.Options.{bind_some, only_some, when_some, cons_some}
 use Rattle.ae_core.specs.Decided.{Sorts_discrete}
-use Rattle.ae_core.specs.Inner.Induction.{by_sorts, by_terms}
+use Rattle.ae_core.specs.Inner.Induction.{by_terms}
 use Rattle.ae_core.specs.Putting.{put_sort}
 use Rattle.ae_core.specs.Signatures.{is_sort_over, is_field_sort, names_below, is_result, IsLawful, IsLawfulType}
-use Rattle.ae_core.specs.Sorts.{sort_ok, type_fits, sort_in, variable_sort, numeral_ok, head_sort, symbol_sort, record_sort, field_sort, field_at, operands, on_real, same_sorts}
-use Rattle.ae_core.proofs.PuttingLaws as core
-use Rattle.ae_core.proofs.SortLaws.{ok_var, ok_rigid, ok_named, sort_in_bound, sort_in_num, sort_in_fresh, sort_in_apply}
-use Rattle.ae_core.specs.declared.terms.Sort.{Sort, Var, Rigid, Int, Real, Bool as BoolSort, Unit as UnitSort, Named}
+use Rattle.ae_core.specs.Sorts.{sort_in, numeral_ok, head_sort, symbol_sort, record_sort, field_sort, field_at, operands, on_real, same_sorts}
+use Rattle.ae_core.proofs.SortLaws.{sort_in_bound, sort_in_num, sort_in_fresh, sort_in_apply}
+use Rattle.ae_core.specs.declared.terms.Sort.{Sort, Int, Real, Bool as BoolSort, Unit as UnitSort, Named}
 use Rattle.ae_core.specs.declared.terms.Op.{Op}
 use Rattle.ae_core.specs.declared.terms.Op.TheVariants as op
 use Rattle.ae_core.specs.declared.terms.Head.{Head}
 use Rattle.ae_core.specs.declared.terms.Head.TheVariants as head
 use Rattle.ae_core.specs.declared.terms.Term.{Term, Bound, Num, Fresh, Apply}
 use Rattle.ae_core.specs.declared.problems.Signature.{Signature}
-use Rattle.ae_core.specs.declared.problems.SymbolEntry.{SymbolEntry}
 use Rattle.ae_core.specs.declared.problems.TypeEntry.{TypeEntry}
 use Rattle.ae_core.specs.declared.problems.FieldEntry.{FieldEntry}
 use Rattle.ae_core.specs.declared.problems.Kind.{Kind}
 use Rattle.ae_core.specs.declared.problems.Kind.TheVariants.{Abstract, Choices, Fields}
 use Rattle.ae_elab.specs.Numbering.{sorts_in_term, with_sorts_term}
 use Rattle.ae_lawful_problems.proofs.PutFits.{Changes, put_changed, puts_changed}
-use Rattle.ae_elab.proofs.NumberRules.{with_bound, with_num, with_fresh, with_apply, in_bound, in_num, in_fresh, in_apply}
+use Rattle.ae_elab.proofs.NumberRules.{with_bound, with_num, with_fresh, with_apply, in_fresh, in_apply}
 
 module _ (F : Signature) (law : IsLawful F) (r : Sort → Sort) (change : Changes r) where
   -- ---- heads

@@ -1,18 +1,17 @@
 -- Sorts that are put into sorts, and whether they fit.
-use Rattle.std.proofs.Common.{arith, ◌≡◌, ◌∙◌, ◌<◌, ℕ, zero, suc, Bool, true, false, ◌&&◌, nat_eq, nat_lt, List, [], ◌∷◌, map, length, refl, sym, ap, Option, Some, None, slice_get, get_or}
+use Rattle.std.proofs.Common.{◌≡◌, ◌∙◌, ℕ, Bool, true, false, nat_lt, List, [], ◌∷◌, map, length, refl, sym, ap, Some, slice_get, get_or}
 use Rattle.std.specs.List.{AllByRecursion, list_all}
 use Rattle.std.specs.Option.{option_map}
-use Rattle.std.proofs.lemmas.Bool.{and_parts, and_from, ltb-true, eq-eqb}
+use Rattle.std.proofs.lemmas.Bool.{and_parts, and_from, ltb-true}
 use Rattle.std.proofs.lemmas.List.{length-map}
-use Rattle.std.proofs.lemmas.Option.{none-some, same_Some, slice_get-map, slice_get-get_or}
-use Rattle.ae_base.specs.Options.{or_else, ◌>>=◌, only, when}
-use Rattle.ae_base.proofs.AllOf.{all_of_test, test_of_all, all_at}
+use Rattle.std.proofs.lemmas.Option.{slice_get-map, slice_get-get_or}
+use Rattle.ae_base.specs.Options.{or_else}
+use Rattle.ae_base.proofs.AllOf.{test_of_all, all_at}
 use Rattle.ae_base.proofs.ListFacts.{cons_same}
-use Rattle.ae_core.specs.Decided.{Sorts_discrete}
 use Rattle.ae_core.specs.Inner.Induction.{by_sorts}
 use Rattle.ae_core.specs.Putting.{put_sort}
 use Rattle.ae_core.specs.Signatures.{is_sort_over}
-use Rattle.ae_core.specs.Sorts.{sort_ok, type_fits}
+use Rattle.ae_core.specs.Sorts.{type_fits}
 use Rattle.ae_core.proofs.PuttingLaws as core
 use Rattle.ae_core.proofs.SortLaws.{ok_var, ok_rigid, ok_int, ok_real, ok_bool, ok_unit, ok_named}
 use Rattle.ae_core.specs.declared.terms.Sort.{Sort, Var, Rigid, Int, Real, Bool as BoolSort, Unit as UnitSort, Named}

@@ -1,12 +1,12 @@
 -- The formulas of a typed file are closed and well sorted.
-use Rattle.std.proofs.Common.{◌≡◌, ℕ, Bool, true, false, List, [], ◌∷◌, length, sym, subst}
+use Rattle.std.proofs.Common.{◌≡◌, ℕ, Bool, true, false, List, [], length, sym, subst}
 use Rattle.std.specs.List.{AllByRecursion}
 use Rattle.ae_base.proofs.AllOf.{all_weaker, all_of_map}
 use Rattle.ae_core.specs.Constants.{formula_constants}
 use Rattle.ae_core.specs.declared.formulas.Formula.{Formula}
 use Rattle.ae_core.specs.declared.problems.Item.{Item}
 use Rattle.ae_core.specs.Signatures.{IsLawful}
-use Rattle.ae_core.specs.Sorts.{sort_ok, formula_in}
+use Rattle.ae_core.specs.Sorts.{formula_in}
 use Rattle.ae_core.specs.declared.terms.Sort.{Sort}
 use Rattle.ae_core.specs.declared.problems.Problem.{Problem}
 use Rattle.ae_core.specs.declared.problems.Signature.{Signature}
@@ -37,13 +37,13 @@ module _ (text : List ℕ) (tokens : List Token) (file : File) (p : Problem) (t 
   abbrev m : ℕ → Sort
   m = h.typing
 
-  met : AllByRecursion (IsMetOne m) (conditions_of text file)
+  pub met : AllByRecursion (IsMetOne m) (conditions_of text file)
   met = met_each m (conditions_of text file) h.principal.typing
 
-  trees : AllByRecursion (IsDeclaration text) file.decls
+  pub trees : AllByRecursion (IsDeclaration text) file.decls
   trees = file_made text tokens file t i
 
-  law : IsLawful F
+  pub law : IsLawful F
   law = sane_lawful F (file_sane m text file trees met)
 
   made : Made F law m text (decls_rule text no_declarations file.decls) (record { next = 0; written = [] })

@@ -1,35 +1,36 @@
 -- A tree whose sorts fit is elaborated to terms and formulas that are well sorted.
-use Rattle.std.proofs.Common.{arith, ◌≡◌, ◌∙◌, ◌⊎◌, inl, inr, ◌<◌, ◌+◌, ℕ, ℤ, zero, suc, Bool, true, false, not, ◌&&◌, ◌||◌, cond, nat_eq, List, [], ◌∷◌, ◌++◌, map, reverse, length, refl, sym, ap, subst, Option, Some, None, slice_get, append_assoc}
+use Rattle.std.proofs.Common.{arith, ◌≡◌, ◌∙◌, ◌⊎◌, inl, inr, ◌<◌, ◌+◌, ℕ, ℤ, zero, suc, Bool, true, false, ◌&&◌, ◌||◌, nat_eq, List, [], ◌∷◌, ◌++◌}
+use Rattle.std.proofs.Common.{map, reverse, length, refl, sym, ap, subst, Option, Some, None, slice_get, append_assoc}
 use Rattle.std.specs.List.{AllByRecursion, list_all}
-use Rattle.std.proofs.lemmas.Bool.{and_parts, and_from, or_right, eqb-true, eq-eqb}
+use Rattle.std.proofs.lemmas.Bool.{and_from, or_right, eqb-true, eq-eqb}
 use Rattle.std.proofs.lemmas.List.{reverse-reverse, length-append}
 use Rattle.std.proofs.lemmas.Option.{none-some, same_Some}
-use Rattle.ae_base.specs.Options.{or_else, ◌>>=◌, only, when, all_known, known}
+use Rattle.ae_base.specs.Options.{or_else, ◌>>=◌, only, when, all_known}
 use Rattle.ae_base.proofs.AllOf.{all_append, test_of_all}
-use Rattle.ae_base.proofs.Decided.{decided_of, decided_yes}
+use Rattle.ae_base.proofs.Decided.{decided_of}
 use Rattle.ae_base.proofs.ListFacts.{get_seam, cons_head, cons_tail}
 use Rattle.ae_core.specs.Decided.{Sort_discrete, Sorts_discrete}
-use Rattle.ae_core.specs.Sorts.{sort_ok, numeral_ok, head_sort, field_at, field_sort, record_sort, operands, on_real, predicate_fits, predicate_ok, same_sort, same_sorts, same_known, same_numeric, is_numeric, sort_in, variable_sort, formula_in, quant_in, trigger_ok, applied_ok}
+use Rattle.ae_core.specs.Sorts.{numeral_ok, head_sort, field_at, field_sort, record_sort, operands, on_real, predicate_fits, predicate_ok, same_sort}
+use Rattle.ae_core.specs.Sorts.{same_sorts, same_known, same_numeric, is_numeric, sort_in, formula_in}
 use Rattle.ae_core.specs.Putting.{put_sort}
-use Rattle.ae_core.proofs.SortLaws.{sort_in_bound, sort_in_num, sort_in_apply, formula_in_true, formula_in_false, formula_in_eq, formula_in_lt, formula_in_le, formula_in_pred, formula_in_not, formula_in_and, formula_in_or, formula_in_xor, formula_in_iff, formula_in_all, formula_in_ex, quant_in_block}
+use Rattle.ae_core.proofs.SortLaws.{sort_in_bound, sort_in_num, sort_in_apply, formula_in_true, formula_in_eq, formula_in_lt, formula_in_le}
+use Rattle.ae_core.proofs.SortLaws.{formula_in_not, formula_in_and, formula_in_or}
 use Rattle.ae_core.specs.declared.terms.Sort.{Sort, Int, Real, Bool as BoolSort, Named, out-Sort}
-use Rattle.ae_core.specs.declared.terms.Sort.TheOpen as sort_layer
 use Rattle.ae_core.specs.declared.terms.Sort.TheVariants.{outs-Int, outs-Real}
 use Rattle.ae_core.specs.declared.terms.Head.{Head}
 use Rattle.ae_core.specs.declared.terms.Head.TheVariants as head
 use Rattle.ae_core.specs.declared.terms.Op.{Op}
 use Rattle.ae_core.specs.declared.terms.Term.{Term, Bound, Num, Apply}
-use Rattle.ae_core.specs.declared.formulas.Formula.{Formula, True, False, Eq, Lt, Le, Pred, Not, And, Or, Xor, Iff, All, Ex, out-Formula}
-use Rattle.ae_core.specs.declared.formulas.Quant.{Quant}
+use Rattle.ae_core.specs.declared.formulas.Formula.{Formula, Eq, Not, And, Or}
 use Rattle.ae_core.specs.declared.problems.Signature.{Signature}
 use Rattle.ae_core.specs.declared.problems.SymbolEntry.{SymbolEntry}
-use Rattle.ae_core.specs.declared.problems.TypeEntry.{TypeEntry}
 use Rattle.ae_core.specs.declared.problems.FieldEntry.{FieldEntry}
 use Rattle.ae_core.specs.declared.problems.Kind.TheVariants.{Abstract, Choices, Fields}
-use Rattle.ae_types.specs.Substitutions.{put}
-use Rattle.ae_elab.specs.Trees.{Tree, Trees, Patterns, Claim, Relation, equal, unequal, less, at_most, greater, at_least, none, more, variable, numeral, apply, operation, build, update, choice}
-use Rattle.ae_elab.specs.Elaboration.{Cases, leaf, branch, ◌|>◌, value_of, either_way, formula_of, distance, related, true_term, differs_from, differences, all_after, all_true, head_on, value_at, field_term, fields_from, record_of}
-use Rattle.ae_lawful_problems.proofs.SortedTrees.{Env, look, numbers, sorts, fits, AllFit, IsNumber, IsNumeric, IsRecordType, AreFieldSorts, IsPredicate, IsRelated}
+use Rattle.ae_elab.specs.Trees.{Relation, equal, unequal, less, at_most, greater, at_least}
+use Rattle.ae_elab.specs.Elaboration.{Cases, leaf, branch, ◌|>◌, value_of, either_way, formula_of, distance, related, true_term, differs_from}
+use Rattle.ae_elab.specs.Elaboration.{differences, all_after, all_true, head_on, value_at, field_term, fields_from, record_of}
+use Rattle.ae_lawful_problems.proofs.SortedTrees.{Env, look, numbers, sorts, fits, AllFit, IsNumber, IsNumeric, IsRecordType, AreFieldSorts}
+use Rattle.ae_lawful_problems.proofs.SortedTrees.{IsPredicate, IsRelated}
 
 -- ---- bound variables
 found_at : (b : Bool) (s t : Sort) (o : Option Sort) (ss : List Sort) (d : ℕ) → elim b [ true ↦ Some s | false ↦ o ] ≡ Some t → (o ≡ Some t → slice_get ss d ≡ Some t)

@@ -1,7 +1,8 @@
 -- Typed trees whose sorts fit, under sorts put for the unknowns.
-use Rattle.std.proofs.Common.{◌≡◌, ◌⊎◌, ◌<◌, ℕ, ℤ, Bool, true, false, nat_eq, List, [], ◌∷◌, ◌++◌, map, reverse, length, Option, Some, None, slice_get}
+use Rattle.std.proofs.Common.{◌≡◌, ◌⊎◌, ◌<◌, ℕ, ℤ, Bool, true, false, nat_eq, List, [], ◌∷◌, ◌++◌, map, reverse, length, Option, Some, None}
+use Rattle.std.proofs.Common.{slice_get}
 use Rattle.std.specs.List.{AllByRecursion}
-use Rattle.ae_core.specs.Sorts.{sort_ok, numeral_ok, head_sort, field_at, operands, on_real, predicate_fits, same_sort}
+use Rattle.ae_core.specs.Sorts.{sort_ok, numeral_ok, head_sort, field_at, operands, on_real, predicate_fits}
 use Rattle.ae_core.specs.declared.terms.Sort.{Sort, Int, Real, Bool as BoolSort, Named}
 use Rattle.ae_core.specs.declared.terms.Head.{Head}
 use Rattle.ae_core.specs.declared.terms.Head.TheVariants as head
@@ -14,7 +15,9 @@ use Rattle.ae_core.specs.declared.problems.Kind.TheVariants.{Fields}
 use Rattle.ae_types.specs.Substitutions.{put}
 use Rattle.ae_syntax.specs.declared.spans.Span.{Span}
 use Rattle.ae_syntax.specs.declared.exprs.Quantifier.{Quantifier}
-use Rattle.ae_elab.specs.Trees.{Tree, Trees, Patterns, Claim, Relation, equal, unequal, less, at_most, greater, at_least, none, more, no_pattern, and_pattern, variable, numeral, apply, operation, build, update, choice, truth, falsity, relation, predicate, distinct, holds, negation, conjunction, disjunction, exclusion, equivalence, implication, conditional, quantified}
+use Rattle.ae_elab.specs.Trees.{Tree, Trees, Patterns, Claim, Relation, equal, unequal, none, more, no_pattern, and_pattern, variable, numeral, apply}
+use Rattle.ae_elab.specs.Trees.{operation, build, update, choice, truth, falsity, relation, predicate, distinct, holds, negation, conjunction}
+use Rattle.ae_elab.specs.Trees.{disjunction, exclusion, equivalence, implication, conditional, quantified}
 
 -- the bound variables with their sorts, the innermost first
 abbrev pub Env : Type 0

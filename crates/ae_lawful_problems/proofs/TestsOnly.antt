@@ -1,23 +1,21 @@
 -- Rules that state nothing of sorts: names and numbers alone are looked at.
-use Rattle.std.proofs.Common.{◌≡◌, ℕ, true, false, not, ◌&&◌, Bool, List, [], ◌∷◌, ◌++◌, map, length, sym, subst, Option, Some, None}
+use Rattle.std.proofs.Common.{ℕ, true, false, Bool, List, [], ◌∷◌, ◌++◌, map, sym, subst, Option, Some, None}
 use Rattle.std.specs.List.{AllByRecursion}
 use Rattle.std.specs.Str.{bytes_eq}
 use Rattle.ae_base.proofs.AllOf.{all_append}
-use Rattle.ae_core.specs.declared.terms.Sort.{Sort, Var, Rigid, Int, Real, Bool as BoolSort, Unit as UnitSort, Named}
+use Rattle.ae_core.specs.declared.terms.Sort.{Sort}
 use Rattle.ae_core.specs.declared.problems.Signature.{Signature}
-use Rattle.ae_core.specs.Sorts.{type_fits}
 use Rattle.ae_syntax.specs.declared.spans.Span.{Span}
 use Rattle.ae_syntax.specs.declared.types.WrittenType.{WrittenType}
 use Rattle.ae_syntax.specs.declared.exprs.Quantifier.{Quantifier}
-use Rattle.ae_elab.specs.declared.faults.TypeFault.{TypeFault}
-use Rattle.ae_elab.specs.declared.faults.TypeFault.TheVariants as fault
 use Rattle.ae_elab.specs.declared.grounds.Ground.{Ground}
 use Rattle.ae_elab.specs.declared.grounds.Ground.TheVariants as ground
-use Rattle.ae_elab.specs.Conditions.{Condition, test}
-use Rattle.ae_elab.specs.Trees.{Patterns, Claim, no_pattern, and_pattern, truth, falsity, relation, predicate, distinct, holds, negation, conjunction, disjunction, exclusion, equivalence, implication, conditional, quantified}
+use Rattle.ae_elab.specs.Conditions.{Condition}
+use Rattle.ae_elab.specs.Trees.{Patterns, Claim, no_pattern, and_pattern, truth, falsity, relation, predicate, distinct, holds, negation, conjunction}
+use Rattle.ae_elab.specs.Trees.{disjunction, exclusion, equivalence, implication, conditional, quantified}
 use Rattle.ae_elab.specs.Scope.{Scope, name_at, type_number, first_place}
-use Rattle.ae_elab.specs.Rules.{Passed, Rule, give, ◌>>◌, ◌⇒◌, refuse, each, occurrence, Around}
-use Rattle.ae_elab.specs.WrittenTypes.{TypeRule, type_rule, variable_rule, parameter, is_other, named_rule}
+use Rattle.ae_elab.specs.Rules.{Passed, Rule, give, ◌>>◌, each, occurrence, Around}
+use Rattle.ae_elab.specs.WrittenTypes.{TypeRule, type_rule, variable_rule, parameter, named_rule}
 use Rattle.ae_elab.specs.Formulas.{all_new, same_quantifier, covering_all, merging_triggers, merging, merging_into}
 use Rattle.ae_typed_laws.proofs.BuiltRules.{int_rule, real_rule, bool_rule, unit_rule, var_rule, named_type_rule}
 use Rattle.ae_typed_laws.proofs.ParsedTrees.{IsWritten, AreWritten, is_int, is_real, is_bool, is_unit, is_var, is_named, and_type, no_types}

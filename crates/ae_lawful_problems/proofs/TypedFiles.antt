@@ -1,15 +1,15 @@
 -- Where its conditions are met, a parsed file has axioms and goals whose trees fit.
-use Rattle.std.proofs.Common.{arith, ◌≡◌, ◌∙◌, ◌≤◌, ◌+◌, ℕ, suc, Bool, true, false, not, ◌||◌, List, [], ◌∷◌, ◌++◌, map, reverse, length, refl, sym, ap, subst, Option, Some, None, slice_get}
+use Rattle.std.proofs.Common.{arith, ◌≡◌, ◌∙◌, ◌≤◌, ℕ, suc, Bool, true, false, not, List, [], ◌∷◌, ◌++◌, map, reverse, length, refl, sym, ap, subst}
+use Rattle.std.proofs.Common.{Option, Some, None, slice_get}
 use Rattle.std.specs.List.{AllByRecursion}
-use Rattle.std.specs.Option.{is_some}
-use Rattle.std.proofs.lemmas.List.{length-map, reverse-append}
+use Rattle.std.proofs.lemmas.List.{reverse-append}
 use Rattle.ae_base.proofs.AllOf.{all_append, all_front, all_back}
 use Rattle.ae_base.proofs.ListFacts.{get_append, get_seam}
 use Rattle.ae_core.specs.Putting.{put_sort}
 use Rattle.ae_core.specs.Signatures.{IsLawful}
 use Rattle.ae_core.specs.Sorts.{head_sort}
 use Rattle.ae_core.proofs.SortLaws.{ok_rigid}
-use Rattle.ae_core.specs.declared.terms.Sort.{Sort, Rigid}
+use Rattle.ae_core.specs.declared.terms.Sort.{Sort}
 use Rattle.ae_core.specs.declared.terms.Head.TheVariants as head
 use Rattle.ae_core.specs.declared.problems.Signature.{Signature}
 use Rattle.ae_core.specs.declared.problems.SymbolEntry.{SymbolEntry}
@@ -31,18 +31,23 @@ use Rattle.ae_elab.specs.declared.faults.TypeFault.TheVariants as fault
 use Rattle.ae_elab.specs.declared.grounds.Ground.{Ground}
 use Rattle.ae_elab.specs.declared.grounds.Ground.TheVariants as ground
 use Rattle.ae_elab.specs.Conditions.{Condition, test}
-use Rattle.ae_elab.specs.Trees.{Tree, Trees, Claim, none, more, trees, no_pattern, and_pattern, equal, variable, apply, relation, predicate, equivalence, quantified}
-use Rattle.ae_elab.specs.Scope.{Scope, name_in, is_among}
+use Rattle.ae_elab.specs.Trees.{Tree, Claim, none, more, trees, no_pattern, and_pattern, equal, variable, apply, relation, predicate, equivalence}
+use Rattle.ae_elab.specs.Scope.{name_in, is_among}
 use Rattle.ae_elab.specs.Rules.{Passed, Rule, give, ◌>>◌, ◌⇒◌, all_of, each, fresh, count_written, as_formula, wanted}
 use Rattle.ae_elab.specs.WrittenTypes.{type_rule}
 use Rattle.ae_elab.specs.Formulas.{Bound, with_block}
 use Rattle.ae_elab.specs.Expressions.{part_of}
-use Rattle.ae_elab.specs.Declarations.{Draft, Declared, only_declared, declared, drafted, twice, new_type, new_symbol, has_field, all_different, with_types, with_symbols, type_entry, generalize, generalized, symbol_entry, scope_of, fields_rule, type_decl, constructors_from, new_symbols, count_from, enumeration_decl, result_rule, may_be_ac, nature_of, logic_decl, formals_rule, rigids, sorts_of, formal_args, defining, function_decl, predicate_decl, statement_decl, kind_rule, decl_rule, decls_rule}
-use Rattle.ae_typed_laws.proofs.ParsedTrees.{IsPlace, IsIdentifier, IsWritten, AreWritten, no_types, and_type, IsTree, IsTypedName, IsResult, IsKind, IsDeclaration}
-use Rattle.ae_typed_laws.proofs.MetConditions as met
-use Rattle.ae_typed_laws.proofs.MetConditions.{IsMetOne, Meeting, Grows, grows_not, grows_then}
+use Rattle.ae_elab.specs.Declarations.{Draft, Declared, declared, drafted, twice, new_type, new_symbol, all_different, with_types, with_symbols}
+use Rattle.ae_elab.specs.Declarations.{type_entry, generalize, generalized, symbol_entry, scope_of, fields_rule, type_decl, constructors_from}
+use Rattle.ae_elab.specs.Declarations.{new_symbols, count_from, enumeration_decl, result_rule, may_be_ac, nature_of, logic_decl, formals_rule, rigids}
+use Rattle.ae_elab.specs.Declarations.{sorts_of, formal_args, defining, function_decl, predicate_decl, statement_decl, kind_rule, decl_rule}
+use Rattle.ae_elab.specs.Declarations.{decls_rule}
+use Rattle.ae_typed_laws.proofs.ParsedTrees.{IsWritten, AreWritten, no_types, and_type, IsTree, IsTypedName, IsResult, IsKind, IsDeclaration}
+use Rattle.ae_typed_laws.proofs.MetConditions.{IsMetOne, Meeting, Grows, grows_then}
 use Rattle.ae_typed_laws.proofs.SortRules.{IsFree, free_kept, sort_given}
-use Rattle.ae_lawful_problems.proofs.SortedTrees.{Env, look, fits, AllFit, IsPredicate, Sorted, of_variable, of_apply, AreSorted, of_none, of_more, a_trigger_term, a_predicate_term, no_terms, more_terms, AreTriggers, no_triggers, more_triggers, Fitting, fits_relation, fits_predicate, fits_equivalence}
+use Rattle.ae_lawful_problems.proofs.SortedTrees.{Env, look, fits, AllFit, IsPredicate, Sorted, of_variable, of_apply, AreSorted, of_none, of_more}
+use Rattle.ae_lawful_problems.proofs.SortedTrees.{a_trigger_term, a_predicate_term, no_terms, more_terms, AreTriggers, no_triggers, more_triggers}
+use Rattle.ae_lawful_problems.proofs.SortedTrees.{Fitting, fits_relation, fits_predicate, fits_equivalence}
 use Rattle.ae_lawful_problems.proofs.FitRules.{FitCondition, Gives, gives_value, gives_then, gives_after}
 use Rattle.ae_lawful_problems.proofs.TestsOnly.{Tests, tests_then, type_tests}
 use Rattle.ae_lawful_problems.proofs.Weakening.{Falls, falls_append}

@@ -1,21 +1,19 @@
 -- Where its conditions are met, a rule gives trees whose sorts fit: formulas, blocks and names.
-use Rattle.std.proofs.Common.{arith, ◌≡◌, ◌∙◌, ◌⊎◌, inl, inr, ◌<◌, ◌≤◌, ℕ, zero, suc, Bool, true, false, not, ◌&&◌, nat_eq, List, [], ◌∷◌, ◌++◌, map, reverse, length, refl, sym, ap, subst, Option, Some, None, slice_get}
+use Rattle.std.proofs.Common.{arith, ◌≡◌, ◌∙◌, inl, inr, ◌<◌, ◌≤◌, ℕ, suc, true, false, not, ◌&&◌, nat_eq, List, [], ◌∷◌, ◌++◌, map, reverse, length}
+use Rattle.std.proofs.Common.{refl, sym, ap, subst, Some, None, slice_get}
 use Rattle.std.specs.List.{AllByRecursion}
-use Rattle.std.specs.Str.{bytes_eq}
 use Rattle.std.proofs.lemmas.Bool.{and_parts, and_from, eq-eqb}
 use Rattle.std.proofs.lemmas.List.{map-append, reverse-append, reverse-reverse, length-map}
-use Rattle.std.proofs.lemmas.Option.{none-some, same_Some}
-use Rattle.ae_base.specs.Options.{or_else, ◌>>=◌}
-use Rattle.ae_base.proofs.AllOf.{all_append, all_weaker, all_before_map}
+use Rattle.ae_base.proofs.AllOf.{all_append, all_weaker, all_before_map, all_reversed}
 use Rattle.ae_base.proofs.ListFacts.{map_map}
 use Rattle.ae_base.proofs.Decided.{decided_of}
-use Rattle.ae_base.proofs.Tests.{false_true, by_bool}
+use Rattle.ae_base.proofs.Tests.{false_true}
 use Rattle.ae_core.specs.Decided.{Sorts_discrete}
 use Rattle.ae_core.specs.Putting.{put_sort}
 use Rattle.ae_core.specs.Signatures.{IsLawful}
-use Rattle.ae_core.specs.Sorts.{head_sort, predicate_fits, same_sorts, symbol_sort}
+use Rattle.ae_core.specs.Sorts.{same_sorts}
 use Rattle.ae_core.proofs.SortLaws.{ok_bool}
-use Rattle.ae_core.specs.declared.terms.Sort.{Sort, Int, Real, Bool as BoolSort}
+use Rattle.ae_core.specs.declared.terms.Sort.{Sort, Bool as BoolSort}
 use Rattle.ae_core.specs.declared.terms.Head.{Head}
 use Rattle.ae_core.specs.declared.terms.Head.TheVariants as head
 use Rattle.ae_core.specs.declared.problems.Signature.{Signature}
@@ -27,21 +25,30 @@ use Rattle.ae_syntax.specs.declared.exprs.Quantifier.{Quantifier}
 use Rattle.ae_elab.specs.declared.faults.TypeFault.TheVariants as fault
 use Rattle.ae_elab.specs.declared.grounds.Ground.TheVariants as ground
 use Rattle.ae_elab.specs.declared.numbers.Numbers.TheVariants.{IntOrReal}
-use Rattle.ae_elab.specs.Conditions.{Condition, IsOneOf, sorts_among, test, is_bool}
-use Rattle.ae_elab.specs.Trees.{Tree, Trees, Patterns, Claim, Relation, equal, unequal, less, at_most, greater, at_least, none, more, no_pattern, and_pattern, truth, falsity, relation, predicate, distinct, holds, negation, conjunction, disjunction, exclusion, equivalence, implication, conditional, quantified, variable, apply, claim_of, claim_of_head, pattern_of, has_choice, is_application}
-use Rattle.ae_elab.specs.Scope.{Scope, Class, formula, either, term, Meaning, a_variable, a_term, a_formula, Local, named, name_at, with_locals}
-use Rattle.ae_elab.specs.Rules.{Passed, Rule, give, ◌>>◌, ◌⇒◌, all_of, each, fresh, Typed, typed, no_term, Around, Part, as_term, as_formula, wanted}
+use Rattle.ae_elab.specs.Conditions.{IsOneOf, sorts_among, test, is_bool}
+use Rattle.ae_elab.specs.Trees.{Tree, Trees, Patterns, Claim, Relation, none, more, no_pattern, and_pattern, relation, predicate, distinct, holds}
+use Rattle.ae_elab.specs.Trees.{negation, conditional, quantified, apply, claim_of, claim_of_head, pattern_of, has_choice, is_application}
+use Rattle.ae_elab.specs.Scope.{Scope, Class, formula, either, term, Meaning, a_variable, a_term, a_formula, name_at}
+use Rattle.ae_elab.specs.Rules.{Passed, Rule, give, ◌>>◌, ◌⇒◌, all_of, each, Typed, Around, Part, as_term, as_formula, wanted}
 use Rattle.ae_elab.specs.WrittenTypes.{type_rule}
 use Rattle.ae_elab.specs.Terms.{application_rule, operands}
-use Rattle.ae_elab.specs.Formulas.{truth_rule, equation_rule, inequality_rule, of_one_sort, distinct_rule, connective_rule, conditional_rule, predicate_rule, Bound, local_of, with_block, all_new, groups_rule, variable_of, merged_with, covering, untested, pattern_rule, patterns_rule, first_place_of, triggers_rule, around_body, block_rule}
+use Rattle.ae_elab.specs.Formulas.{truth_rule, equation_rule, inequality_rule, of_one_sort, distinct_rule, connective_rule, conditional_rule}
+use Rattle.ae_elab.specs.Formulas.{predicate_rule, Bound, local_of, with_block, all_new, groups_rule, variable_of, merged_with, covering, untested}
+use Rattle.ae_elab.specs.Formulas.{pattern_rule, patterns_rule, first_place_of, triggers_rule, around_body, block_rule}
 use Rattle.ae_elab.proofs.PutLaws.{put_bool}
-use Rattle.ae_typed_laws.proofs.MetConditions.{all_reversed, IsMetOne, Grows, grows_not, grows_then}
-use Rattle.ae_lawful_problems.proofs.FitRules.{FitCondition, Gives, gives_value, gives_then, gives_after, gives_after_all}
-use Rattle.ae_typed_laws.proofs.ParsedTrees.{IsWritten, IsGroup}
-use Rattle.ae_lawful_problems.proofs.SortedTrees.{Env, look, numbers, sorts, fits, AllFit, IsNumeric, IsPredicate, IsRelated, Sorted, of_variable, of_whole, of_decimal, of_apply, of_operation, of_build, of_update, of_choice, AreSorted, of_none, of_more, IsTriggerTerm, a_trigger_term, a_predicate_term, AreTriggerTerms, no_terms, more_terms, AreTriggers, no_triggers, more_triggers, Fitting, fits_truth, fits_falsity, fits_relation, fits_predicate, fits_distinct, fits_holds, fits_negation, fits_conjunction, fits_disjunction, fits_exclusion, fits_equivalence, fits_implication, fits_conditional, fits_quantified}
+use Rattle.ae_typed_laws.proofs.MetConditions.{Grows, grows_then}
+use Rattle.ae_lawful_problems.proofs.FitRules.{Gives, gives_value, gives_then, gives_after, gives_after_all}
+use Rattle.ae_typed_laws.proofs.ParsedTrees.{IsGroup}
+use Rattle.ae_lawful_problems.proofs.SortedTrees.{Env, look, fits, AllFit, IsNumeric, IsPredicate, IsRelated, Sorted, of_variable, of_whole}
+use Rattle.ae_lawful_problems.proofs.SortedTrees.{of_decimal, of_apply, of_operation, of_build, of_update, of_choice, AreSorted, of_none, of_more}
+use Rattle.ae_lawful_problems.proofs.SortedTrees.{IsTriggerTerm, a_trigger_term, a_predicate_term, AreTriggerTerms, no_terms, more_terms, AreTriggers}
+use Rattle.ae_lawful_problems.proofs.SortedTrees.{no_triggers, more_triggers, Fitting, fits_truth, fits_falsity, fits_relation, fits_predicate}
+use Rattle.ae_lawful_problems.proofs.SortedTrees.{fits_distinct, fits_holds, fits_negation, fits_conjunction, fits_disjunction, fits_exclusion}
+use Rattle.ae_lawful_problems.proofs.SortedTrees.{fits_equivalence, fits_implication, fits_conditional, fits_quantified}
 use Rattle.ae_lawful_problems.proofs.TestsOnly.{tests_new}
 use Rattle.ae_lawful_problems.proofs.Weakening.{Covers, Falls, falls_append, falls_below, sorted_in_more, fitting_in_more, look_under, look_found}
-use Rattle.ae_lawful_problems.proofs.TypedTrees.{MeaningFits, LocalFits, Lies, lies_later, TypedFits, TreeFits, ClaimFits, FitsPart, refused, in_wanted, in_formula, in_operands, OperandsFit, in_application, AppliedFits, in_written}
+use Rattle.ae_lawful_problems.proofs.TypedTrees.{MeaningFits, LocalFits, Lies, lies_later, TypedFits, TreeFits, ClaimFits, FitsPart, in_wanted}
+use Rattle.ae_lawful_problems.proofs.TypedTrees.{in_formula, in_operands, OperandsFit, in_application, AppliedFits, in_written}
 
 -- ---- a term of sort `bool` as a formula
 module _ (F : Signature) (m : ℕ → Sort) where

@@ -1,5 +1,6 @@
 -- Where its conditions are met, an expression of a parsed text has trees whose sorts fit.
-use Rattle.std.proofs.Common.{arith, ◌≡◌, ◌∙◌, ◌+◌, ℕ, suc, Bool, true, false, ◌&&◌, List, [], ◌∷◌, ◌++◌, map, length, refl, sym, ap, subst, Option, Some, None, slice_get, pos}
+use Rattle.std.proofs.Common.{arith, ◌≡◌, ◌∙◌, ◌+◌, ℕ, suc, Bool, true, false, ◌&&◌, List, [], ◌∷◌, map, refl, sym, ap, subst, Option, Some, None}
+use Rattle.std.proofs.Common.{slice_get, pos}
 use Rattle.std.specs.List.{AllByRecursion}
 use Rattle.std.specs.Str.{bytes_eq}
 use Rattle.std.proofs.lemmas.Bool.{and_from}
@@ -7,7 +8,7 @@ use Rattle.ae_base.specs.Options.{when}
 use Rattle.ae_base.proofs.Decided.{decided_of}
 use Rattle.ae_core.specs.Decided.{Sorts_discrete}
 use Rattle.ae_core.specs.Signatures.{IsLawful}
-use Rattle.ae_core.specs.Sorts.{head_sort, same_sorts, numeral_ok}
+use Rattle.ae_core.specs.Sorts.{head_sort, same_sorts}
 use Rattle.ae_core.proofs.SortLaws.{ok_int, ok_real, ok_bool, ok_unit}
 use Rattle.ae_core.specs.declared.terms.Sort.{Sort, Int, Real, Bool as BoolSort, Unit as UnitSort}
 use Rattle.ae_core.specs.declared.terms.Head.{Head}
@@ -17,7 +18,6 @@ use Rattle.ae_core.specs.declared.problems.Signature.{Signature}
 use Rattle.ae_core.specs.declared.problems.SymbolEntry.{SymbolEntry}
 use Rattle.ae_types.specs.Substitutions.{put}
 use Rattle.ae_syntax.specs.declared.spans.Span.{Span}
-use Rattle.ae_syntax.specs.declared.types.WrittenType.{WrittenType}
 use Rattle.ae_syntax.specs.declared.exprs.BinaryOp.{BinaryOp}
 use Rattle.ae_syntax.specs.declared.exprs.BinaryOp.TheVariants as binary
 use Rattle.ae_syntax.specs.declared.exprs.Number.{Number}
@@ -28,23 +28,33 @@ use Rattle.ae_syntax.specs.declared.exprs.Setting.{Setting}
 use Rattle.ae_syntax.specs.declared.exprs.Trigger.{Trigger}
 use Rattle.ae_syntax.specs.Parts.{expression}
 use Rattle.ae_elab.specs.declared.faults.TypeFault.TheVariants as fault
-use Rattle.ae_elab.specs.Conditions.{Condition, test}
-use Rattle.ae_elab.specs.Trees.{Tree, Claim, none, equal, unequal, less, at_most, greater, at_least, truth, falsity, negation, conjunction, disjunction, exclusion, equivalence, implication, variable, numeral, apply, constant}
-use Rattle.ae_elab.specs.Scope.{Scope, Class, formula, either, term, Meaning, a_variable, a_term, a_formula, Local, named, Named, bound, function, predicate as predicate_name, unknown, by_result, symbol_from, look_up, meaning_of, name_at, with_locals}
-use Rattle.ae_elab.specs.Rules.{Passed, Rule, give, ◌>>◌, ◌⇒◌, all_of, refuse, Typed, typed, no_term, Around, Part, Set, as_term, as_formula}
-use Rattle.ae_elab.specs.Terms.{numeral_rule, operation_rule, negative_rule, ascribed_rule, function_rule, field_rule, record_rule, update_rule}
-use Rattle.ae_elab.specs.Formulas.{truth_rule, equation_rule, inequality_rule, distinct_rule, connective_rule, predicate_rule, merging_into, block_rule}
-use Rattle.ae_elab.specs.Expressions.{formula_in_term, a_term_part, a_formula_part, constant_part, bracketed_part, bind, let_part, if_part, no_arguments, name_term, name_formula, name_part, binary_part, part_of, kind_part, set_of, trigger_of}
+use Rattle.ae_elab.specs.Trees.{Tree, Claim, none, equal, unequal, less, at_most, greater, at_least, truth, falsity, negation, conjunction}
+use Rattle.ae_elab.specs.Trees.{disjunction, exclusion, equivalence, implication, variable, numeral, constant}
+use Rattle.ae_elab.specs.Scope.{Scope, Class, formula, either, term, Meaning, a_variable, a_term, a_formula, Local, named, Named, bound, function}
+use Rattle.ae_elab.specs.Scope.{predicate as predicate_name, unknown, by_result, symbol_from, look_up, meaning_of, name_at, with_locals}
+use Rattle.ae_elab.specs.Rules.{Passed, Rule, give, ◌>>◌, all_of, refuse, Typed, typed, no_term, Around, Part, as_term, as_formula}
+use Rattle.ae_elab.specs.Terms.{numeral_rule, operation_rule, negative_rule, ascribed_rule, field_rule, record_rule, update_rule}
+use Rattle.ae_elab.specs.Formulas.{equation_rule, inequality_rule, distinct_rule, connective_rule, predicate_rule, merging_into, block_rule}
+use Rattle.ae_elab.specs.Expressions.{formula_in_term, a_term_part, a_formula_part, constant_part, bind, let_part, no_arguments, name_term}
+use Rattle.ae_elab.specs.Expressions.{name_formula, name_part, binary_part, part_of, kind_part, set_of, trigger_of}
 use Rattle.ae_elab.proofs.PutLaws.{put_int, put_real, put_bool, put_unit}
-use Rattle.ae_elab.proofs.PartRules.{kind_binary, kind_not, kind_negative, kind_quantified, kind_let, kind_if, kind_field, kind_apply, kind_numeral, kind_true, kind_false, kind_void, kind_bracketed, kind_ascribed, kind_distinct, kind_record, kind_update}
+use Rattle.ae_elab.proofs.PartRules.{kind_binary, kind_not, kind_negative, kind_quantified, kind_let, kind_if, kind_field, kind_apply, kind_numeral}
+use Rattle.ae_elab.proofs.PartRules.{kind_true, kind_false, kind_void, kind_bracketed, kind_ascribed, kind_distinct, kind_record, kind_update}
 use Rattle.ae_typed_laws.proofs.BuiltRules.{built_part, built_setting, built_trigger}
 use Rattle.ae_typed_laws.proofs.MetConditions.{Grows}
-use Rattle.ae_lawful_problems.proofs.FitRules.{FitCondition, Gives, gives_value, gives_then, gives_after, gives_after_all}
-use Rattle.ae_typed_laws.proofs.ParsedTrees.{IsNumber, IsTree, is_binary, is_not, is_negative, is_quantified, is_let, is_if, is_field, is_apply, is_numeral, is_true, is_false, is_void, is_bracketed, is_ascribed, is_distinct, is_record, is_update, AreTrees, no_trees, and_tree, AreTriggers, no_triggers, and_trigger, AreSettings, no_settings, and_setting}
+use Rattle.ae_lawful_problems.proofs.FitRules.{Gives, gives_value, gives_then, gives_after, gives_after_all}
+use Rattle.ae_typed_laws.proofs.ParsedTrees.{IsNumber, IsTree, is_binary, is_not, is_negative, is_quantified, is_let, is_if, is_field, is_apply}
+use Rattle.ae_typed_laws.proofs.ParsedTrees.{is_numeral, is_true, is_false, is_void, is_bracketed, is_ascribed, is_distinct, is_record, is_update}
+use Rattle.ae_typed_laws.proofs.ParsedTrees.{AreTrees, no_trees, and_tree, AreTriggers, no_triggers, and_trigger, AreSettings, no_settings}
+use Rattle.ae_typed_laws.proofs.ParsedTrees.{and_setting}
 use Rattle.ae_lawful_problems.proofs.TestsOnly.{tests_around}
-use Rattle.ae_lawful_problems.proofs.SortedTrees.{Env, fits, Sorted, of_variable, of_whole, of_decimal, of_apply, of_none, Fitting, fits_truth, fits_falsity, fits_negation, fits_conjunction, fits_disjunction, fits_exclusion, fits_equivalence, fits_implication}
-use Rattle.ae_lawful_problems.proofs.TypedTrees.{MeaningFits, LocalFits, Lies, lies_later, TypedFits, ClaimFits, FitsPart, FitsSet, refused, in_operation, in_negative, in_ascribed, in_choice, in_function, in_projection, in_record, in_update}
-use Rattle.ae_lawful_problems.proofs.TypedFormulas.{truth_in, equation_in, inequality_in, distinct_in, connective_in, negation_in, conditional_in, predicate_in, block_in}
+use Rattle.ae_lawful_problems.proofs.SortedTrees.{Env, fits, Sorted, of_variable, of_whole, of_decimal, of_apply, of_none, Fitting, fits_truth}
+use Rattle.ae_lawful_problems.proofs.SortedTrees.{fits_falsity, fits_conjunction, fits_disjunction, fits_exclusion, fits_equivalence}
+use Rattle.ae_lawful_problems.proofs.SortedTrees.{fits_implication}
+use Rattle.ae_lawful_problems.proofs.TypedTrees.{MeaningFits, LocalFits, Lies, lies_later, TypedFits, ClaimFits, FitsPart, FitsSet, refused}
+use Rattle.ae_lawful_problems.proofs.TypedTrees.{in_operation, in_negative, in_ascribed, in_choice, in_function, in_projection, in_record, in_update}
+use Rattle.ae_lawful_problems.proofs.TypedFormulas.{truth_in, equation_in, inequality_in, distinct_in, connective_in, negation_in, conditional_in}
+use Rattle.ae_lawful_problems.proofs.TypedFormulas.{predicate_in, block_in}
 
 module _ (F : Signature) (law : IsLawful F) (m : ℕ → Sort) (text : List ℕ) where
   abbrev L : Env → Passed → Scope → Type 0

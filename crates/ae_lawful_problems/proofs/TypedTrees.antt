@@ -1,21 +1,22 @@
 -- Where its conditions are met, a rule gives trees whose sorts fit: terms.
-use Rattle.std.proofs.Common.{arith, ◌≡◌, ◌≢◌, ◌∙◌, ◌⊎◌, inl, inr, ◌<◌, ◌≤◌, ◌+◌, ℕ, zero, suc, pos, Bool, true, false, not, ◌&&◌, ◌||◌, nat_eq, nat_lt, List, [], ◌∷◌, ◌++◌, map, reverse, length, refl, sym, ap, subst, Option, Some, None, slice_get, true≢false}
+use Rattle.std.proofs.Common.{arith, ◌≡◌, ◌≢◌, ◌∙◌, inl, inr, ◌<◌, ◌+◌, ℕ, zero, suc, Bool, true, false, not, nat_eq, nat_lt, List, [], ◌∷◌, map}
+use Rattle.std.proofs.Common.{length, refl, sym, ap, subst, Option, Some, None, slice_get}
 use Rattle.std.specs.List.{AllByRecursion, list_all, list_any}
 use Rattle.std.specs.Str.{bytes_eq}
-use Rattle.std.proofs.lemmas.Bool.{and_parts, and_from, eqb-true, eq-eqb}
-use Rattle.std.proofs.lemmas.List.{length-map, length-append}
+use Rattle.std.proofs.lemmas.Bool.{and_parts, and_from, not-true, eqb-true, eq-eqb}
+use Rattle.std.proofs.lemmas.List.{length-map}
 use Rattle.std.proofs.lemmas.Option.{none-some, same_Some, slice_get_within}
 use Rattle.ae_base.specs.Options.{or_else, ◌>>=◌, only, when}
-use Rattle.ae_base.proofs.AllOf.{all_append, all_weaker, all_at}
+use Rattle.ae_base.proofs.AllOf.{all_weaker}
 use Rattle.ae_base.proofs.Decided.{decided_of}
 use Rattle.ae_base.proofs.ListFacts.{list_all_at}
 use Rattle.ae_base.proofs.Tests.{false_true}
 use Rattle.ae_core.specs.Decided.{Sorts_discrete}
 use Rattle.ae_core.specs.Putting.{put_sort}
 use Rattle.ae_core.specs.Signatures.{fields_of, is_sort_over, is_field_sort, names_below, is_result, IsLawfulType, IsLawful}
-use Rattle.ae_core.specs.Sorts.{sort_ok, type_fits, numeral_ok, head_sort, symbol_sort, field_at, operands as operand_sorts, on_real, predicate_fits, same_sorts}
-use Rattle.ae_core.proofs.SortLaws.{ok_int, ok_real, ok_bool, ok_unit, ok_var}
-use Rattle.ae_core.specs.declared.terms.Sort.{Sort, Var, Int, Real, Bool as BoolSort, Unit as UnitSort, Named as NamedSort}
+use Rattle.ae_core.specs.Sorts.{type_fits, head_sort, symbol_sort, field_at, operands as operand_sorts, same_sorts}
+use Rattle.ae_core.proofs.SortLaws.{ok_unit, ok_var}
+use Rattle.ae_core.specs.declared.terms.Sort.{Sort, Var, Unit as UnitSort, Named as NamedSort}
 use Rattle.ae_core.specs.declared.terms.Head.TheVariants as head
 use Rattle.ae_core.specs.declared.terms.Op.{Op}
 use Rattle.ae_core.specs.declared.terms.Op.TheVariants as op
@@ -32,21 +33,26 @@ use Rattle.ae_elab.specs.declared.faults.TypeFault.{TypeFault}
 use Rattle.ae_elab.specs.declared.faults.TypeFault.TheVariants as fault
 use Rattle.ae_elab.specs.declared.fields.FieldPlace.{FieldPlace}
 use Rattle.ae_elab.specs.declared.numbers.Numbers.{Numbers}
-use Rattle.ae_elab.specs.declared.numbers.Numbers.TheVariants.{IntAlone, IntOrReal}
+use Rattle.ae_elab.specs.declared.numbers.Numbers.TheVariants.{IntOrReal}
 use Rattle.ae_elab.specs.declared.grounds.Ground.TheVariants as ground
-use Rattle.ae_elab.specs.Conditions.{Condition, IsOneOf, sorts_among, test, has_sort, is_bool, has_operand_sort, may_be, becomes}
-use Rattle.ae_elab.specs.Trees.{Tree, Trees, Claim, none, more, variable, numeral, apply, operation, build, update, choice}
-use Rattle.ae_elab.specs.Scope.{Scope, Meaning, a_variable, a_term, a_formula, Local, first_place, after_one, in_type, field_from, field_place, name_at, scope_with}
-use Rattle.ae_elab.specs.Rules.{Passed, Rule, give, ◌>>◌, ◌⇒◌, refuse, fresh, unknowns, Typed, typed, no_term, Around, Part, Set, as_term, as_formula, wanted, all_wanted}
+use Rattle.ae_elab.specs.Conditions.{IsOneOf, sorts_among, test, has_sort, has_operand_sort, may_be, becomes}
+use Rattle.ae_elab.specs.Trees.{Tree, Trees, Claim, none, more, apply, operation, build, update, choice}
+use Rattle.ae_elab.specs.Scope.{Scope, Meaning, a_variable, a_term, a_formula, Local, first_place, after_one, in_type, field_from, field_place}
+use Rattle.ae_elab.specs.Scope.{name_at, scope_with}
+use Rattle.ae_elab.specs.Rules.{Passed, Rule, give, ◌>>◌, ◌⇒◌, refuse, fresh, unknowns, Typed, typed, no_term, Around, Part, Set, as_term, as_formula}
+use Rattle.ae_elab.specs.Rules.{wanted, all_wanted}
 use Rattle.ae_elab.specs.WrittenTypes.{type_rule}
-use Rattle.ae_elab.specs.Terms.{numeral_rule, numbers_of, operands, operation_rule, negative_rule, ascribed_rule, choice_rule, Applied, application_rule, function_rule, fields_at, arity_at, field_sort, with_field, field_rule, Values, no_values, values_rule, with_type, record_rule, update_rule}
-use Rattle.ae_elab.proofs.PutLaws.{put_var, put_int, put_real, put_bool, put_unit, put_named}
+use Rattle.ae_elab.specs.Terms.{numbers_of, operands, operation_rule, negative_rule, ascribed_rule, choice_rule, Applied, application_rule}
+use Rattle.ae_elab.specs.Terms.{function_rule, fields_at, arity_at, field_sort, with_field, field_rule, Values, no_values, values_rule, with_type}
+use Rattle.ae_elab.specs.Terms.{record_rule, update_rule}
+use Rattle.ae_elab.proofs.PutLaws.{put_unit, put_named}
 use Rattle.ae_typed_laws.proofs.MetConditions as met
 use Rattle.ae_typed_laws.proofs.MetConditions.{IsMetOne, Grows, grows_not, grows_then}
-use Rattle.ae_lawful_problems.proofs.FitRules.{FitCondition, Gives, gives_value, gives_then, gives_after}
+use Rattle.ae_lawful_problems.proofs.FitRules.{Gives, gives_value, gives_then, gives_after}
 use Rattle.ae_typed_laws.proofs.ParsedTrees.{IsWritten}
 use Rattle.ae_typed_laws.proofs.SortRules.{ok_weaker, IsFree, sort_given}
-use Rattle.ae_lawful_problems.proofs.SortedTrees.{Env, look, numbers, sorts, fits, AllFit, IsNumber, IsRecordType, AreFieldSorts, IsPredicate, Sorted, of_variable, of_whole, of_decimal, of_apply, of_operation, of_build, of_update, of_choice, AreSorted, of_none, of_more, Fitting}
+use Rattle.ae_lawful_problems.proofs.SortedTrees.{Env, look, fits, AllFit, IsNumber, IsRecordType, AreFieldSorts, Sorted, of_apply, of_operation}
+use Rattle.ae_lawful_problems.proofs.SortedTrees.{of_build, of_update, of_choice, AreSorted, of_none, of_more, Fitting}
 use Rattle.ae_lawful_problems.proofs.SortedTerms.{field_head}
 use Rattle.ae_lawful_problems.proofs.WrittenPlaces.{Once, all_there}
 use Rattle.ae_lawful_problems.proofs.TestsOnly.{type_tests}
@@ -430,10 +436,6 @@ module _ (F : Signature) (law : IsLawful F) (m : ℕ → Sort) (text : List ℕ)
 
     -- the record type that the fields are of
     module _ (of : ℕ) (ss : List Sort) (e : TypeEntry) (there : slice_get sc.signature.types of ≡ Some e) (count : length ss ≡ e.arity) (fit : AllFit F ss) where
-      not_false : (b : Bool) → not b ≡ true → b ≡ false
-      not_false true e = false_true e
-      not_false false e = refl
-
       value_fits : (f : FieldPlace) (i : IsFieldOf sc.signature.types f.of f.place) {p : Passed} → Lies env p sc → f.of ≡ of → Fit (field_sort sc.signature f ss)
       value_fits f i l same =
           let entry : i.entry ≡ e = same_Some i.entry e (sym i.declared ∙ ap (slice_get sc.signature.types) same ∙ there) in
@@ -476,7 +478,7 @@ module _ (F : Signature) (law : IsLawful F) (m : ℕ → Sort) (text : List ℕ)
           (λ v. give (record { places = f.place ∷ v.places; terms = more t v.terms })) q
           (in_values own (f.place ∷ got) xs q (lies_later env p q sc g l) a.1)
           (λ v r j k. gives_value F m (ValuesFit (fields_of e) ss got) (record { places = f.place ∷ v.places; terms = more t v.terms }) r
-          (value_more got f i p q r l (eqb-true f.of of same) (not_false (list_any (nat_eq f.place) got) new) t h v k))))))
+          (value_more got f i p q r l (eqb-true f.of of same) (not-true (list_any (nat_eq f.place) got) new) t h v k))))))
 
     -- the first field's type
     in_set_type : {A : Type 0} (Q : A → Passed → Type 0) (xs : List Set) (y : A) (go : ℕ → Rule A) (p : Passed)

@@ -1,14 +1,20 @@
 -- Under more bound variables what fits still fits.
-use Rattle.std.proofs.Common.{arith, ◌≡◌, ◌∙◌, ◌<◌, ◌≤◌, ℕ, Bool, true, false, nat_eq, List, [], ◌∷◌, ◌++◌, map, reverse, length, refl, sym, ap, subst, Option, Some, None, append_assoc}
+use Rattle.std.proofs.Common.{arith, ◌≡◌, ◌∙◌, ◌<◌, ◌≤◌, ℕ, Bool, true, false, nat_eq, List, [], ◌∷◌, ◌++◌, reverse, refl, sym, ap, subst, Option}
+use Rattle.std.proofs.Common.{Some}
 use Rattle.std.specs.List.{AllByRecursion}
 use Rattle.std.proofs.lemmas.Bool.{eqb-true, eq-eqb, ne_eqb}
-use Rattle.std.proofs.lemmas.Option.{none-some, same_Some}
+use Rattle.std.proofs.lemmas.Option.{none-some}
 use Rattle.ae_base.proofs.AllOf.{all_weaker}
 use Rattle.ae_base.proofs.Tests.{by_bool}
 use Rattle.ae_core.specs.declared.terms.Sort.{Sort}
 use Rattle.ae_core.specs.declared.problems.Signature.{Signature}
 use Rattle.ae_elab.specs.Trees.{Tree, Trees, Patterns, Claim}
-use Rattle.ae_lawful_problems.proofs.SortedTrees.{Env, look, Sorted, of_variable, of_whole, of_decimal, of_apply, of_operation, of_build, of_update, of_choice, AreSorted, of_none, of_more, IsTriggerTerm, a_trigger_term, a_predicate_term, AreTriggerTerms, no_terms, more_terms, AreTriggers, no_triggers, more_triggers, Fitting, fits_truth, fits_falsity, fits_relation, fits_predicate, fits_distinct, fits_holds, fits_negation, fits_conjunction, fits_disjunction, fits_exclusion, fits_equivalence, fits_implication, fits_conditional, fits_quantified}
+use Rattle.ae_lawful_problems.proofs.SortedTrees.{Env, look, Sorted, of_variable, of_whole, of_decimal, of_apply, of_operation, of_build, of_update}
+use Rattle.ae_lawful_problems.proofs.SortedTrees.{of_choice, AreSorted, of_none, of_more, IsTriggerTerm, a_trigger_term, a_predicate_term}
+use Rattle.ae_lawful_problems.proofs.SortedTrees.{AreTriggerTerms, no_terms, more_terms, AreTriggers, no_triggers, more_triggers, Fitting, fits_truth}
+use Rattle.ae_lawful_problems.proofs.SortedTrees.{fits_falsity, fits_relation, fits_predicate, fits_distinct, fits_holds, fits_negation}
+use Rattle.ae_lawful_problems.proofs.SortedTrees.{fits_conjunction, fits_disjunction, fits_exclusion, fits_equivalence, fits_implication}
+use Rattle.ae_lawful_problems.proofs.SortedTrees.{fits_conditional, fits_quantified}
 
 -- each variable of the one stands in the other, with its sort
 abbrev pub Covers : Env → Env → Type 0

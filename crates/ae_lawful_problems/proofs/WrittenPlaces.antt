@@ -1,5 +1,7 @@
 -- Places that are written once each: as many of them as there are places are all of them.
-use Rattle.std.proofs.Common.{arith, ◌≡◌, ◌∙◌, ◌<◌, ◌≤◌, ℕ, zero, suc, Bool, true, false, ◌||◌, nat_eq, List, [], ◌∷◌, length, refl, sym, ap, subst, Some, slice_get, true≢false}
+use Rattle.std.proofs.Common.{arith, ◌≡◌, ◌∙◌, ◌<◌, ℕ, true, false, ◌||◌, nat_eq, List, [], ◌∷◌, length, sym, ap, subst, Some, slice_get}
+use Rattle.std.proofs.Common.{true≢false}
+use Rattle.ae_base.proofs.ListFacts.{number_at}
 use Rattle.std.specs.List.{AllByRecursion, list_any, IsDistinct}
 use Rattle.std.proofs.lemmas.Bool.{eqb-true, eq-eqb, or_parts}
 use Rattle.std.proofs.lemmas.Map.Steps.{length-le_from_distinct_below}
@@ -39,12 +41,6 @@ below_of n (p ∷ ps) a q e =
     by_bool (nat_eq q p) (λ t. subst (λ (x : ℕ). x < n) (sym (eqb-true q p t)) a.0)
     (λ f. below_of n ps a.1 q (sym (ap (λ b. b || list_any (nat_eq q) ps) f) ∙ e))
 
-found_place : (q : ℕ) (ps : List ℕ) → list_any (nat_eq q) ps ≡ true → (j : ℕ) × (slice_get ps j ≡ Some q)
-found_place q [] e = absurd (true≢false (sym e))
-found_place q (p ∷ ps) e =
-    by_bool (nat_eq q p) (λ t. (0, ap Some (sym (eqb-true q p t))))
-    (λ f. let x = found_place q ps (sym (ap (λ b. b || list_any (nat_eq q) ps) f) ∙ e) in (suc x.0, x.1))
-
 none_equal : (q : ℕ) (ps : List ℕ) → list_any (nat_eq q) ps ≡ false → AllByRecursion (λ y. nat_eq q y ≡ false) ps
 none_equal q [] e = tt
 none_equal q (p ∷ ps) e = let x = or_parts (nat_eq q p) (list_any (nat_eq q) ps) e in (x.0, none_equal q ps x.1)
@@ -55,5 +51,5 @@ one_more k ps a d = (a, d)
 
 pub all_there : (n : ℕ) (ps : List ℕ) → Once [] ps → AllByRecursion (λ k. k < n) ps → length ps ≡ n → (k : ℕ) → k < n → (j : ℕ) × (slice_get ps j ≡ Some k)
 all_there n ps o a e k l =
-    by_bool (list_any (nat_eq k) ps) (λ t. found_place k ps t)
+    by_bool (list_any (nat_eq k) ps) (λ t. number_at ps k t)
     (λ f. absurd (let x = length-le_from_distinct_below (k ∷ ps) n (one_more k ps (none_equal k ps f) (once_distinct [] ps o)) (below_of n (k ∷ ps) (l, a)) in omega (arith, e, x)))

@@ -1,5 +1,5 @@
 -- Axioms and goals whose formulas are closed and well sorted.
-use Rattle.std.specs.Prelude.{ℕ, Bool, true, false, nat_lt, List, [], ◌≡◌}
+use Rattle.std.specs.Prelude.{Bool, true, false, nat_lt, [], ◌≡◌}
 use Rattle.ae_core.specs.Constants.{formula_constants}
 use Rattle.ae_core.specs.Signatures.{is_sort_over}
 use Rattle.ae_core.specs.Sorts.{sort_ok, formula_in}

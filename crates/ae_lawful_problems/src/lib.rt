@@ -1,6 +1,6 @@
-//! Laws of the problems of typed files: their formulas are well sorted.
+//! Laws of the problems of typed files: they are lawful.
 #![tactic(auto)]
 
 mod laws;
 
-pub use laws::formulas_are_sorted;
+pub use laws::{formulas_are_sorted, problems_are_lawful};

@@ -1,5 +1,6 @@
 -- Declarations whose conditions are met leave a lawful signature.
-use Rattle.std.proofs.Common.{arith, ◌≡◌, ◌≢◌, ◌∙◌, ◌≤◌, ◌<◌, ◌+◌, inl, inr, ℕ, zero, suc, Bool, true, false, not, nat_eq, nat_lt, List, [], ◌∷◌, ◌++◌, map, length, refl, sym, ap, subst, Option, Some, None, slice_get, append_assoc}
+use Rattle.std.proofs.Common.{arith, ◌≡◌, ◌≢◌, ◌∙◌, ◌≤◌, ◌<◌, ◌+◌, inl, inr, ℕ, zero, suc, Bool, true, false, not, nat_eq, nat_lt, List, [], ◌∷◌}
+use Rattle.std.proofs.Common.{◌++◌, map, length, refl, sym, ap, subst, Option, Some, None, slice_get, append_assoc}
 use Rattle.std.specs.List.{AllByRecursion, list_all}
 use Rattle.std.specs.Prelude.{◌↔◌}
 use Rattle.std.specs.Option.{is_some}
@@ -14,7 +15,8 @@ use Rattle.ae_base.proofs.ListFacts.{get_seam, get_after, get_append, list_all_w
 use Rattle.ae_base.proofs.Tests.{false_true}
 use Rattle.ae_core.specs.Decided.{Sort_discrete}
 use Rattle.ae_core.specs.Sorts.{sort_ok, type_fits, same_sort}
-use Rattle.ae_core.specs.Signatures.{fields_of, is_sort_over, is_field_sort, names_below, IsChoice, IsLawfulType, IsEnumerated, IsLawfulNature, is_result, IsLawfulSymbol, IsLawful}
+use Rattle.ae_core.specs.Signatures.{fields_of, is_sort_over, is_field_sort, names_below, IsChoice, IsLawfulType, IsEnumerated, IsLawfulNature}
+use Rattle.ae_core.specs.Signatures.{is_result, IsLawfulSymbol, IsLawful}
 use Rattle.ae_core.proofs.SortLaws.{ok_named}
 use Rattle.ae_core.specs.declared.terms.Sort.{Sort, Named}
 use Rattle.ae_core.specs.declared.problems.Problem.{Problem}
@@ -49,14 +51,20 @@ use Rattle.ae_elab.specs.Rules.{Passed, Rule, ◌>>◌, each, fresh, count_writt
 use Rattle.ae_elab.specs.WrittenTypes.{type_rule}
 use Rattle.ae_elab.specs.Formulas.{Bound, with_block}
 use Rattle.ae_elab.specs.Expressions.{part_of}
-use Rattle.ae_elab.specs.Declarations.{Declared, declared, twice, new_type, new_symbol, has_field, all_different, with_types, with_symbols, type_entry, generalize, generalized, symbol_entry, scope_of, fields_rule, type_decl, constructors_from, new_symbols, count_from, enumeration_decl, result_rule, is_ac, may_be_ac, nature_of, logic_decl, formals_rule, sorts_of, rigids, formal_args, defining, drafted, function_decl, predicate_decl, kind_rule, decl_rule, decls_rule, no_declarations, conditions_of, declared_by}
+use Rattle.ae_elab.specs.Declarations.{Declared, declared, twice, new_type, new_symbol, has_field, all_different, with_types, with_symbols}
+use Rattle.ae_elab.specs.Declarations.{type_entry, generalize, generalized, symbol_entry, scope_of, fields_rule, type_decl, constructors_from}
+use Rattle.ae_elab.specs.Declarations.{new_symbols, count_from, enumeration_decl, result_rule, is_ac, may_be_ac, nature_of, logic_decl, formals_rule}
+use Rattle.ae_elab.specs.Declarations.{sorts_of, rigids, formal_args, defining, drafted, function_decl, predicate_decl, kind_rule, decl_rule}
+use Rattle.ae_elab.specs.Declarations.{decls_rule, no_declarations, conditions_of, declared_by}
 use Rattle.ae_elab.specs.Problems.{IsTyped}
 use Rattle.ae_elab.proofs.EntryLaws.{general_named}
 use Rattle.ae_typed_laws.proofs.ParsedTrees.{IsIdentifier, IsWritten, AreWritten, no_types, and_type, IsTypedName, IsResult, IsKind, IsDeclaration}
 use Rattle.ae_typed_laws.proofs.FileTrees.{file_made}
-use Rattle.ae_typed_laws.proofs.MetConditions.{IsMetOne, met_each, grows_then, Gives, Ends, gives_value, gives_then, gives_after, ends_then, ends_after, ends_after_all, Each, keeps_each}
+use Rattle.ae_typed_laws.proofs.MetConditions.{IsMetOne, met_each, grows_then, Gives, Ends, gives_value, gives_then, gives_after, ends_then}
+use Rattle.ae_typed_laws.proofs.MetConditions.{ends_after, ends_after_all, Each, keeps_each}
 use Rattle.ae_typed_laws.proofs.SortRules.{ok_weaker, general_ok, IsFree, free_kept, IsInField, sort_given}
-use Rattle.ae_typed_laws.proofs.SignatureLaws.{Unlike, Apart, apart_push, not_found, not_among, not_either, field_names_of, field_names, no_field, in_either, IsNm, type_names, symbol_names, Sane, sane_lawful, over_stays, types_stay, symbols_stay}
+use Rattle.ae_typed_laws.proofs.SignatureLaws.{Unlike, Apart, apart_push, not_found, not_among, not_either, field_names_of, field_names, no_field}
+use Rattle.ae_typed_laws.proofs.SignatureLaws.{in_either, IsNm, type_names, symbol_names, Sane, sane_lawful, over_stays, types_stay, symbols_stay}
 
 -- ---- tests
 is_nothing : {X : Type 0} (o : Option X) → not (is_some o) ≡ true → o ≡ None

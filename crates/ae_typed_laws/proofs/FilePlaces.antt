@@ -34,13 +34,19 @@ use Rattle.ae_elab.specs.Rules.{Rule, give, each, fresh, count_written, as_formu
 use Rattle.ae_elab.specs.WrittenTypes.{type_rule}
 use Rattle.ae_elab.specs.Formulas.{with_block}
 use Rattle.ae_elab.specs.Expressions.{part_of}
-use Rattle.ae_elab.specs.Declarations.{Draft, Declared, only_declared, declared, drafted, twice, new_type, new_symbol, has_field, all_different, with_types, with_symbols, type_entry, symbol_entry, scope_of, fields_rule, type_decl, new_symbols, count_from, constructors_from, enumeration_decl, result_rule, may_be_ac, nature_of, logic_decl, formals_rule, rigids, sorts_of, formal_args, defining, function_decl, predicate_decl, statement_decl, kind_rule, decl_rule, decls_rule, no_declarations, conditions_of, declared_by}
+use Rattle.ae_elab.specs.Declarations.{Draft, Declared, only_declared, declared, drafted, twice, new_type, new_symbol, has_field, all_different}
+use Rattle.ae_elab.specs.Declarations.{with_types, with_symbols, type_entry, symbol_entry, scope_of, fields_rule, type_decl, new_symbols, count_from}
+use Rattle.ae_elab.specs.Declarations.{constructors_from, enumeration_decl, result_rule, may_be_ac, nature_of, logic_decl, formals_rule, rigids}
+use Rattle.ae_elab.specs.Declarations.{sorts_of, formal_args, defining, function_decl, predicate_decl, statement_decl, kind_rule, decl_rule}
+use Rattle.ae_elab.specs.Declarations.{decls_rule, no_declarations, conditions_of, declared_by}
 use Rattle.ae_elab.specs.Problems.{IsTypeFault, first_large, is_small}
 use Rattle.ae_fault_lines.specs.Lines.{fault_place}
 use Rattle.ae_typed_laws.specs.Refusals.{IsOfTyping}
-use Rattle.ae_typed_laws.proofs.ParsedTrees.{IsPlace, IsIdentifier, IsWritten, AreWritten, no_types, and_type, IsTree, IsTypedName, IsResult, IsKind, IsDeclaration}
+use Rattle.ae_typed_laws.proofs.ParsedTrees.{IsPlace, IsIdentifier, IsWritten, AreWritten, no_types, and_type, IsTree, IsTypedName, IsResult, IsKind}
+use Rattle.ae_typed_laws.proofs.ParsedTrees.{IsDeclaration}
 use Rattle.ae_typed_laws.proofs.FileTrees.{file_made}
-use Rattle.ae_typed_laws.proofs.PlaceLaws.{IsWithin, Fine, Sound, Any, gives, follows, demands, demands_all, any_fresh, at_type, in_wanted, in_formula, in_block_scope, Placed, at_tree}
+use Rattle.ae_typed_laws.proofs.PlaceLaws.{IsWithin, Fine, Sound, Any, gives, follows, demands, demands_all, any_fresh, at_type, in_wanted}
+use Rattle.ae_typed_laws.proofs.PlaceLaws.{in_formula, in_block_scope, Placed, at_tree}
 
 module _ (text : List ℕ) where
   -- what is given counts for nothing here

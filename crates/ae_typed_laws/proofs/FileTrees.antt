@@ -18,10 +18,28 @@ use Rattle.ae_syntax.specs.declared.decls.TypedName.{TypedName}
 use Rattle.ae_syntax.specs.declared.decls.SymbolResult.{SymbolResult}
 use Rattle.ae_syntax.specs.declared.decls.Decl.{Decl}
 use Rattle.ae_syntax.specs.declared.decls.File.{File}
-use Rattle.ae_syntax.specs.Parts.{Part, token, tree, sort, setting, trigger, group, typed, result, decl, names, trees, sorts, settings, triggers, groups, typeds, decls, alone, and_then, span, span_of, cover, terms_span, binary, expression, setting_of, trigger_of, typed_name, group_of, a_sort, prop_at, abstract_type, record_type, enumeration, logic_of, function_of, predicate_of, axiom_of, goal_of}
-use Rattle.ae_syntax.specs.Grammar.{Level, Items, element, Is, file, a_decl, id, var, ac, params, formals, in_brackets, arguments, in_squares, typed_id, set_id, a_result, a_type, a_group, a_trigger, some, of_names, of_constructors, of_vars, of_types, of_fields, of_formals, of_groups, of_exprs, of_triggers, of_settings, file_none, file_decl, some_one, some_more, decl_type, decl_record, decl_enumeration, decl_logic, decl_function, decl_predicate, decl_axiom, decl_goal, is_id, is_var as is_var_token, ac_none, ac_word, params_none, params_var, params_vars, id_type, formals_none, formals_some, brackets_none, brackets_some, arguments_none, arguments_some, result_type, result_prop, type_int, type_real, type_bool, type_unit, type_var, type_name, type_postfix, type_brackets, expr_arrow, expr_orE, orE_or, orE_andE, orC_or, orC_andC, andE_and, andE_notE, andC_and, andC_notC, notE_not, notE_open, notE_rel, notC_not, notC_rel, open_quantified, open_let, open_if, group_type, squares_none, squares_some, trigger_exprs, rel_two, rel_sum, sum_two, sum_prod, prod_two, prod_unary, unary_minus, unary_post, post_field, post_atom, atom_name, atom_call, atom_numeral, atom_true, atom_false, atom_void, atom_brackets, atom_ascribed, atom_distinct, atom_record, atom_update, id_value}
+use Rattle.ae_syntax.specs.Parts.{Part, token, tree, sort, setting, trigger, group, typed, result, decl, names, trees, sorts, settings, triggers}
+use Rattle.ae_syntax.specs.Parts.{groups, typeds, decls, alone, and_then, span, span_of, cover, terms_span, binary, expression, setting_of}
+use Rattle.ae_syntax.specs.Parts.{trigger_of, typed_name, group_of, a_sort, prop_at, abstract_type, record_type, enumeration, logic_of, function_of}
+use Rattle.ae_syntax.specs.Parts.{predicate_of, axiom_of, goal_of}
+use Rattle.ae_syntax.specs.Grammar.{Level, Items, element, Is, file, a_decl, id, var, ac, params, formals, in_brackets, arguments, in_squares}
+use Rattle.ae_syntax.specs.Grammar.{typed_id, set_id, a_result, a_type, a_group, a_trigger, some, of_names, of_constructors, of_vars, of_types}
+use Rattle.ae_syntax.specs.Grammar.{of_fields, of_formals, of_groups, of_exprs, of_triggers, of_settings, file_none, file_decl, some_one, some_more}
+use Rattle.ae_syntax.specs.Grammar.{decl_type, decl_record, decl_enumeration, decl_logic, decl_function, decl_predicate, decl_axiom, decl_goal, is_id}
+use Rattle.ae_syntax.specs.Grammar.{is_var as is_var_token, ac_none, ac_word, params_none, params_var, params_vars, id_type, formals_none}
+use Rattle.ae_syntax.specs.Grammar.{formals_some, brackets_none, brackets_some, arguments_none, arguments_some, result_type, result_prop, type_int}
+use Rattle.ae_syntax.specs.Grammar.{type_real, type_bool, type_unit, type_var, type_name, type_postfix, type_brackets, expr_arrow, expr_orE, orE_or}
+use Rattle.ae_syntax.specs.Grammar.{orE_andE, orC_or, orC_andC, andE_and, andE_notE, andC_and, andC_notC, notE_not, notE_open, notE_rel, notC_not}
+use Rattle.ae_syntax.specs.Grammar.{notC_rel, open_quantified, open_let, open_if, group_type, squares_none, squares_some, trigger_exprs, rel_two}
+use Rattle.ae_syntax.specs.Grammar.{rel_sum, sum_two, sum_prod, prod_two, prod_unary, unary_minus, unary_post, post_field, post_atom, atom_name}
+use Rattle.ae_syntax.specs.Grammar.{atom_call, atom_numeral, atom_true, atom_false, atom_void, atom_brackets, atom_ascribed, atom_distinct}
+use Rattle.ae_syntax.specs.Grammar.{atom_record, atom_update, id_value}
 use Rattle.ae_syntax.specs.Files.{IsParsed}
-use Rattle.ae_typed_laws.proofs.ParsedTrees.{IsPlace, IsIdentifier, IsWritten, is_int, is_real, is_bool, is_unit, is_var, is_named, and_type, no_types, no_trees, IsGroup, IsTree, is_binary, is_not, is_negative, is_quantified, is_let, is_if, is_field, is_apply, is_numeral, is_true, is_false, is_void, is_bracketed, is_ascribed, is_distinct, is_record, is_update, IsTrigger, IsSetting, IsTypedName, IsResult, IsKind, IsDeclaration, written_list, tree_list, trigger_list, setting_list}
+use Rattle.ae_typed_laws.proofs.ParsedTrees.{IsPlace, IsIdentifier, IsWritten, is_int, is_real, is_bool, is_unit, is_var, is_named, and_type}
+use Rattle.ae_typed_laws.proofs.ParsedTrees.{no_types, no_trees, IsGroup, IsTree, is_binary, is_not, is_negative, is_quantified, is_let, is_if}
+use Rattle.ae_typed_laws.proofs.ParsedTrees.{is_field, is_apply, is_numeral, is_true, is_false, is_void, is_bracketed, is_ascribed, is_distinct}
+use Rattle.ae_typed_laws.proofs.ParsedTrees.{is_record, is_update, IsTrigger, IsSetting, IsTypedName, IsResult, IsKind, IsDeclaration, written_list}
+use Rattle.ae_typed_laws.proofs.ParsedTrees.{tree_list, trigger_list, setting_list}
 use Rattle.ae_typed_laws.proofs.Tokens.{Fits, tokens_fit}
 
 -- a part is made of a value of which this is so
@@ -231,10 +249,18 @@ module _ (text : List ℕ) where
   made (some_one {p} r q) g = one r p (made q g)
   made (some_more {ps} {p} r u w t q h k) g = more r ps p (made q (before u (t ∷ w) g)) (made k (after u (t ∷ w) g).1)
   made (decl_type {ps} w t n ht p hn) g = (let b = after w (n ∷ []) g.1 in declared (abstract_type t ps n) g.0.place (from_vars ps (made p (before w (n ∷ []) g.1)), b.0.name hn, tt))
-  made (decl_record {ps} {fs} u w t n e o c ht p hn he ho q hc) g = (let a = before (u ++ n ∷ e ∷ o ∷ w) (c ∷ []) g.1 in let b = after u (n ∷ e ∷ o ∷ w) a in declared (record_type t ps n fs c) g.0.place (from_vars ps (made p (before u (n ∷ e ∷ o ∷ w) a)), b.0.name hn, from_typeds fs (made q b.1.1.1)))
+  made (decl_record {ps} {fs} u w t n e o c ht p hn he ho q hc) g =
+      (let a = before (u ++ n ∷ e ∷ o ∷ w) (c ∷ []) g.1 in let b = after u (n ∷ e ∷ o ∷ w) a in
+      declared (record_type t ps n fs c) g.0.place (from_vars ps (made p (before u (n ∷ e ∷ o ∷ w) a)), b.0.name hn, from_typeds fs (made q b.1.1.1)))
   made (decl_enumeration {cs} w t n e ht hn he p) g = declared (enumeration t n cs) g.0.place (let x = from_constructors cs (made p g.1.1.1) in (g.1.0.name hn, x.all, x.some))
-  made (decl_logic {a} {ns} {ss} {r} u v w x t c ht p q hc k l) g = (let d = before (u ++ v ++ c ∷ w) x g.1 in declared (logic_of t a ns ss r) g.0.place (from_ids ns (made q (after u v (before (u ++ v) (c ∷ w) d))), written_list text ss (from_sorts ss (made k (after (u ++ v) (c ∷ w) d).1)), from_result r (made l (after (u ++ v ++ c ∷ w) x g.1))))
-  made (decl_function {fs} {s} {e} u v w t n o c d q ht hn ho p hc hd k hq l) g = (let a = before (u ++ c ∷ d ∷ v) (q ∷ w) g.1.1.1 in declared (function_of t n fs s e) g.0.place (g.1.0.name hn, from_typeds fs (made p (before u (c ∷ d ∷ v) a)), from_sort s (made k (after u (c ∷ d ∷ v) a).1.1), (from_tree e (made l (after (u ++ c ∷ d ∷ v) (q ∷ w) g.1.1.1).1)).tree))
+  made (decl_logic {a} {ns} {ss} {r} u v w x t c ht p q hc k l) g =
+      (let d = before (u ++ v ++ c ∷ w) x g.1 in
+      declared (logic_of t a ns ss r) g.0.place
+      (from_ids ns (made q (after u v (before (u ++ v) (c ∷ w) d))), written_list text ss (from_sorts ss (made k (after (u ++ v) (c ∷ w) d).1)), from_result r (made l (after (u ++ v ++ c ∷ w) x g.1))))
+  made (decl_function {fs} {s} {e} u v w t n o c d q ht hn ho p hc hd k hq l) g =
+      (let a = before (u ++ c ∷ d ∷ v) (q ∷ w) g.1.1.1 in
+      declared (function_of t n fs s e) g.0.place
+      (g.1.0.name hn, from_typeds fs (made p (before u (c ∷ d ∷ v) a)), from_sort s (made k (after u (c ∷ d ∷ v) a).1.1), (from_tree e (made l (after (u ++ c ∷ d ∷ v) (q ∷ w) g.1.1.1).1)).tree))
   made (decl_predicate {fs} {e} u w t n q ht hn p hq k) g = (let a = g.1.1 in declared (predicate_of t n fs e) g.0.place (g.1.0.name hn, from_typeds fs (made p (before u (q ∷ w) a)), (from_tree e (made k (after u (q ∷ w) a).1)).tree))
   made (decl_axiom {e} w t n c ht hn hc p) g = declared (axiom_of t n e) g.0.place (g.1.0.name hn, (from_tree e (made p g.1.1.1)).tree)
   made (decl_goal {e} w t n c ht hn hc p) g = declared (goal_of t n e) g.0.place (g.1.0.name hn, (from_tree e (made p g.1.1.1)).tree)
@@ -261,7 +287,10 @@ module _ (text : List ℕ) where
   made (type_var t h) g = holds sort (IsWritten text) _ (is_var (span t) g.0.place)
   made (type_name n h) g = holds sort (IsWritten text) _ (is_named _ (span n) [] (g.0.name h) no_types)
   made (type_postfix {s} u n p h) g = holds sort (IsWritten text) _ (is_named _ (span n) (s ∷ []) ((after u (n ∷ []) g).0.name h) (and_type s [] (from_sort s (made p (before u (n ∷ []) g))) no_types))
-  made (type_brackets {s} {ss} u w o m c n ho p hm q hc hn) g = (let a = before (u ++ m ∷ w) (c ∷ n ∷ []) g.1 in holds sort (IsWritten text) _ (is_named _ (span n) (s ∷ ss) ((after (u ++ m ∷ w) (c ∷ n ∷ []) g.1).1.0.name hn) (and_type s ss (from_sort s (made p (before u (m ∷ w) a))) (written_list text ss (from_sorts ss (made q (after u (m ∷ w) a).1))))))
+  made (type_brackets {s} {ss} u w o m c n ho p hm q hc hn) g =
+      (let a = before (u ++ m ∷ w) (c ∷ n ∷ []) g.1 in
+      holds sort (IsWritten text) _
+      (is_named _ (span n) (s ∷ ss) ((after (u ++ m ∷ w) (c ∷ n ∷ []) g.1).1.0.name hn) (and_type s ss (from_sort s (made p (before u (m ∷ w) a))) (written_list text ss (from_sorts ss (made q (after u (m ∷ w) a).1))))))
   made (expr_arrow {a} {b} u w t o p h q) g = two u w t o a b g (made p) (made q)
   made (expr_orE p) g = made p g
   made (orE_or {a} {b} u w t p h q) g = two u w t op.Or a b g (made p) (made q)
@@ -277,9 +306,18 @@ module _ (text : List ℕ) where
   made (notE_rel p) g = made p g
   made (notC_not {e} w t h p) g = built _ (expr_kind.Not e) g.0.place (is_not _ e g.0.place (from_tree e (made p g.1)).tree)
   made (notC_rel p) g = made p g
-  made (open_quantified {gs} {ts} {e} u v w t d q h p k hd l) g = (let a = before (u ++ v) (d ∷ w) g.1 in built _ (expr_kind.Quantified q gs ts e) g.0.place (is_quantified _ q gs ts e g.0.place (from_groups gs (made p (before u v a))) (trigger_list text ts (from_triggers ts (made k (after u v a)))) (from_tree e (made l (after (u ++ v) (d ∷ w) g.1).1)).tree))
-  made (open_let {a} {b} u w t n e i ht hn he p hi q) g = (let c = g.1.1.1 in built _ (expr_kind.Let (span n) a b) g.0.place (is_let _ (span n) a b g.0.place (g.1.0.name hn) (from_tree a (made p (before u (i ∷ w) c))).tree (from_tree b (made q (after u (i ∷ w) c).1)).tree))
-  made (open_if {c} {a} {b} u v w t h l ht p hh q hl r) g = (let d = before (u ++ h ∷ v) (l ∷ w) g.1 in built _ (expr_kind.If c a b) g.0.place (is_if _ c a b g.0.place (from_tree c (made p (before u (h ∷ v) d))).tree (from_tree a (made q (after u (h ∷ v) d).1)).tree (from_tree b (made r (after (u ++ h ∷ v) (l ∷ w) g.1).1)).tree))
+  made (open_quantified {gs} {ts} {e} u v w t d q h p k hd l) g =
+      (let a = before (u ++ v) (d ∷ w) g.1 in
+      built _ (expr_kind.Quantified q gs ts e) g.0.place
+      (is_quantified _ q gs ts e g.0.place (from_groups gs (made p (before u v a))) (trigger_list text ts (from_triggers ts (made k (after u v a)))) (from_tree e (made l (after (u ++ v) (d ∷ w) g.1).1)).tree))
+  made (open_let {a} {b} u w t n e i ht hn he p hi q) g =
+      (let c = g.1.1.1 in
+      built _ (expr_kind.Let (span n) a b) g.0.place
+      (is_let _ (span n) a b g.0.place (g.1.0.name hn) (from_tree a (made p (before u (i ∷ w) c))).tree (from_tree b (made q (after u (i ∷ w) c).1)).tree))
+  made (open_if {c} {a} {b} u v w t h l ht p hh q hl r) g =
+      (let d = before (u ++ h ∷ v) (l ∷ w) g.1 in
+      built _ (expr_kind.If c a b) g.0.place
+      (is_if _ c a b g.0.place (from_tree c (made p (before u (h ∷ v) d))).tree (from_tree a (made q (after u (h ∷ v) d).1)).tree (from_tree b (made r (after (u ++ h ∷ v) (l ∷ w) g.1).1)).tree))
   made (group_type {ns} {s} u w c p hc q) g = holds group (IsGroup text) (group_of ns s) (record { names = from_ids ns (made p (before u (c ∷ w) g)); sort = from_sort s (made q (after u (c ∷ w) g).1) })
   made squares_none g = holds triggers Triggers [] tt
   made (squares_some w o c ho p hc) g = made p (before w (c ∷ []) g.1)
@@ -301,10 +339,16 @@ module _ (text : List ℕ) where
   made (atom_false t h) g = built _ expr_kind.False g.0.place (is_false _ g.0.place)
   made (atom_void t h) g = built _ expr_kind.Void g.0.place (is_void _ g.0.place)
   made (atom_brackets {e} w o c ho p hc) g = built _ (expr_kind.Bracketed e) g.0.place (is_bracketed _ e g.0.place (from_tree e (made p (before w (c ∷ []) g.1))).tree)
-  made (atom_ascribed {e} {s} u w o d c ho p hd q hc) g = (let a = before (u ++ d ∷ w) (c ∷ []) g.1 in built _ (expr_kind.Ascribed e s) g.0.place (is_ascribed _ e s g.0.place (from_tree e (made p (before u (d ∷ w) a))).tree (from_sort s (made q (after u (d ∷ w) a).1))))
+  made (atom_ascribed {e} {s} u w o d c ho p hd q hc) g =
+      (let a = before (u ++ d ∷ w) (c ∷ []) g.1 in
+      built _ (expr_kind.Ascribed e s) g.0.place
+      (is_ascribed _ e s g.0.place (from_tree e (made p (before u (d ∷ w) a))).tree (from_sort s (made q (after u (d ∷ w) a).1))))
   made (atom_distinct {es} w t o c ht ho p hc) g = built _ (expr_kind.Distinct es) g.0.place (is_distinct _ es g.0.place (tree_list text es (from_trees es (made p (before w (c ∷ []) g.1.1)))))
   made (atom_record {ss} w o c ho p hc) g = built _ (expr_kind.Record ss) g.0.place (is_record _ ss g.0.place (setting_list text ss (from_settings ss (made p (before w (c ∷ []) g.1)))))
-  made (atom_update {e} {ss} u w o h c ho p hh q hc) g = (let a = before (u ++ h ∷ w) (c ∷ []) g.1 in built _ (expr_kind.Update e ss) g.0.place (is_update _ e ss g.0.place (from_tree e (made p (before u (h ∷ w) a))).tree (setting_list text ss (from_settings ss (made q (after u (h ∷ w) a).1)))))
+  made (atom_update {e} {ss} u w o h c ho p hh q hc) g =
+      (let a = before (u ++ h ∷ w) (c ∷ []) g.1 in
+      built _ (expr_kind.Update e ss) g.0.place
+      (is_update _ e ss g.0.place (from_tree e (made p (before u (h ∷ w) a))).tree (setting_list text ss (from_settings ss (made q (after u (h ∷ w) a).1)))))
   made (id_value {e} w n q hn hq p) g = holds setting (IsSetting text) (setting_of n e) (record { span = cover (span n) (span_of e); name = span n; value = e; is = refl; identifier = g.0.name hn; tree = (from_tree e (made p g.1.1)).tree })
 
 -- the declarations of a file that the tokens of a text are

@@ -2,15 +2,11 @@
 use Rattle.std.proofs.Common.{arith, ◌≡◌, ◌≤◌, ℕ, inl, inr, true, List, [], ◌∷◌, map, reverse, length, sym, subst}
 use Rattle.std.proofs.lemmas.List.{reverse-append, reverse-reverse}
 use Rattle.std.specs.List.{AllByRecursion}
-use Rattle.ae_base.proofs.AllOf.{all_append, all_front, all_back, all_before_map}
+use Rattle.ae_base.proofs.AllOf.{all_append, all_front, all_back, all_before_map, all_reversed}
 use Rattle.ae_core.specs.declared.terms.Sort.{Sort}
 use Rattle.ae_types.specs.Substitutions.{put}
 use Rattle.ae_elab.specs.Conditions.{Demand, Test, Same, Possible, First, IsOneOf, IsFirstOf, sorts_among, Meets, Condition, demands, IsTyping}
 use Rattle.ae_elab.specs.Rules.{Passed, Rule, give, ◌>>◌, ◌⇒◌, all_of, each}
-
-pub all_reversed : {X : Type 0} (Q : X → Type 0) (xs : List X) → AllByRecursion Q xs → AllByRecursion Q (reverse xs)
-all_reversed Q [] h = tt
-all_reversed Q (x ∷ xs) h = subst (AllByRecursion Q) (sym (reverse-append (x ∷ []) xs)) (all_append Q (reverse xs) (x ∷ []) (all_reversed Q xs h.1) (h.0, tt))
 
 module _ (m : ℕ → Sort) where
   -- a condition is met by the sorts that m puts, as far as it says something of them

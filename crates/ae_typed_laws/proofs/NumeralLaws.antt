@@ -1,8 +1,9 @@
 -- The numerals of a text are within the limits of terms.
-use Rattle.std.proofs.Common.{arith, ◌≡◌, ◌∙◌, ◌<◌, ◌≤◌, ◌^◌, ◌*◌, ℕ, zero, suc, ℤ, pos, true, false, not, ◌&&◌, ◌||◌, nat_lt, List, ◌++◌, length, refl, ap, subst, Some}
+use Rattle.std.proofs.Common.{arith, ◌≡◌, ◌∙◌, ◌<◌, ◌≤◌, ◌^◌, ◌*◌, ℕ, zero, suc, ℤ, pos, true, false, not, ◌&&◌, ◌||◌, nat_lt, List, ◌++◌, length}
+use Rattle.std.proofs.Common.{refl, ap, subst, Some}
 use Rattle.std.specs.Prelude.{int_lt}
 use Rattle.std.proofs.Math.Nat.{le-mul_of_pos_right}
-use Rattle.std.proofs.lemmas.Bool.{and_from, lt-ltb}
+use Rattle.std.proofs.lemmas.Bool.{and_from, lt-ltb, ltb-false}
 use Rattle.std.proofs.lemmas.Bool.Decides.{nat_tests}
 use Rattle.std.proofs.lemmas.Option.{none-some, same_Some}
 use Rattle.ae_base.proofs.Tests.{by_bool}
@@ -16,11 +17,8 @@ use Rattle.ae_syntax.specs.declared.exprs.Number.TheVariants as value
 use Rattle.ae_syntax.specs.Kinds.{numeral}
 use Rattle.ae_typed_laws.proofs.ParsedTrees.{IsNumber}
 
-not_below : (n k : ℕ) → nat_lt n k ≡ false → k ≤ n
-not_below n k f = grind (arith, nat_tests, f)
-
 narrow : (n : ℕ) → ¬ (2 ^ 127 ≤ n) → within (pos n) ≡ true
-narrow n h = by_bool (nat_lt n (2 ^ 127)) (λ t. t) (λ f. absurd (h (not_below n (2 ^ 127) f)))
+narrow n h = by_bool (nat_lt n (2 ^ 127)) (λ t. t) (λ f. absurd (h (ltb-false n (2 ^ 127) f)))
 
 whole_number : (n : ℕ) → ¬ (2 ^ 127 ≤ n) → numeral_ok (pos n) (pos 1) false ≡ true
 whole_number n h =

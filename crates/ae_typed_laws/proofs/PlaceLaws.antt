@@ -1,8 +1,9 @@
 -- Where a text is refused: each condition that it states is refused at a place in the text, and by a fault of typing.
-use Rattle.std.proofs.Common.{arith, ◌≡◌, ◌∙◌, ◌≤◌, ℕ, zero, suc, Bool, true, false, not, ◌&&◌, nat_eq, pos, List, [], ◌∷◌, ◌++◌, map, reverse, length, sym, ap, subst, Option, Some, None}
+use Rattle.std.proofs.Common.{arith, ◌≡◌, ◌∙◌, ◌≤◌, ℕ, zero, suc, Bool, true, false, not, ◌&&◌, nat_eq, pos, List, [], ◌∷◌, ◌++◌, map, reverse}
+use Rattle.std.proofs.Common.{length, sym, ap, subst, Option, Some, None}
 use Rattle.std.specs.List.{AllByRecursion, list_any}
 use Rattle.std.specs.Str.{bytes_eq}
-use Rattle.ae_base.proofs.AllOf.{all_append, all_always}
+use Rattle.ae_base.proofs.AllOf.{all_append, all_always, all_reversed}
 use Rattle.ae_core.specs.declared.terms.Sort.{Sort, Var, Int, Real, Bool as BoolSort, Unit as UnitSort, Named as NamedSort}
 use Rattle.ae_core.specs.declared.terms.Head.{Head}
 use Rattle.ae_core.specs.declared.terms.Head.TheVariants as head
@@ -32,17 +33,34 @@ use Rattle.ae_elab.specs.declared.numbers.Numbers.TheVariants.{IntOrReal}
 use Rattle.ae_elab.specs.declared.grounds.Ground.{Ground}
 use Rattle.ae_elab.specs.declared.grounds.Ground.TheVariants as ground
 use Rattle.ae_elab.specs.Conditions.{Condition, test, has_sort, is_bool as has_bool, has_operand_sort, may_be, becomes}
-use Rattle.ae_elab.specs.Trees.{Tree, Patterns, Claim, Relation, equal, unequal, less, at_most, greater, at_least, none, more, no_pattern, and_pattern, truth, falsity, relation, predicate, distinct, holds, negation, conjunction, disjunction, exclusion, equivalence, implication, conditional, quantified, variable, numeral, apply, operation, build, update, choice, constant, claim_of, claim_of_head, pattern_of, has_choice, is_application}
-use Rattle.ae_elab.specs.Scope.{Scope, Class, formula, either, term, Meaning, a_variable, a_term, a_formula, Local, Named, bound, function, predicate as predicate_name, unknown, by_result, symbol_from, look_up, meaning_of, name_at, type_number, field_place, first_place, named, with_locals}
-use Rattle.ae_elab.specs.Rules.{Passed, Rule, give, ◌>>◌, ◌⇒◌, all_of, refuse, each, fresh, unknowns, occurrence, Typed, typed, no_term, Around, Part, Set, as_term, as_formula, wanted, all_wanted}
+use Rattle.ae_elab.specs.Trees.{Tree, Patterns, Claim, Relation, equal, unequal, less, at_most, greater, at_least, none, more, no_pattern}
+use Rattle.ae_elab.specs.Trees.{and_pattern, truth, falsity, relation, predicate, distinct, holds, negation, conjunction, disjunction, exclusion}
+use Rattle.ae_elab.specs.Trees.{equivalence, implication, conditional, quantified, variable, numeral, apply, operation, build, update, choice}
+use Rattle.ae_elab.specs.Trees.{constant, claim_of, claim_of_head, pattern_of, has_choice, is_application}
+use Rattle.ae_elab.specs.Scope.{Scope, Class, formula, either, term, Meaning, a_variable, a_term, a_formula, Local, Named, bound, function}
+use Rattle.ae_elab.specs.Scope.{predicate as predicate_name, unknown, by_result, symbol_from, look_up, meaning_of, name_at, type_number, field_place}
+use Rattle.ae_elab.specs.Scope.{first_place, named, with_locals}
+use Rattle.ae_elab.specs.Rules.{Passed, Rule, give, ◌>>◌, ◌⇒◌, all_of, refuse, each, fresh, unknowns, occurrence, Typed, typed, no_term, Around, Part}
+use Rattle.ae_elab.specs.Rules.{Set, as_term, as_formula, wanted, all_wanted}
 use Rattle.ae_elab.specs.WrittenTypes.{TypeRule, type_rule, variable_rule, parameter, is_other, named_rule}
-use Rattle.ae_elab.specs.Terms.{numeral_rule, numbers_of, operands, operation_rule, negative_rule, ascribed_rule, choice_rule, application_rule, function_rule, fields_at, arity_at, with_field, field_rule, field_sort, no_values, values_rule, with_type, record_rule, update_rule}
-use Rattle.ae_elab.specs.Formulas.{truth_rule, equation_rule, inequality_rule, of_one_sort, distinct_rule, connective_rule, conditional_rule, predicate_rule, Bound, local_of, with_block, all_new, groups_rule, variable_of, same_quantifier, merged_with, covering, covering_all, merging_triggers, merging, merging_into, untested, pattern_rule, patterns_rule, first_place_of, triggers_rule, around_body, block_rule}
-use Rattle.ae_elab.specs.Expressions.{formula_in_term, a_term_part, a_formula_part, constant_part, bracketed_part, bind, let_part, if_part, no_arguments, name_term, name_formula, name_part, binary_part, part_of, kind_part, set_of, trigger_of}
-use Rattle.ae_elab.proofs.PartRules.{kind_binary, kind_not, kind_negative, kind_quantified, kind_let, kind_if, kind_field, kind_apply, kind_numeral, kind_true, kind_false, kind_void, kind_bracketed, kind_ascribed, kind_distinct, kind_record, kind_update}
-use Rattle.ae_typed_laws.proofs.BuiltRules.{int_rule, real_rule, bool_rule, unit_rule, var_rule, named_type_rule, built_part, built_setting, built_trigger}
-use Rattle.ae_typed_laws.proofs.MetConditions.{all_reversed}
-use Rattle.ae_typed_laws.proofs.ParsedTrees.{IsPlace, IsIdentifier, IsWritten, AreWritten, is_int, is_real, is_bool, is_unit, is_var, is_named, and_type, no_types, IsGroup, IsTree, is_binary, is_not, is_negative, is_quantified, is_let, is_if, is_field, is_apply, is_numeral, is_true, is_false, is_void, is_bracketed, is_ascribed, is_distinct, is_record, is_update, AreTrees, no_trees, and_tree, AreTriggers, no_triggers, and_trigger, AreSettings, no_settings, and_setting}
+use Rattle.ae_elab.specs.Terms.{numeral_rule, numbers_of, operands, operation_rule, negative_rule, ascribed_rule, choice_rule, application_rule}
+use Rattle.ae_elab.specs.Terms.{function_rule, fields_at, arity_at, with_field, field_rule, field_sort, no_values, values_rule, with_type}
+use Rattle.ae_elab.specs.Terms.{record_rule, update_rule}
+use Rattle.ae_elab.specs.Formulas.{truth_rule, equation_rule, inequality_rule, of_one_sort, distinct_rule, connective_rule, conditional_rule}
+use Rattle.ae_elab.specs.Formulas.{predicate_rule, Bound, local_of, with_block, all_new, groups_rule, variable_of, same_quantifier, merged_with}
+use Rattle.ae_elab.specs.Formulas.{covering, covering_all, merging_triggers, merging, merging_into, untested, pattern_rule, patterns_rule}
+use Rattle.ae_elab.specs.Formulas.{first_place_of, triggers_rule, around_body, block_rule}
+use Rattle.ae_elab.specs.Expressions.{formula_in_term, a_term_part, a_formula_part, constant_part, bracketed_part, bind, let_part, if_part}
+use Rattle.ae_elab.specs.Expressions.{no_arguments, name_term, name_formula, name_part, binary_part, part_of, kind_part, set_of, trigger_of}
+use Rattle.ae_elab.proofs.PartRules.{kind_binary, kind_not, kind_negative, kind_quantified, kind_let, kind_if, kind_field, kind_apply, kind_numeral}
+use Rattle.ae_elab.proofs.PartRules.{kind_true, kind_false, kind_void, kind_bracketed, kind_ascribed, kind_distinct, kind_record, kind_update}
+use Rattle.ae_typed_laws.proofs.BuiltRules.{int_rule, real_rule, bool_rule, unit_rule, var_rule, named_type_rule, built_part, built_setting}
+use Rattle.ae_typed_laws.proofs.BuiltRules.{built_trigger}
+use Rattle.ae_typed_laws.proofs.ParsedTrees.{IsPlace, IsIdentifier, IsWritten, AreWritten, is_int, is_real, is_bool, is_unit, is_var, is_named}
+use Rattle.ae_typed_laws.proofs.ParsedTrees.{and_type, no_types, IsGroup, IsTree, is_binary, is_not, is_negative, is_quantified, is_let, is_if}
+use Rattle.ae_typed_laws.proofs.ParsedTrees.{is_field, is_apply, is_numeral, is_true, is_false, is_void, is_bracketed, is_ascribed, is_distinct}
+use Rattle.ae_typed_laws.proofs.ParsedTrees.{is_record, is_update, AreTrees, no_trees, and_tree, AreTriggers, no_triggers, and_trigger, AreSettings}
+use Rattle.ae_typed_laws.proofs.ParsedTrees.{no_settings, and_setting}
 
 module _ (text : List ℕ) where
   -- it begins in the text
@@ -569,7 +587,8 @@ module _ (text : List ℕ) where
     pub at_tree : {e : Expr} → IsTree text e → SoundPart (part_of e)
     at_tree (is_binary s o a b h i j) = by_rule s _ _ (kind_binary o a b) (in_binary o s (part_of a) (part_of b) h (at_tree i) (at_tree j))
     at_tree (is_not s a h i) =
-        by_rule s _ _ (kind_not a) (formula_part s (λ sc around. as_formula sc (part_of a) >> λ f. give (negation f)) h (λ sc c around. follows Placed Placed (as_formula sc (part_of a)) _ (in_formula sc (part_of a) c (at_tree i)) (λ f q. gives Placed (negation f) tt)))
+        by_rule s _ _ (kind_not a) (formula_part s (λ sc around. as_formula sc (part_of a) >> λ f. give (negation f)) h
+        (λ sc c around. follows Placed Placed (as_formula sc (part_of a)) _ (in_formula sc (part_of a) c (at_tree i)) (λ f q. gives Placed (negation f) tt)))
     at_tree (is_negative s a h i) = by_rule s _ _ (kind_negative a) (term_part s (negative_rule (part_of a)) h (λ sc c. in_negative (part_of a) sc c (at_tree i)))
     at_tree (is_quantified s q gs ts b h g a i) =
         by_rule s _ _ (kind_quantified q gs ts b) (formula_part s (block_rule q gs (map trigger_of ts) (part_of b)) h (λ sc c around. in_block q gs (map trigger_of ts) (part_of b) sc around c g (at_triggers a) (at_tree i)))

@@ -1,5 +1,6 @@
 -- What makes a signature lawful, and that it stays so where types and symbols are added.
-use Rattle.std.proofs.Common.{arith, ◌≡◌, ◌≢◌, ◌∙◌, ◌≤◌, ◌<◌, ◌+◌, ◌⊎◌, inl, inr, ℕ, zero, suc, Bool, true, false, not, ◌||◌, nat_eq, nat_lt, List, [], ◌∷◌, ◌++◌, map, length, refl, sym, ap, subst, Option, Some, None, slice_get}
+use Rattle.std.proofs.Common.{arith, ◌≡◌, ◌≢◌, ◌∙◌, ◌≤◌, ◌<◌, ◌+◌, ◌⊎◌, inl, inr, ℕ, zero, suc, Bool, true, false, not, ◌||◌, nat_eq, nat_lt, List}
+use Rattle.std.proofs.Common.{[], ◌∷◌, ◌++◌, map, length, refl, sym, ap, subst, Option, Some, None, slice_get}
 use Rattle.std.specs.List.{AllByRecursion, list_all, list_any, flat_map}
 use Rattle.std.specs.Str.{bytes_eq}
 use Rattle.std.proofs.lemmas.Bool.{and_parts, and_from}
@@ -12,7 +13,8 @@ use Rattle.ae_base.proofs.AllOf.{all_append, all_push, test_of_all}
 use Rattle.ae_base.proofs.ListFacts.{get_append, list_all_weaker}
 use Rattle.ae_base.proofs.Tests.{false_true, not_both}
 use Rattle.ae_core.specs.Sorts.{type_fits}
-use Rattle.ae_core.specs.Signatures.{is_name, fields_of, AreDistinct, is_sort_over, is_field_sort, names_below, IsChoice, IsEnumeration, IsLawfulType, IsEnumerated, IsLawfulNature, is_result, IsLawfulSymbol, IsLawful}
+use Rattle.ae_core.specs.Signatures.{is_name, fields_of, AreDistinct, is_sort_over, is_field_sort, names_below, IsChoice, IsEnumeration, IsLawfulType}
+use Rattle.ae_core.specs.Signatures.{IsEnumerated, IsLawfulNature, is_result, IsLawfulSymbol, IsLawful}
 use Rattle.ae_core.specs.declared.terms.Sort.{Sort, Named}
 use Rattle.ae_core.specs.declared.problems.Signature.{Signature}
 use Rattle.ae_core.specs.declared.problems.SymbolEntry.{SymbolEntry}
