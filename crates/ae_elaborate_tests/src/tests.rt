@@ -695,6 +695,74 @@ const ELABORATED: [(&[u8], &[u8]); 30] = [
     ),
 ];
 
+/// Texts with `if`s between terms, and with type variables in another order than the text's.
+const LIFTED: [(&[u8], &[u8]); 11] = [
+    // the leftmost outermost `if` first: arguments, both sides of a turned relation, branches, conditions
+    (
+        b"logic a, b, c, d, e : int logic u : int, int -> int \
+goal g : u(if a = b then a else b, if c = d then c else d) = e",
+        b"goal g 0 (@and (@or (@not (= a b)) \
+(@and (@or (@not (= c d)) (= (u a c) e)) (@or (= c d) (= (u a d) e)))) \
+(@or (= a b) (@and (@or (@not (= c d)) (= (u b c) e)) (@or (= c d) (= (u b d) e)))))\n",
+    ),
+    (
+        b"logic a, b : int goal g : (if a = 1 then a else b) > (if b = 1 then 2 else 3)",
+        b"goal g 0 (@and (@or (@not (= a 1)) (@and (@or (@not (= b 1)) (< 2 a)) (@or (= b 1) (< 3 a)))) \
+(@or (= a 1) (@and (@or (@not (= b 1)) (< 2 b)) (@or (= b 1) (< 3 b)))))\n",
+    ),
+    (
+        b"logic a, b, c : int goal g : (if a = 1 then (if b = 1 then a else b) else c) = 2",
+        b"goal g 0 (@and (@or (@not (= a 1)) (@and (@or (@not (= b 1)) (= a 2)) (@or (= b 1) (= b 2)))) \
+(@or (= a 1) (= c 2)))\n",
+    ),
+    (
+        b"logic a, b, c : int goal g : (if (if a = 1 then b else c) = 2 then a else b) = 3",
+        b"goal g 0 (@and (@or (@not (@and (@or (@not (= a 1)) (= b 2)) (@or (= a 1) (= c 2)))) (= a 3)) \
+(@or (@and (@or (@not (= a 1)) (= b 2)) (@or (= a 1) (= c 2))) (= b 3)))\n",
+    ),
+    // a whole `distinct` is one atom
+    (
+        b"logic a, b, c : int goal g : distinct(a, if b = 1 then a else b, c)",
+        b"goal g 0 (@and (@or (@not (= b 1)) (@and (@and (@not (= a a)) (@not (= a c))) (@not (= a c)))) \
+(@or (= b 1) (@and (@and (@not (= a b)) (@not (= a c))) (@not (= b c)))))\n",
+    ),
+    // records: the changed record before the values, and the values in the text's order
+    (
+        b"type p = { x : int; y : int } logic r, s : p logic a, b : int \
+goal g : { (if a = 1 then r else s) with y = if b = 1 then 2 else 3 } = s",
+        b"goal g 0 (@and (@or (@not (= a 1)) \
+(@and (@or (@not (= b 1)) (= (:p (.x r) 2) s)) (@or (= b 1) (= (:p (.x r) 3) s)))) \
+(@or (= a 1) (@and (@or (@not (= b 1)) (= (:p (.x s) 2) s)) (@or (= b 1) (= (:p (.x s) 3) s)))))\n",
+    ),
+    (
+        b"type p = { x : int; y : int } logic r : p logic a, b : int \
+goal g : { y = if a = 1 then 1 else 2; x = if b = 1 then 3 else 4 } = r",
+        b"goal g 0 (@and (@or (@not (= a 1)) \
+(@and (@or (@not (= b 1)) (= (:p 3 1) r)) (@or (= b 1) (= (:p 4 1) r)))) \
+(@or (= a 1) (@and (@or (@not (= b 1)) (= (:p 3 2) r)) (@or (= b 1) (= (:p 4 2) r)))))\n",
+    ),
+    // what a `let` names is put first
+    (
+        b"logic a : int logic c, d : bool goal g : let x = (if a = 1 then c else d) in x and x = true",
+        b"goal g 0 (@and (@and (@or (@not (= a 1)) (= c true)) (@or (= a 1) (= d true))) \
+(@and (@or (@not (= a 1)) (= c true)) (@or (= a 1) (= d true))))\n",
+    ),
+    // type variables are numbered by the formula that is written out
+    (
+        b"type 'a list logic nil : 'a list logic len : 'a list -> int \
+goal g : len((nil : 'a list)) > len((nil : 'b list))",
+        b"goal g 2 (< (len ['0] (nil ['0])) (len ['1] (nil ['1])))\n",
+    ),
+    (
+        b"type 'a list logic nil : 'a list goal g : let z = (nil : 'a list) in nil = (nil : 'b list)",
+        b"goal g 1 (= (nil ['0]) (nil ['0]))\n",
+    ),
+    (
+        b"logic p : 'a, 'b -> prop goal g : forall x : 'a. (forall y : 'b. p(y, y)) and p(x, x)",
+        b"goal g 2 (@all ['0] [] (@and (@all ['1] [] (p ['1 '1] #0 #0)) (p ['0 '0] #0 #0)))\n",
+    ),
+];
+
 /// A symbol that is associative and commutative, among numbers.
 const SUMS: &[u8] = b"
 logic ac u : real, real -> real
@@ -862,6 +930,16 @@ fn first_faults(rt: HostRuntime) -> Result<(), Fail> {
 fn small_texts(rt: HostRuntime) -> Result<(), Fail> {
     let alloc = rt.alloc();
     for row in ELABORATED.iter() {
+        let told = unlike(alloc, row.0, row.1)?;
+        assert!(rt; told.is_none(), "{:?} {:?}", row, told);
+    }
+    Ok(())
+}
+
+#[test]
+fn lifted_texts(rt: HostRuntime) -> Result<(), Fail> {
+    let alloc = rt.alloc();
+    for row in LIFTED.iter() {
         let told = unlike(alloc, row.0, row.1)?;
         assert!(rt; told.is_none(), "{:?} {:?}", row, told);
     }
