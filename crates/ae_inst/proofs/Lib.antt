@@ -1,1 +1,2 @@
 pub mod SameNames
+pub mod IndexLaws

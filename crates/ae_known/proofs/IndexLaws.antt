@@ -1,15 +1,15 @@
 -- What is answered after a name was entered.
-use Rattle.std.specs.Prelude.{ℕ, zero, suc, ◌+◌, ◌≡◌, ◌⊎◌, ◌<◌, Bool, true, false, cond, ◌&&◌, ◌||◌, nat_lt, List, [], ◌∷◌, ◌++◌, map, length, slice_get, Option, Some, None}
-use Rattle.std.specs.List.{AllByRecursion, filter, flat_map, list_any}
+use Rattle.std.specs.Prelude.{ℕ, zero, suc, ◌+◌, ◌-◌, ◌≡◌, ◌<◌, Bool, true, false, cond, ◌&&◌, nat_lt, List, [], ◌∷◌, ◌++◌, length, take, slice_get, slice_set, Option, Some, None}
+use Rattle.std.specs.List.{AllByRecursion, filter, list_any}
 use Rattle.std.proofs.Common.{refl, sym, ap, ◌∙◌, subst, arith, inl, inr}
-use Rattle.std.proofs.lemmas.Bool.{cases_Bool, lt-ltb, le-ltb}
+use Rattle.std.proofs.lemmas.Bool.{cases_Bool, or_parts, lt-ltb, ltb-true, ltb-false}
 use Rattle.std.proofs.lemmas.List.{append-nil}
 use Rattle.std.proofs.lemmas.List.Elements.{filter-append}
-use Rattle.indexmap.specs.IndexMap.{get}
+use Rattle.std.proofs.lemmas.Option.{same_Some}
 use Rattle.ae_base.specs.Decided.{decided}
 use Rattle.ae_base.specs.Options.{or_else, ◌>>=◌}
 use Rattle.ae_base.proofs.Decided.{decided_of, decided_yes}
-use Rattle.ae_base.proofs.AllOf.{all_push, all_weaker}
+use Rattle.ae_base.proofs.AllOf.{all_at, all_push, all_weaker}
 use Rattle.ae_core.specs.Decided.{Sorts_discrete}
 use Rattle.ae_core.specs.Sorts.{same_sorts}
 use Rattle.ae_core.specs.declared.terms.Sort.{Sort}
@@ -18,118 +18,102 @@ use Rattle.ae_store.specs.declared.nodes.Node.{Node}
 use Rattle.ae_store.specs.declared.nodes.NodeHead.{NodeHead}
 use Rattle.ae_store.specs.Keys.{is_same, Shape_discrete}
 use Rattle.ae_known.specs.declared.known.Known.{Known}
-use Rattle.ae_known.specs.declared.known.Line.{Line}
-use Rattle.ae_known.specs.declared.known.Group.{Group}
-use Rattle.ae_known.specs.Index.{NodeHead_discrete, has_head, passes_at, names_where, below, above, with_name, entered_group, entered_groups, entered_line, group_names, key, empty_line, line_at, with_head, of, HasHeads}
+use Rattle.ae_known.specs.declared.rows.Group.{Group}
+use Rattle.ae_known.specs.Index.{NodeHead_discrete, has_head, passes_at, is_listed, is_behind, below, above, with_name, entered_groups, group_names, key, with_head, with_argument}
+use Rattle.ae_known.specs.Inner.{front, IsPlace}
+
+pub front_push : (ns : List ℕ) (n : ℕ) → front (ns ++ n ∷ []) ≡ ns
+front_push [] n = refl
+front_push (m ∷ []) n = refl
+front_push (m ∷ k ∷ ns) n = ap (λ l. m ∷ l) (front_push (k ∷ ns) n)
 
 sorts_of : (xs ys : List Sort) → same_sorts xs ys ≡ true → xs ≡ ys
 sorts_of xs ys e = decided_yes (Sorts_discrete xs ys) e
 
-back : (xs ys : List Sort) → same_sorts xs ys ≡ true → same_sorts ys xs ≡ true
-back xs ys e = decided_of (Sorts_discrete ys xs) (sym (sorts_of xs ys e))
-
-no_back : (xs ys : List Sort) → same_sorts xs ys ≡ false → same_sorts ys xs ≡ false
-no_back xs ys e = elim (cases_Bool (same_sorts ys xs)) as (λ _. same_sorts ys xs ≡ false) [
-  | inl y ↦ let z : ◌≡◌ {A = Bool} true false = sym (back ys xs y) ∙ e in cc z
-  | inr n ↦ n
-]
-
-abbrev Case : Bool → Type 0
-Case b = (b ≡ true) ⊎ (b ≡ false)
-
 -- ---- groups
-module _ (ss ts : List Sort) (n : ℕ) where
-  abbrev E : Group → Group
-  E = entered_group ss n
+module _ (ss : List Sort) (n : ℕ) where
+  abbrev test : Group → Bool
+  test g = same_sorts g.sorts ss
 
-  kept : (g : Group) → (E g).sorts ≡ g.sorts
-  kept g = elim (cases_Bool (same_sorts g.sorts ss)) as (λ _. (E g).sorts ≡ g.sorts) [
-    | inl y ↦ ap (λ b. (cond b (record { sorts = g.sorts; names = with_name n g.names }) g).sorts) y
-    | inr m ↦ ap (λ b. (cond b (record { sorts = g.sorts; names = with_name n g.names }) g).sorts) m
-  ]
+  -- with another in the place of the group of these sorts
+  pub placed : (gs : List Group) (i : ℕ) (g new : Group) → IsPlace ss gs i → slice_get gs i ≡ Some g → new.sorts ≡ g.sorts → new.names ≡ with_name n g.names → slice_set gs i new ≡ entered_groups ss n gs
+  placed [] i g new p at s e = cc at
+  placed (x ∷ gs) zero g new p at s e =
+      let own : x ≡ g = same_Some x g at in
+      let is : new ≡ record { sorts = x.sorts; names = with_name n x.names } = λ i. record { sorts = (s ∙ ap (λ (y : Group). y.sorts) (sym own)) i; names = (e ∙ ap (λ (y : Group). with_name n y.names) (sym own)) i } in
+      ap (λ y. y ∷ gs) is ∙ sym (ap (λ b. cond b (record { sorts = x.sorts; names = with_name n x.names } ∷ gs) (x ∷ entered_groups ss n gs)) (p.2 x refl))
+  placed (x ∷ gs) (suc i) g new p at s e =
+      let q = or_parts (test x) (list_any test (take i gs)) p.0 in
+      ap (λ l. x ∷ l) (placed gs i g new (q.1, omega (arith, p.1), p.2) at s e) ∙ sym (ap (λ b. cond b (record { sorts = x.sorts; names = with_name n x.names } ∷ gs) (x ∷ entered_groups ss n gs)) q.0)
 
-  -- the names of a group of other sorts, and of one of these
-  other : same_sorts ss ts ≡ false → (gs : List Group) → group_names ts (map E gs) ≡ group_names ts gs
-  other d [] = refl
-  other d (g ∷ gs) = go (other d gs) (cases_Bool (same_sorts g.sorts ts)) (cases_Bool (same_sorts g.sorts ss))
-    where
-      go : group_names ts (map E gs) ≡ group_names ts gs → Case (same_sorts g.sorts ts) → Case (same_sorts g.sorts ss) → group_names ts (E g ∷ map E gs) ≡ group_names ts (g ∷ gs)
-      go r (inr a) c = (λ i. cond (same_sorts (kept g i) ts) (E g).names (group_names ts (map E gs))) ∙ ap (λ b. cond b (E g).names (group_names ts (map E gs))) a ∙ r ∙ sym (ap (λ b. cond b g.names (group_names ts gs)) a)
-      go r (inl a) (inr c) = (λ i. group_names ts (cond (c i) (record { sorts = g.sorts; names = with_name n g.names }) g ∷ map E gs)) ∙ (λ i. cond (same_sorts g.sorts ts) g.names (r i))
-      go r (inl a) (inl c) = absurd (let z : ◌≡◌ {A = Bool} true false = sym (decided_of (Sorts_discrete ss ts) (sym (sorts_of g.sorts ss c) ∙ sorts_of g.sorts ts a)) ∙ d in cc z)
+  pub kept_place : (gs : List Group) (i : ℕ) (g new : Group) → slice_get gs i ≡ Some g → new.sorts ≡ g.sorts → new.names ≡ g.names → slice_set gs i new ≡ gs
+  kept_place [] i g new at s e = cc at
+  kept_place (x ∷ gs) zero g new at s e =
+      let is : new ≡ g = λ i. record { sorts = s i; names = e i } in
+      ap (λ y. y ∷ gs) (is ∙ sym (same_Some x g at))
+  kept_place (x ∷ gs) (suc i) g new at s e = ap (λ l. x ∷ l) (kept_place gs i g new at s e)
 
-  abbrev new : Bool → List Group
-  new b = cond b [] (record { sorts = ss; names = n ∷ [] } ∷ [])
+  pub behind_all : (gs : List Group) → list_any test gs ≡ false → gs ++ record { sorts = ss; names = n ∷ [] } ∷ [] ≡ entered_groups ss n gs
+  behind_all [] e = refl
+  behind_all (x ∷ gs) e =
+      let q = or_parts (test x) (list_any test gs) e in
+      ap (λ l. x ∷ l) (behind_all gs q.1) ∙ sym (ap (λ b. cond b (record { sorts = x.sorts; names = with_name n x.names } ∷ gs) (x ∷ entered_groups ss n gs)) q.0)
 
-  abbrev wanted : List Group → List ℕ
-  wanted gs = cond (same_sorts ss ts) (with_name n (group_names ts gs)) (group_names ts gs)
+  -- the names of the group of any sorts
+  module _ (ts : List Sort) where
+    abbrev after : Bool → List ℕ → List ℕ
+    after b ns = cond b (with_name n ns) ns
 
-  -- what is behind doesn't count where it isn't of these sorts
-  none_behind : same_sorts ss ts ≡ false → (b : Bool) (gs : List Group) → group_names ts (gs ++ new b) ≡ group_names ts gs
-  none_behind d true [] = refl
-  none_behind d false [] = ap (λ b. cond b (n ∷ []) []) d
-  none_behind d b (g ∷ gs) = ap (λ l. cond (same_sorts g.sorts ts) g.names l) (none_behind d b gs)
+    empty_case : (b : Bool) → cond b (n ∷ []) [] ≡ after b []
+    empty_case true = refl
+    empty_case false = refl
 
-  yes_group : same_sorts ss ts ≡ true → (gs : List Group) → group_names ts (entered_groups ss n gs) ≡ with_name n (group_names ts gs)
-  yes_group y [] = ap (λ b. cond b (n ∷ []) []) y
-  yes_group y (g ∷ gs) = go (yes_group y gs) (cases_Bool (same_sorts g.sorts ss))
-    where
-      go : group_names ts (entered_groups ss n gs) ≡ with_name n (group_names ts gs) → Case (same_sorts g.sorts ss) → group_names ts (entered_groups ss n (g ∷ gs)) ≡ with_name n (group_names ts (g ∷ gs))
-      go r (inl a) =
-          let t : same_sorts g.sorts ts ≡ true = decided_of (Sorts_discrete g.sorts ts) (sorts_of g.sorts ss a ∙ sorts_of ss ts y) in
-          (λ i. group_names ts (cond (a i) (record { sorts = g.sorts; names = with_name n g.names }) g ∷ (map E gs ++ new (same_sorts g.sorts ss || list_any (λ h. same_sorts h.sorts ss) gs))))
-          ∙ ap (λ b. cond b (with_name n g.names) (group_names ts (map E gs ++ new (same_sorts g.sorts ss || list_any (λ h. same_sorts h.sorts ss) gs)))) t
-          ∙ sym (ap (λ b. with_name n (cond b g.names (group_names ts gs))) t)
-      go r (inr a) =
-          let t : same_sorts g.sorts ts ≡ false = subst (λ zs. same_sorts g.sorts zs ≡ false) (sorts_of ss ts y) a in
-          (λ i. group_names ts (cond (a i) (record { sorts = g.sorts; names = with_name n g.names }) g ∷ (map E gs ++ new (a i || list_any (λ h. same_sorts h.sorts ss) gs))))
-          ∙ ap (λ b. cond b g.names (group_names ts (entered_groups ss n gs))) t ∙ r ∙ sym (ap (λ b. with_name n (cond b g.names (group_names ts gs))) t)
+    both : (b d : Bool) (xs ys : List ℕ) → d ≡ b → cond b (with_name n xs) ys ≡ after d (cond b xs ys)
+    both true d xs ys e = sym (ap (λ z. after z xs) e)
+    both false d xs ys e = sym (ap (λ z. after z ys) e)
 
-  pub group_entered : (gs : List Group) → group_names ts (entered_groups ss n gs) ≡ wanted gs
-  group_entered gs = elim (cases_Bool (same_sorts ss ts)) as (λ _. group_names ts (entered_groups ss n gs) ≡ wanted gs) [
-    | inl y ↦ yes_group y gs ∙ sym (ap (λ b. cond b (with_name n (group_names ts gs)) (group_names ts gs)) y)
-    | inr d ↦ none_behind d (list_any (λ h. same_sorts h.sorts ss) gs) (map E gs) ∙ other d gs ∙ sym (ap (λ b. cond b (with_name n (group_names ts gs)) (group_names ts gs)) d)
-  ]
+    differ : (g : Group) → test g ≡ false → same_sorts g.sorts ts ≡ true → same_sorts ss ts ≡ false
+    differ g m t = elim (cases_Bool (same_sorts ss ts)) as (λ _. same_sorts ss ts ≡ false) [
+      | inl z ↦ let w : ◌≡◌ {A = Bool} true false = sym (decided_of (Sorts_discrete g.sorts ss) (sorts_of g.sorts ts t ∙ sym (sorts_of ss ts z))) ∙ m in cc w
+      | inr z ↦ z
+    ]
 
--- ---- lines
-head_keys : (a b : NodeHead) → is_same (key a) (key b) ≡ decided (NodeHead_discrete a b)
+    -- where the first group is of other sorts
+    later : (g : Group) (xs ys : List ℕ) → test g ≡ false → xs ≡ after (same_sorts ss ts) ys → cond (same_sorts g.sorts ts) g.names xs ≡ after (same_sorts ss ts) (cond (same_sorts g.sorts ts) g.names ys)
+    later g xs ys m e = elim (cases_Bool (same_sorts g.sorts ts)) as (λ _. cond (same_sorts g.sorts ts) g.names xs ≡ after (same_sorts ss ts) (cond (same_sorts g.sorts ts) g.names ys)) [
+      | inl t ↦ ap (λ b. cond b g.names xs) t ∙ sym (ap (λ b. after (same_sorts ss ts) (cond b g.names ys)) t ∙ ap (λ b. after b g.names) (differ g m t))
+      | inr f ↦ ap (λ b. cond b g.names xs) f ∙ e ∙ sym (ap (λ b. after (same_sorts ss ts) (cond b g.names ys)) f)
+    ]
+
+    pub group_entered : (gs : List Group) → group_names ts (entered_groups ss n gs) ≡ after (same_sorts ss ts) (group_names ts gs)
+    group_entered [] = empty_case (same_sorts ss ts)
+    group_entered (g ∷ gs) = elim (cases_Bool (test g)) as (λ _. group_names ts (entered_groups ss n (g ∷ gs)) ≡ after (same_sorts ss ts) (group_names ts (g ∷ gs))) [
+      | inl y ↦
+          ap (λ b. group_names ts (cond b (record { sorts = g.sorts; names = with_name n g.names } ∷ gs) (g ∷ entered_groups ss n gs))) y
+          ∙ both (same_sorts g.sorts ts) (same_sorts ss ts) g.names (group_names ts gs) (ap (λ l. same_sorts l ts) (sym (sorts_of g.sorts ss y)))
+      | inr m ↦
+          ap (λ b. group_names ts (cond b (record { sorts = g.sorts; names = with_name n g.names } ∷ gs) (g ∷ entered_groups ss n gs))) m
+          ∙ later g (group_names ts (entered_groups ss n gs)) (group_names ts gs) m (group_entered gs)
+    ]
+
+pub sorts_entered : (us ss : List Sort) (n : ℕ) (b : Bool) (gs : List Group) → group_names ss (cond b (entered_groups us n gs) gs) ≡ cond (b && same_sorts us ss) (with_name n (group_names ss gs)) (group_names ss gs)
+sorts_entered us ss n true gs = group_entered us n ss gs
+sorts_entered us ss n false gs = refl
+
+-- ---- heads
+pub head_keys : (a b : NodeHead) → is_same (key a) (key b) ≡ decided (NodeHead_discrete a b)
 head_keys a b = elim (NodeHead_discrete a b) as (λ d. is_same (key a) (key b) ≡ decided d) [
   | yes p ↦ decided_of (Shape_discrete (key a) (key b)) (ap key p)
   | no n ↦ elim (Shape_discrete (key a) (key b)) as (λ d. decided d ≡ false) [ yes p ↦ absurd (n (ap (λ s. s.head) p)) | no m ↦ refl ]
 ]
 
-module _ (old new : Known) (x : Node) (n : ℕ) (line : Line) (is : line ≡ entered_line x.sorts n (line_at old x.head))
-    (updates : (h : NodeHead) → get is_same new.lines (key h) ≡ cond (is_same (key x.head) (key h)) (Some line) (get is_same old.lines (key h))) where
-  lines : (h : NodeHead) → line_at new h ≡ cond (has_head h x) (entered_line x.sorts n (line_at old h)) (line_at old h)
-  lines h =
-      ap (λ o. or_else o empty_line) (updates h ∙ ap (λ b. cond b (Some line) (get is_same old.lines (key h))) (head_keys x.head h)) ∙ go (NodeHead_discrete x.head h)
-    where
-      go : (d : Dec (x.head ≡ h)) → or_else (cond (decided d) (Some line) (get is_same old.lines (key h))) empty_line ≡ cond (decided d) (entered_line x.sorts n (line_at old h)) (line_at old h)
-      go (yes p) = is ∙ ap (λ k. entered_line x.sorts n (line_at old k)) p
-      go (no m) = refl
-
-  pub heads_entered : (h : NodeHead) → with_head new h ≡ cond (has_head h x) (with_name n (with_head old h)) (with_head old h)
-  heads_entered h = ap (λ l. l.names) (lines h) ∙ by (has_head h x)
-    where
-      by : (b : Bool) → (cond b (entered_line x.sorts n (line_at old h)) (line_at old h)).names ≡ cond b (with_name n (with_head old h)) (with_head old h)
-      by true = refl
-      by false = refl
-
-  pub sorts_entered : (h : NodeHead) (ss : List Sort) → of new h ss ≡ cond (has_head h x && same_sorts x.sorts ss) (with_name n (of old h ss)) (of old h ss)
-  sorts_entered h ss = ap (λ l. group_names ss l.groups) (lines h) ∙ by (has_head h x)
-    where
-      by : (b : Bool) → group_names ss (cond b (entered_line x.sorts n (line_at old h)) (line_at old h)).groups ≡ cond (b && same_sorts x.sorts ss) (with_name n (of old h ss)) (of old h ss)
-      by true = group_entered x.sorts ss n (line_at old h).groups
-      by false = refl
-
 -- ---- the names of a store one after another
-none_above : (n : ℕ) (xs : List ℕ) → AllByRecursion (λ m. m < n) xs → above n xs ≡ []
-none_above n [] a = refl
-none_above n (x ∷ xs) a = (λ i. cond (le-ltb n x (omega (arith, a.0)) i) (x ∷ []) [] ++ none_above n xs a.1 i)
-
-all_under : (n : ℕ) (xs : List ℕ) → AllByRecursion (λ m. m < n) xs → below n xs ≡ xs
-all_under n [] a = refl
-all_under n (x ∷ xs) a = λ i. cond (lt-ltb x n a.0 i) (x ∷ []) [] ++ all_under n xs a.1 i
+under_behind : (n : ℕ) (xs : List ℕ) → AllByRecursion (λ m. m < n) xs → is_behind n xs ≡ true
+under_behind n xs a = go (slice_get xs (length xs - 1)) refl
+  where
+    go : (o : Option ℕ) → slice_get xs (length xs - 1) ≡ o → or_else (o >>= λ m. Some (nat_lt m n)) true ≡ true
+    go None e = refl
+    go (Some m) e = lt-ltb m n (all_at (λ k. k < n) xs (length xs - 1) m a e)
 
 filter_more : (f : ℕ → Bool) (xs : List ℕ) (n : ℕ) → filter f (xs ++ n ∷ []) ≡ filter f xs ++ cond (f n) (n ∷ []) []
 filter_more f xs n = filter-append f xs (n ∷ [])
@@ -156,13 +140,28 @@ one_more ns n old new x at a e h =
     let f = passes_at (has_head h) ns in
     let here : f n ≡ has_head h x = ap (λ o. or_else (o >>= λ y. Some (has_head h y)) false) at in
     let under = filtered_under f (numbers_below n) n (numbers_under n) in
-    e h ∙ (λ i. cond (has_head h x) (with_name n (a h i)) (a h i))
-    ∙ (λ i. cond (has_head h x) ((all_under n (filter f (numbers_below n)) under i ++ n ∷ []) ++ none_above n (filter f (numbers_below n)) under i) (filter f (numbers_below n)))
-    ∙ by (has_head h x) (filter f (numbers_below n)) ∙ (λ i. filter f (numbers_below n) ++ cond (sym here i) (n ∷ []) []) ∙ sym (filter_more f (numbers_below n) n) ∙ ap (λ m. filter f (numbers_below m)) next
+    e h ∙ (λ i. cond (has_head h x) (with_name n (a h i)) (a h i)) ∙ by (has_head h x) (filter f (numbers_below n)) (under_behind n (filter f (numbers_below n)) under)
+    ∙ (λ i. filter f (numbers_below n) ++ cond (sym here i) (n ∷ []) []) ∙ sym (filter_more f (numbers_below n) n) ∙ ap (λ m. filter f (numbers_below m)) next
   where
-    by : (b : Bool) (xs : List ℕ) → cond b ((xs ++ n ∷ []) ++ []) xs ≡ xs ++ cond b (n ∷ []) []
-    by true xs = append-nil (xs ++ n ∷ [])
-    by false xs = sym (append-nil xs)
+    by : (b : Bool) (xs : List ℕ) → is_behind n xs ≡ true → cond b (with_name n xs) xs ≡ xs ++ cond b (n ∷ []) []
+    by true xs t = ap (λ c. cond c (xs ++ n ∷ []) ((below n xs ++ n ∷ []) ++ above n xs)) t
+    by false xs t = sym (append-nil xs)
 
     next : suc n ≡ n + 1
     next = omega arith
+
+-- each of so many names stands under its arguments
+abbrev pub HaveArguments : List Node → ℕ → Known → Type 0
+HaveArguments ns n k = (m : ℕ) (x : Node) → m < n → slice_get ns m ≡ Some x → (place a : ℕ) → slice_get x.args place ≡ Some a → is_listed m (with_argument k x.head place a) ≡ true
+
+pub arguments_more : (ns : List Node) (n : ℕ) (old new : Known) (x : Node) → slice_get ns n ≡ Some x → HaveArguments ns n old
+    → ((place a : ℕ) → slice_get x.args place ≡ Some a → is_listed n (with_argument new x.head place a) ≡ true)
+    → ((h : NodeHead) (place a m : ℕ) → is_listed m (with_argument old h place a) ≡ true → is_listed m (with_argument new h place a) ≡ true) → HaveArguments ns (n + 1) new
+arguments_more ns n old new x at have own more m y l here place a arg = elim (cases_Bool (nat_lt m n)) as (λ _. is_listed m (with_argument new y.head place a) ≡ true) [
+  | inl t ↦ more y.head place a m (have m y (ltb-true m n t) here place a arg)
+  | inr f ↦
+      let e : n ≡ m = omega (arith, l, ltb-false m n f) in
+      let z : x ≡ y = same_Some x y (sym at ∙ ap (slice_get ns) e ∙ here) in
+      subst (λ k. is_listed k (with_argument new y.head place a) ≡ true) e
+      (subst (λ (w : Node). (b : ℕ) → slice_get w.args place ≡ Some b → is_listed n (with_argument new w.head place b) ≡ true) z (own place) a arg)
+]

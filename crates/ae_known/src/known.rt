@@ -1,15 +1,18 @@
 //! An index of names by what they apply.
-ghost use Rattle.std.specs.Prelude.{◌≡◌, ◌<◌, ◌++◌, ◌∷◌, [], ◌&&◌, List, map, cond, length, slice_get, Some, IfOk, OnOk, OnErr};
-ghost use Rattle.std.specs.List.{list_any};
+ghost use Rattle.std.specs.Prelude.{◌≡◌, ◌<◌, ◌∷◌, [], ◌&&◌, ℕ, true, List, cond, length, slice_get, Some, IfOk, OnOk, OnErr};
+ghost use Rattle.indexmap.specs.IndexMap.{get};
+ghost use Rattle.ae_base.specs.Decided.{decided};
+ghost use Rattle.ae_base.specs.Options.{or_else};
 ghost use Rattle.ae_core.specs.Sorts.{same_sorts};
 ghost use Rattle.ae_core.specs.declared.terms.Sort.{Sort};
+ghost use Rattle.ae_store.specs.Keys.{is_same};
 ghost use Rattle.ae_store.specs.declared.nodes.Node.{Node};
 ghost use Rattle.ae_store.specs.declared.nodes.NodeHead.{NodeHead};
+ghost use Rattle.ae_store.specs.declared.nodes.Shape.{Shape};
 ghost use Rattle.ae_known.specs.Index as spec;
 
-use ae_core::copies::copy_sorts;
+use crate::rows::{Line, enter_line, group_names};
 use ae_core::lists::List;
-use ae_core::sorts::are_sorts;
 use ae_core::terms::Sort;
 use ae_num::forms::Name;
 use ae_store::args::Args;
@@ -18,25 +21,13 @@ use ae_store::store::Store;
 use indexmap::IndexMap;
 use std::alloc::{AllocError, Global};
 
-/// The names of one head with these sorts, rising.
-#[derive(Drop)]
-pub struct Group {
-    pub sorts: List<Sort>,
-    pub names: List<Name>,
-}
-
-/// The names of one head, rising; and the same by their sorts.
-#[derive(Drop)]
-pub struct Line {
-    pub names: List<Name>,
-    pub groups: List<Group>,
-}
-
 /// The names that were entered, by what they apply.
 #[derive(Drop)]
 pub struct Known {
     pub alloc: Global,
     pub lines: IndexMap<Shape, Line>,
+    /// Names by their heads and an argument at a place.
+    pub places: IndexMap<Shape, List<Name>>,
 }
 
 /// What a head stands under.
@@ -51,138 +42,91 @@ fn key(alloc: Global, head: NodeHead) -> Shape
     }
 }
 
-/// Puts a name behind others where a test said so.
-fn push_if(names: &mut List<Name>, passes: bool, name: Name) -> Result<(), AllocError>
-    ensures { OnOk result (names.new ≡ names.old ++ cond passes (name ∷ []) []) }
+/// What an argument of a head at a place stands under.
+fn place_key(
+    alloc: Global,
+    head: NodeHead,
+    place: usize,
+    argument: Name,
+) -> Result<Shape, AllocError>
+    ensures { IfOk result (λ key. key ≡ spec.place_key head place argument) }
 {
-    if passes {
+    let mut args = Args::new(alloc);
+    args.push(place)?;
+    args.push(argument)?;
+    Ok(Shape {
+        head,
+        sorts: List::new(alloc),
+        args,
+        sort: Sort::Unit,
+    })
+}
+
+/// Puts a name under a key, behind the others.
+#[tactic(auto, using(crate::proofs::PlaceLaws::listed_last, crate::proofs::PlaceLaws::listed_more))]
+pub fn push_under(
+    alloc: Global,
+    places: &mut IndexMap<Shape, List<Name>>,
+    key: Shape,
+    name: Name,
+) -> Result<(), AllocError>
+    ensures own { OnOk result (spec.is_listed name (or_else (get is_same places.new key) []) ≡ true) }
+    ensures others { (k : Shape) (m : ℕ) → spec.is_listed m (or_else (get is_same places.old k) []) ≡ true → spec.is_listed m (or_else (get is_same places.new k) []) ≡ true }
+{
+    if let Some(names) = places.get_mut(&key) {
         names.push(name)?;
+        return Ok(());
+    }
+    let mut names = List::new(alloc);
+    names.push(name)?;
+    places.insert(key, names)?;
+    Ok(())
+}
+
+/// Puts a name under each of its arguments.
+fn push_places(
+    alloc: Global,
+    places: &mut IndexMap<Shape, List<Name>>,
+    head: NodeHead,
+    args: &[Name],
+    name: Name,
+) -> Result<(), AllocError>
+    ensures own { OnOk result ((place a : ℕ) → slice_get args.now place ≡ Some a → spec.is_listed name (or_else (get is_same places.new (spec.place_key head place a)) []) ≡ true) }
+    ensures others { (k : Shape) (m : ℕ) → spec.is_listed m (or_else (get is_same places.old k) []) ≡ true → spec.is_listed m (or_else (get is_same places.new k) []) ≡ true }
+{
+    for place in 0..args.len() {
+        let key = place_key(alloc, head, place, args[place])?;
+        push_under(alloc, places, key, name)?;
     }
     Ok(())
 }
 
-/// The names below one.
-fn below(alloc: Global, names: &[Name], name: Name) -> Result<List<Name>, AllocError>
-    ensures { IfOk result (λ ns. ns ≡ spec.below name names.now) }
-{
-    let mut found = List::new(alloc);
-    for other in names {
-        push_if(&mut found, *other < name, *other)?;
-    }
-    Ok(found)
-}
-
-/// The names above one.
-fn above(alloc: Global, names: &[Name], name: Name) -> Result<List<Name>, AllocError>
-    ensures { IfOk result (λ ns. ns ≡ spec.above name names.now) }
-{
-    let mut found = List::new(alloc);
-    for other in names {
-        push_if(&mut found, name < *other, *other)?;
-    }
-    Ok(found)
-}
-
-/// The names with one more in its place.
-fn with_name(alloc: Global, names: &[Name], name: Name) -> Result<List<Name>, AllocError>
-    ensures { IfOk result (λ ns. ns ≡ spec.with_name name names.now) }
-{
-    let mut all = below(alloc, names, name)?;
-    all.push(name)?;
-    let more = above(alloc, names, name)?;
-    all.append(more)?;
-    Ok(all)
-}
-
-/// A group, with a name more where it has these sorts.
-fn entered_group(
+/// Puts a name into the line of its head.
+fn enter_head(
     alloc: Global,
-    group: &Group,
+    lines: &mut IndexMap<Shape, Line>,
+    head: NodeHead,
     sorts: &[Sort],
     name: Name,
-) -> Result<Group, AllocError>
-    ensures { IfOk result (λ g. g ≡ spec.entered_group sorts.now name group.now) }
+) -> Result<(), AllocError>
+    ensures names { OnOk result ((h : NodeHead) → spec.line_names (get is_same lines.new (spec.key h))
+        ≡ cond (decided (spec.NodeHead_discrete head h)) (spec.with_name name (spec.line_names (get is_same lines.old (spec.key h)))) (spec.line_names (get is_same lines.old (spec.key h)))) }
+    ensures groups { OnOk result ((h : NodeHead) → spec.line_groups (get is_same lines.new (spec.key h))
+        ≡ cond (decided (spec.NodeHead_discrete head h)) (spec.entered_groups sorts.now name (spec.line_groups (get is_same lines.old (spec.key h)))) (spec.line_groups (get is_same lines.old (spec.key h)))) }
+    ensures names_kept { OnErr result ((h : NodeHead) → spec.line_names (get is_same lines.new (spec.key h)) ≡ spec.line_names (get is_same lines.old (spec.key h))) }
+    ensures groups_kept { OnErr result ((h : NodeHead) → spec.line_groups (get is_same lines.new (spec.key h)) ≡ spec.line_groups (get is_same lines.old (spec.key h))) }
 {
-    let own = copy_sorts(alloc, group.sorts.as_slice())?;
-    if are_sorts(group.sorts.as_slice(), sorts) {
-        let names = with_name(alloc, group.names.as_slice(), name)?;
-        return Ok(Group { sorts: own, names });
+    let key = key(alloc, head);
+    if let Some(line) = lines.get_mut(&key) {
+        return enter_line(alloc, line, sorts, name);
     }
-    let names = List::from_slice(alloc, group.names.as_slice())?;
-    Ok(Group { sorts: own, names })
-}
-
-/// Whether one of the groups has these sorts.
-fn has_group(groups: &[Group], sorts: &[Sort]) -> bool
-    ensures { result ≡ list_any (λ g. same_sorts g.sorts sorts.now) groups.now }
-{
-    for group in groups {
-        if are_sorts(group.sorts.as_slice(), sorts) {
-            return true;
-        }
-    }
-    false
-}
-
-/// The groups, with a name more in the one of these sorts.
-fn each_entered(
-    alloc: Global,
-    groups: &[Group],
-    sorts: &[Sort],
-    name: Name,
-) -> Result<List<Group>, AllocError>
-    ensures { IfOk result (λ gs. gs ≡ map (spec.entered_group sorts.now name) groups.now) }
-{
-    let mut all = List::new(alloc);
-    for group in groups {
-        let next = entered_group(alloc, group, sorts, name)?;
-        all.push(next)?;
-    }
-    Ok(all)
-}
-
-/// The same, with a group more where there is none of these sorts.
-fn entered_groups(
-    alloc: Global,
-    groups: &[Group],
-    sorts: &[Sort],
-    name: Name,
-) -> Result<List<Group>, AllocError>
-    ensures { IfOk result (λ gs. gs ≡ spec.entered_groups sorts.now name groups.now) }
-{
-    let mut all = each_entered(alloc, groups, sorts, name)?;
-    if has_group(groups, sorts) {
-        return Ok(all);
-    }
-    let mut names = List::new(alloc);
-    names.push(name)?;
-    all.push(Group {
-        sorts: copy_sorts(alloc, sorts)?,
-        names,
-    })?;
-    Ok(all)
-}
-
-/// A line with a name more.
-fn entered_line(alloc: Global, line: &Line, sorts: &[Sort], name: Name) -> Result<Line, AllocError>
-    ensures { IfOk result (λ l. l ≡ spec.entered_line sorts.now name line.now) }
-{
-    Ok(Line {
-        names: with_name(alloc, line.names.as_slice(), name)?,
-        groups: entered_groups(alloc, line.groups.as_slice(), sorts, name)?,
-    })
-}
-
-/// The names of the group of these sorts.
-fn group_names<'a>(groups: &'a [Group], sorts: &[Sort]) -> &'a [Name]
-    ensures { result.now ≡ spec.group_names sorts.now groups.now }
-{
-    for group in groups {
-        if are_sorts(group.sorts.as_slice(), sorts) {
-            return group.names.as_slice();
-        }
-    }
-    &[]
+    let mut line = Line {
+        names: List::new(alloc),
+        groups: Vec::new(alloc),
+    };
+    enter_line(alloc, &mut line, sorts, name)?;
+    lines.insert(key, line)?;
+    Ok(())
 }
 
 impl Known {
@@ -194,6 +138,7 @@ impl Known {
         Known {
             alloc,
             lines: IndexMap::new(alloc),
+            places: IndexMap::new(alloc),
         }
     }
 
@@ -219,42 +164,51 @@ impl Known {
         }
     }
 
-    /// The line of a head with a name more.
-    fn next_line(&self, head: NodeHead, sorts: &[Sort], name: Name) -> Result<Line, AllocError>
-        ensures { IfOk result (λ l. l ≡ spec.entered_line sorts.now name (spec.line_at self.now head)) }
+    /// Names among which are all of this head that were entered and have this argument at this place.
+    pub fn with_argument(
+        &self,
+        head: NodeHead,
+        place: usize,
+        argument: Name,
+    ) -> Result<&[Name], AllocError>
+        ensures { IfOk result (λ names. names.now ≡ spec.with_argument self.now head place argument) }
     {
-        let key = key(self.alloc, head);
-        match self.lines.get(&key) {
-            None => {
-                let line = Line {
-                    names: List::new(self.alloc),
-                    groups: List::new(self.alloc),
-                };
-                let next = entered_line(self.alloc, &line, sorts, name)?;
-                Ok(next)
-            }
-            Some(line) => {
-                let next = entered_line(self.alloc, line, sorts, name)?;
-                Ok(next)
-            }
+        let key = place_key(self.alloc, head, place, argument)?;
+        match self.places.get(&key) {
+            None => Ok(&[]),
+            Some(names) => Ok(names.as_slice()),
         }
     }
 
-    /// Enters a name of a store, in its place among those of its head and among those of its head and sorts. Refused for want
-    /// of memory alone, and then each answer is as before.
+    /// Enters a name of a store, in its place among those of its head and among those of its head and sorts, and behind those
+    /// that each of its arguments has at its place. Refused for want of memory alone, and then `with_head` and `of` answer as
+    /// before. Where names are entered rising, it costs about as much as the name has arguments.
     pub fn enter(&mut self, store: &Store, name: Name) -> Result<(), AllocError>
         requires within { name < length store.now.nodes }
         ensures heads { OnOk result ((x : Node) → slice_get store.now.nodes name ≡ Some x → (h : NodeHead) →
             spec.with_head self.new h ≡ cond (spec.has_head h x) (spec.with_name name (spec.with_head self.old h)) (spec.with_head self.old h)) }
         ensures sorts { OnOk result ((x : Node) → slice_get store.now.nodes name ≡ Some x → (h : NodeHead) → (ss : List Sort) →
             spec.of self.new h ss ≡ cond (spec.has_head h x && same_sorts x.sorts ss) (spec.with_name name (spec.of self.old h ss)) (spec.of self.old h ss)) }
-        ensures err { OnErr result ((h : NodeHead) → spec.line_at self.new h ≡ spec.line_at self.old h) }
+        ensures arguments { OnOk result ((x : Node) → slice_get store.now.nodes name ≡ Some x → (place a : ℕ) → slice_get x.args place ≡ Some a →
+            spec.is_listed name (spec.with_argument self.new x.head place a) ≡ true) }
+        ensures offered { (h : NodeHead) → (place a m : ℕ) → spec.is_listed m (spec.with_argument self.old h place a) ≡ true → spec.is_listed m (spec.with_argument self.new h place a) ≡ true }
+        ensures err { OnErr result ((h : NodeHead) → (spec.with_head self.new h ≡ spec.with_head self.old h) × ((ss : List Sort) → spec.of self.new h ss ≡ spec.of self.old h ss)) }
     {
         let node = store.node(name);
-        let line = self.next_line(node.head, node.sorts.as_slice(), name)?;
-        let key = key(self.alloc, node.head);
-        self.lines.insert(key, line)?;
-        Ok(())
+        push_places(
+            self.alloc,
+            &mut self.places,
+            node.head,
+            node.args.as_slice(),
+            name,
+        )?;
+        enter_head(
+            self.alloc,
+            &mut self.lines,
+            node.head,
+            node.sorts.as_slice(),
+            name,
+        )
     }
 
     /// All names of a store.

@@ -2,3 +2,4 @@
 #![tactic(auto)]
 
 pub mod known;
+pub mod rows;

@@ -57,7 +57,7 @@ module _ (sig : Signature) (ns : List Node) (alike : ℕ → ℕ → Bool) (belo
   count_nodes : length store.nodes ≡ length ns
   count_nodes = length-map ns (seen_node ts)
 
-  names_within : AreWithin store values
+  pub names_within : AreWithin store values
   names_within = record {
     each = λ i v e.
         let l : i < length values = omega (arith, slice_get_within (reverse values) i v e, length-reverse values) in

@@ -45,7 +45,7 @@ at_number (suc n) i h = elim (cases_Bool (nat_eq i n)) as (λ _. slice_get (numb
     other : (i n : ℕ) → nat_eq i n ≡ false → i ≢ n
     other i n f e = let t = sym f ∙ eq-eqb i n e in cc t
 
-at_picked : (vars : ℕ) (env : Bindings) (i : ℕ) → i < vars → slice_get (reverse (picked vars env)) i ≡ Some (choose env i)
+pub at_picked : (vars : ℕ) (env : Bindings) (i : ℕ) → i < vars → slice_get (reverse (picked vars env)) i ≡ Some (choose env i)
 at_picked vars env i h =
     ap (λ l. slice_get l i) (reverse-reverse (map (choose env) (numbers_below vars))) ∙ slice_get-map (choose env) (numbers_below vars) i ∙ ap (option_map (choose env)) (at_number vars i h)
 
@@ -114,7 +114,7 @@ module _ (store : Store) (alike : ℕ → ℕ → Bool) (below : ℕ) (sorts : L
       (further env r.0 new first.0 rest.0, (covers_carried store alike below is_own p r.0 new rest.0 first.1, rest.1))
 
   -- each variable of the terms has a name
-  named_all : (env : Bindings) (i : ℕ) (ps : List Term) → AllByRecursion (λ p. Covers is_own p env) ps → list_any (has_variable i) ps ≡ true → has_name env i ≡ true
+  pub named_all : (env : Bindings) (i : ℕ) (ps : List Term) → AllByRecursion (λ p. Covers is_own p env) ps → list_any (has_variable i) ps ≡ true → has_name env i ≡ true
   named_all env i [] c e = cc e
   named_all env i (p ∷ ps) c e = elim (cases_Bool (has_variable i p)) as (λ _. has_name env i ≡ true) [
     | inl y ↦ passing (has_name env) i p c.0.names y
@@ -143,7 +143,7 @@ module _ (store : Store) (alike : ℕ → ℕ → Bool) (below : ℕ) (sorts : L
   within_values : (i v : ℕ) → slice_get (reverse values) i ≡ Some v → i < length values
   within_values i v e = subst (λ k. i < k) (length-reverse values) (slice_get_within (reverse values) i v e)
 
-  close_by : (env : Bindings) → fits env → ((i : ℕ) → i < length values → has_name env i ≡ true) → AreClose alike (has_exact env) values (picked (length values) env)
+  pub close_by : (env : Bindings) → fits env → ((i : ℕ) → i < length values → has_name env i ≡ true) → AreClose alike (has_exact env) values (picked (length values) env)
   close_by env f named = record {
     as_many = as_many (length values) env;
     other = λ i v e. (choose env i, at_picked (length values) env i (within_values i v e), near i v e (exact_found i env.names) refl (name_found i env.names) refl);
@@ -161,7 +161,7 @@ module _ (store : Store) (alike : ℕ → ℕ → Bool) (below : ℕ) (sorts : L
           let s = exact_value i m env.names f.named_ones x in
           at_picked (length values) env i (within_values i m s) ∙ ap (λ o. Some (or_else o (or_else (name_found i env.names) 0))) x ∙ sym s
 
-  still : (env : Bindings) → AreClose alike (has_exact env) values (picked (length values) env) → (ps : List Term) → AllByRecursion (λ p. Covers is_own p env) ps → AreEqual store alike below sorts values is_own ps
+  pub still : (env : Bindings) → AreClose alike (has_exact env) values (picked (length values) env) → (ps : List Term) → AllByRecursion (λ p. Covers is_own p env) ps → AreEqual store alike below sorts values is_own ps
       → AreEqual store alike below sorts (picked (length values) env) is_own ps
   still env c [] v t = tt
   still env c (p ∷ ps) v t =

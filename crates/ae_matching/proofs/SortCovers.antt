@@ -31,11 +31,11 @@ found_new i s (c ∷ bs) = elim (cases_Bool (nat_eq c.variable i)) as (λ _. has
   | inr m ↦ ap (λ t. is_some (cond t (Some c.sort) (found i (bs ++ record { variable = i; sort = s } ∷ [])))) m ∙ found_new i s bs
 ]
 
-pass_var : (ex : ℕ → Bool) (i : ℕ) → sort_pass ex (Var i) ≡ ex i
+pub pass_var : (ex : ℕ → Bool) (i : ℕ) → sort_pass ex (Var i) ≡ ex i
 unfolding sort_pass
 pass_var ex i = fold_var Bool (sort_pass_step ex) i
 
-pass_named : (ex : ℕ → Bool) (h : ℕ) (ps : List Sort) → sort_pass ex (Named h ps) ≡ list_all (sort_pass ex) ps
+pub pass_named : (ex : ℕ → Bool) (h : ℕ) (ps : List Sort) → sort_pass ex (Named h ps) ≡ list_all (sort_pass ex) ps
 unfolding sort_pass
 pass_named ex h ps = fold_named Bool (sort_pass_step ex) h ps ∙ list_all-map (λ b. b) (sort_pass ex) ps
 

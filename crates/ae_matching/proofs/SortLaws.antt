@@ -23,7 +23,7 @@ pub same_sort_yes : (a b : Sort) → a ≡ b → same_sort a b ≡ true
 same_sort_yes a b e = elim (Sort_discrete a b) as (λ d. decided d ≡ true) [ yes p ↦ refl | no n ↦ absurd (n e) ]
 
 -- a binding that is found is one of those of the sorts
-found_right : (sorts : List Sort) (i : ℕ) (bs : List SortBinding) (t : Sort) → AreSortsOf sorts bs → found i bs ≡ Some t → or_else (slice_get sorts i) (Var i) ≡ t
+pub found_right : (sorts : List Sort) (i : ℕ) (bs : List SortBinding) (t : Sort) → AreSortsOf sorts bs → found i bs ≡ Some t → or_else (slice_get sorts i) (Var i) ≡ t
 found_right sorts i [] t a e = cc e
 found_right sorts i (b ∷ bs) t a e = elim (cases_Bool (nat_eq b.variable i)) as (λ _. or_else (slice_get sorts i) (Var i) ≡ t) [
   | inl y ↦

@@ -5,5 +5,5 @@ mod bodies;
 mod candidates;
 mod choice;
 mod kept;
-mod occurrences;
+pub mod occurrences;
 pub mod patterns;

@@ -1,0 +1,10 @@
+pub mod Steps
+pub mod Roots
+pub mod Close
+pub mod Passing
+pub mod Once
+pub mod Matched
+pub mod CandidateRules
+pub mod Among
+pub mod Sites
+pub mod ClassLaws

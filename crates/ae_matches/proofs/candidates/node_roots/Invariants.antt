@@ -1,0 +1,8 @@
+use Rattle.std.proofs.Common.{◌≡◌, take}
+use Rattle.std.specs.List.{flat_map}
+use Rattle.ae_match.specs.Seen.{seen}
+use Rattle.ae_matches.specs.Candidates as spec
+use Rattle.ae_matches.proofs.candidates.node_roots.Given as goal
+
+abbrev pub invariant-loop-name : goal.invariant-loop-name
+invariant-loop-name g l = l.found ≡ flat_map (spec.node_root (seen l.store.signature l.store.nodes) (g.E.Equalities.alike l.equalities) l.below l.known l.head l.sorts l.args l.bindings) (take l.name-index l.names)

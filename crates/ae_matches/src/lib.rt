@@ -1,0 +1,7 @@
+//! The matches of a trigger among the names of a store.
+#![tactic(auto)]
+
+pub mod candidates;
+mod classes;
+pub mod matches;
+mod testing;
