@@ -51,11 +51,11 @@ use Rattle.ae_math.proofs.FractionLaws.{neg_zero_q}
 use Rattle.ae_ineq.specs.Sums.{IsZero}
 use Rattle.ae_rows.specs.Rows.{factor_at}
 
-positive_apart : (y : ℚ) → is_positive y ≡ true → y ≡ zero_ℚ → ⊥
+pub positive_apart : (y : ℚ) → is_positive y ≡ true → y ≡ zero_ℚ → ⊥
 positive_apart y p z = true_false (sym p ∙ ap is_positive z ∙ positive_zero)
 
 -- the largest name of a row is a name
-named_below : (n m : ℕ) (l : Lin) → IsLower n (meaning l) → IsOver m (meaning l) → n < m
+pub named_below : (n m : ℕ) (l : Lin) → IsLower n (meaning l) → IsOver m (meaning l) → n < m
 named_below n m l low over = elim (dec_lt n m) [ yes h ↦ h | no h ↦ absurd (positive_apart (factor_at n (meaning l)) low.sign (over.absent n (omega (arith, h)))) ]
 
 module _ (x : Setting) (js : List Line) (rows : List Row) (st : AreStanding x js rows) where
@@ -165,7 +165,7 @@ module _ (x : Setting) (js : List Line) (rows : List Row) (st : AreStanding x js
   standing_assumed l strict integral tag r n m a =
       standing_with r (row_stands l strict r n a.normal a.of m.stands (λ i. m.whole (sym a.sort ∙ i))) (row_named l strict r n a.normal a.of m.named) (row_whole l strict r n a.normal a.of (λ i. m.names (sym a.sort ∙ i)))
 
-legal_push : (x : Setting) (bound : ℕ) (before a : List Line) (j : Line) → AreLegal x bound before a → IsLegalLine x bound (before ++ a) j → AreLegal x bound before (a ++ j ∷ [])
+pub legal_push : (x : Setting) (bound : ℕ) (before a : List Line) (j : Line) → AreLegal x bound before a → IsLegalLine x bound (before ++ a) j → AreLegal x bound before (a ++ j ∷ [])
 legal_push x bound before [] j l h = (subst (λ (w : List Line). IsLegalLine x bound w j) (append-nil before) h, tt)
 legal_push x bound before (k ∷ a) j l h = (l.0, legal_push x bound (before ++ k ∷ []) a j l.1 (subst (λ (w : List Line). IsLegalLine x bound w j) (sym (append_assoc before (k ∷ []) a)) h))
 

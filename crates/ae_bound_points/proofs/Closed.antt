@@ -29,7 +29,7 @@ use Rattle.ae_bound_points.specs.Points.{IsNonzeroRow}
 use Rattle.ae_bound_points.proofs.Weaker.{multiple_weaker, weaker_on}
 
 -- a combination is weaker than its row, which may be rounded
-combination_weaker : (p q r : Row) (n : ℕ) → IsCombinationOf p q n r → IsWeaker (combination n (meaning p.lin) (meaning q.lin)) (meaning r.lin)
+pub combination_weaker : (p q r : Row) (n : ℕ) → IsCombinationOf p q n r → IsWeaker (combination n (meaning p.lin) (meaning q.lin)) (meaning r.lin)
 combination_weaker p q r n c = by_row c.of
   where
     whole : Form ℕ

@@ -12,20 +12,20 @@ use Rattle.ae_rows.specs.Rows.{factor_at}
 use Rattle.ae_ineq.specs.Inner.Sets.{IsMultiple}
 use Rattle.ae_bounds.proofs.Rounded.{IsWeaker}
 
-abbrev IsLoose : ℚ → Type 0
+abbrev pub IsLoose : ℚ → Type 0
 IsLoose x = is_positive (neg_ℚ x) ≡ false
 
-loose_cases : (x : ℚ) → IsLoose x → (is_positive x ≡ true) ⊎ (x ≡ zero_ℚ)
+pub loose_cases : (x : ℚ) → IsLoose x → (is_positive x ≡ true) ⊎ (x ≡ zero_ℚ)
 loose_cases x l = by_sign (is_positive x) refl
   where
     by_sign : (b : Bool) → is_positive x ≡ b → (is_positive x ≡ true) ⊎ (x ≡ zero_ℚ)
     by_sign true e = inl e
     by_sign false e = inr (neither_positive x e l)
 
-loose_zero : IsLoose zero_ℚ
+pub loose_zero : IsLoose zero_ℚ
 loose_zero = ap is_positive neg_zero_q ∙ positive_zero
 
-loose_sum : (x y : ℚ) → IsLoose x → IsLoose y → IsLoose (x +ℚ y)
+pub loose_sum : (x y : ℚ) → IsLoose x → IsLoose y → IsLoose (x +ℚ y)
 loose_sum x y l m = by_cases (loose_cases x l) (loose_cases y m)
   where
     by_cases : (is_positive x ≡ true) ⊎ (x ≡ zero_ℚ) → (is_positive y ≡ true) ⊎ (y ≡ zero_ℚ) → IsLoose (x +ℚ y)
@@ -33,14 +33,14 @@ loose_sum x y l m = by_cases (loose_cases x l) (loose_cases y m)
     by_cases (inr z) q = subst IsLoose (sym (ap (λ t. t +ℚ y) z ∙ zero_add_q y)) m
     by_cases p (inr z) = subst IsLoose (sym (ap (λ t. x +ℚ t) z ∙ add_zero_q x)) l
 
-loose_product : (x y : ℚ) → is_positive x ≡ true → IsLoose y → IsLoose (x *ℚ y)
+pub loose_product : (x y : ℚ) → is_positive x ≡ true → IsLoose y → IsLoose (x *ℚ y)
 loose_product x y p l = by_case (loose_cases y l)
   where
     by_case : (is_positive y ≡ true) ⊎ (y ≡ zero_ℚ) → IsLoose (x *ℚ y)
     by_case (inl q) = not_both_positive (x *ℚ y) (positive_product x y q ∙ p)
     by_case (inr z) = subst IsLoose (sym (ap (λ t. x *ℚ t) z ∙ mul_zero_q x)) loose_zero
 
-plus_factor : (g : Form ℕ) (t : ℚ) (k : ℕ) → factor_at k (plus g (number t)) ≡ factor_at k g
+pub plus_factor : (g : Form ℕ) (t : ℚ) (k : ℕ) → factor_at k (plus g (number t)) ≡ factor_at k g
 plus_factor g t k = ap (λ ps. factor_in ℕ_discrete ps k) (append-nil g.parts)
 
 pub multiple_weaker : (f g : Form ℕ) → IsMultiple f g → IsWeaker f g
@@ -77,3 +77,7 @@ weaker_on f g h a b = record {
     constants =
         mul_assoc_q b.times a.times f.constant ∙ ap (λ x. b.times *ℚ x) a.same.constants ∙ mul_add_q b.times g.constant a.rest ∙ ap (λ x. x +ℚ b.times *ℚ a.rest) b.same.constants
         ∙ add_assoc_q h.constant b.rest (b.times *ℚ a.rest)
+
+pub weaker_on_rest : (f g h : Form ℕ) (a : IsWeaker f g) (b : IsWeaker g h) → (weaker_on f g h a b).rest ≡ b.rest +ℚ b.times *ℚ a.rest
+unfolding weaker_on
+weaker_on_rest f g h a b = refl

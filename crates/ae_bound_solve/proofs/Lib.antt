@@ -1,2 +1,3 @@
 mod OneSort
 mod Extended
+mod Making

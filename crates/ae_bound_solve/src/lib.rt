@@ -2,6 +2,7 @@
 #![tactic(auto)]
 
 pub mod answer;
+pub mod licensed;
 mod refuted;
 pub mod solving;
 mod sorts;

@@ -10,6 +10,8 @@ ghost use Rattle.ae_store.specs.Shapes.{shapes};
 ghost use Rattle.ae_store.specs.Terms.{terms};
 ghost use Rattle.ae_ineq.specs.Inner.Points.{value_in};
 ghost use Rattle.ae_ineq.specs.Widths.{IsPointWide};
+ghost use Rattle.ae_journal.specs.Standing.{Setting};
+ghost use Rattle.ae_journal.specs.Licences.{IsLicensed};
 ghost use Rattle.ae_theory.specs.declared.theory.Fail.TheVariants.{Steps, Number};
 ghost use Rattle.ae_bounds.specs.Rounding.{AreRounded};
 ghost use Rattle.ae_bounds.specs.Combinations.{IsExtended, IsWideIn, AreClosed, HasZero};
@@ -17,6 +19,7 @@ ghost use Rattle.ae_bounds.specs.Findings.{AreFounded, IsRefutedAt, NoneIsRefute
 ghost use Rattle.ae_bound_points.specs.Points.{IsNonzeroRow, ArePositiveAt};
 ghost use Rattle.ae_bound_blocks.specs.Ancestors.{AreTagsOf, hyps_of};
 ghost use Rattle.ae_bound_blocks.specs.Tight.{AreTight};
+ghost use Rattle.ae_bound_widths.specs.Fractions.{AreInStep, AreOverFractions, AreAssumed, AreFinished};
 ghost use Rattle.ae_bound_solve.specs.Given.{AreAllGiven, AreOpaqueNames};
 ghost use Rattle.ae_bound_solve.specs.declared.answer.Answer.TheVariants.{Point, Contradiction, Tight};
 
@@ -45,7 +48,7 @@ fn point_answer(alloc: Global, rows: &[Row]) -> Result<Answer, Fail>
     ensures contradiction { (e : _) → result ≡ Ok (Contradiction e) → ⊥ }
     ensures tight { (numbers : List ℕ) → result ≡ Ok (Tight numbers) → ⊥ }
     ensures steps { result ≡ Err Steps → ⊥ }
-    ensures number { (wide : WideAt) → result ≡ Err (Number wide) → IsPointWide (IsNonzeroRow rows.now) wide }
+    ensures number { (wide : WideAt) → result ≡ Err (Number wide) → IsPointWide (IsNonzeroRow rows.now) wide × AreFinished rows.now }
 {
     match point(alloc, rows) {
         Ok(made) => Ok(Answer::Point(made)),
@@ -70,7 +73,7 @@ fn answer_of(alloc: Global, store: &Store, rows: &[Row], given: &[Given]) -> Res
     ensures tight { (numbers : List ℕ) → result ≡ Ok (Tight numbers) → AreTight rows.now numbers }
     ensures tight_last { (numbers : List ℕ) → result ≡ Ok (Tight numbers) → NoneIsRefuted rows.now }
     ensures steps { result ≡ Err Steps → ⊥ }
-    ensures number { (wide : WideAt) → result ≡ Err (Number wide) → IsPointWide (IsNonzeroRow rows.now) wide }
+    ensures number { (wide : WideAt) → result ≡ Err (Number wide) → IsPointWide (IsNonzeroRow rows.now) wide × AreFinished rows.now }
 {
     match found_in(rows) {
         Found::Contradiction(place) => {
@@ -89,7 +92,8 @@ fn answer_of(alloc: Global, store: &Store, rows: &[Row], given: &[Given]) -> Res
 /// called again after more rows were assumed.
 ///
 /// `given` has by its number what gives the row of each tag. `Steps` comes only where the journal is full, and `Number` only where a stated product or sum of
-/// the combination of two rows, or of the making of the point, leaves the limits. After a refusal the rows that were there still are, and the combinations that
+/// the combination of two rows, or of the making of the point, leaves the limits; of rows over fractions that agree with the journal it is licensed then, where
+/// the row of each inequality literal that may stand was assumed, and no other. After a refusal the rows that were there still are, and the combinations that
 /// were noted till then.
 pub fn solve(
     alloc: Global,
@@ -110,7 +114,8 @@ pub fn solve(
     ensures extended { IsExtended bounds.old journal.old.lines bounds.new journal.new.lines }
     ensures limit { journal.new.limit ≡ journal.old.limit }
     ensures steps { result ≡ Err Steps → counted_in journal.new.lines ≡ journal.new.limit }
-    ensures number { (wide : WideAt) → result ≡ Err (Number wide) → IsWideIn bounds.new wide ⊎ IsPointWide (IsNonzeroRow bounds.new) wide }
+    ensures number { (wide : WideAt) → result ≡ Err (Number wide) → IsWideIn bounds.new wide ⊎ (IsPointWide (IsNonzeroRow bounds.new) wide × AreFinished bounds.new) }
+    ensures licensed { (wide : WideAt) (x : Setting) → result ≡ Err (Number wide) → AreInStep x journal.old.lines bounds.old → AreOverFractions x bounds.old → AreAssumed x journal.new.lines bounds.new → IsLicensed x journal.new.lines wide }
 {
     bounds.close(alloc, journal)?;
     answer_of(alloc, store, bounds.rows(), given)

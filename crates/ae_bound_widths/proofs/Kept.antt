@@ -1,5 +1,5 @@
 -- Kept rows with names are the rows of the journal's point.
-use Rattle.std.specs.Prelude.{ℕ, Bool, ◌≡◌, ◌⊎◌, List, [], Option, Some, None, length}
+use Rattle.std.specs.Prelude.{ℕ, Bool, ◌≡◌, ◌≢◌, ◌⊎◌, List, [], Option, Some, None, length}
 use Rattle.std.specs.List.{AllByRecursion, Contains}
 use Rattle.std.proofs.Common.{arith, refl, sym, ap, subst, inl, inr}
 use Rattle.ae_math.specs.Forms.{Form}
@@ -43,22 +43,29 @@ module _ (x : Setting) (js : List Line) (rows : List Row) (normal : AllByRecursi
   to_nonzero : (n : ℕ) (f : Form ℕ) → IsSomeOf n f → IsNamedRow rows f → IsNonzeroRow rows f
   to_nonzero n f s h = record { row = h.row; among = h.among; is = h.is; nonzero = λ z. h.names (form_zero h.row.lin (normal_at h.row h.among) z).0 }
 
-  rows_of : AreStanding x js rows → AreAllKept x js rows → AreRowsOf x js (IsNamedRow rows)
-  rows_of st all = record { stand = stand; named = named; covered = all }
-    where
-      stand_row : (r : Row) → IsNormal r.lin → IsOver 0 (meaning r.lin) ⊎ IsRow x js r.strict (sum_of_lin r.lin) → (r.lin.parts ≡ [] → ⊥) → IsRow x js r.strict (spelled (meaning r.lin))
-      stand_row r n (inl o) m = absurd (m (bare_form r.lin n o))
-      stand_row r n (inr s) m = s
+  -- rows that stand, with a name
+  abbrev Stand : Type 0
+  Stand = (r : Row) → Contains rows r → r.lin.parts ≢ [] → IsRow x js r.strict (sum_of_lin r.lin)
 
+  abbrev Named : Type 0
+  Named = (r : Row) → Contains rows r → IsOver (length x.names) (meaning r.lin)
+
+  rows_of : Stand → Named → AreAllKept x js rows → AreRowsOf x js (IsNamedRow rows)
+  rows_of st names all = record { stand = stand; named = named; covered = all }
+    where
       stand : (f : Form ℕ) → IsNamedRow rows f → (strict : Bool) × IsRow x js strict (spelled f)
-      stand f h = (
-        h.row.strict,
-        subst (λ (g : Form ℕ). IsRow x js h.row.strict (spelled g)) h.is
-            (stand_row h.row (normal_at h.row h.among) (all_contained (λ (r : Row). IsOver 0 (meaning r.lin) ⊎ IsRow x js r.strict (sum_of_lin r.lin)) rows h.row st.stand h.among) h.names),
-      )
+      stand f h = (h.row.strict, subst (λ (g : Form ℕ). IsRow x js h.row.strict (spelled g)) h.is (st h.row h.among h.names))
 
       named : (f : Form ℕ) → IsNamedRow rows f → IsOver (length x.names) f
-      named f h = subst (IsOver (length x.names)) h.is (all_contained (λ (r : Row). IsOver (length x.names) (meaning r.lin)) rows h.row st.named h.among)
+      named f h = subst (IsOver (length x.names)) h.is (names h.row h.among)
+
+  pub kept_licensed_by : (w : WideAt) → ((r : Row) → Contains rows r → r.lin.parts ≢ [] → IsRow x js r.strict (sum_of_lin r.lin)) → ((r : Row) → Contains rows r → IsOver (length x.names) (meaning r.lin)) → AreAllKept x js rows
+      → NoneLeft x js → IsPointWide (IsNonzeroRow rows) w → IsLicensed x js w
+  kept_licensed_by w st names all none p = licensed x js (IsNamedRow rows) (rows_of st names all) none w (wide_same (IsNonzeroRow rows) (IsNamedRow rows) to_named to_nonzero w p)
 
   pub kept_licensed : (w : WideAt) → AreStanding x js rows → AreAllKept x js rows → NoneLeft x js → IsPointWide (IsNonzeroRow rows) w → IsLicensed x js w
-  kept_licensed w st all none p = licensed x js (IsNamedRow rows) (rows_of st all) none w (wide_same (IsNonzeroRow rows) (IsNamedRow rows) to_named to_nonzero w p)
+  kept_licensed w st all none p = kept_licensed_by w stand (λ r c. all_contained (λ (t : Row). IsOver (length x.names) (meaning t.lin)) rows r st.named c) all none p
+    where
+      stand : (r : Row) → Contains rows r → r.lin.parts ≢ [] → IsRow x js r.strict (sum_of_lin r.lin)
+      stand r c m =
+          elim (all_contained (λ (t : Row). IsOver 0 (meaning t.lin) ⊎ IsRow x js t.strict (sum_of_lin t.lin)) rows r st.stand c) [ inl o ↦ absurd (m (bare_form r.lin (normal_at r c) o)) | inr s ↦ s ]

@@ -29,7 +29,7 @@ pub record IsWeaker (f g : Form ℕ) : Type 0 where
   pub loose : is_positive (neg_ℚ rest) ≡ false
   pub same : SameForm ℕ_discrete (scale times f) (plus g (number rest))
 
-divided_factor : (d : ℕ) (qs rs : List Part) → AreDivided d qs rs → (k : ℕ) → factor_of qs k ≡ factor_of rs k *ℤ pos d
+pub divided_factor : (d : ℕ) (qs rs : List Part) → AreDivided d qs rs → (k : ℕ) → factor_of qs k ≡ factor_of rs k *ℤ pos d
 divided_factor d [] [] a k = sym (zero-*ℤ (pos d))
 divided_factor d [] (r ∷ rs) a k = absurd a
 divided_factor d (q ∷ qs) [] a k = absurd a
@@ -40,7 +40,7 @@ divided_factor d (q ∷ qs) (r ∷ rs) a k = (λ i. cond (nat_eq (a.0 i) k) (a.1
     outside false = refl
 
 -- the divisor isn't 0, since the factors aren't
-divisor_positive : (l : Lin) → IsNormal l → l.parts ≢ [] → (d : ℕ) (rs : List Part) → AreDivided d l.parts rs → pos 0 <ℤ pos d
+pub divisor_positive : (l : Lin) → IsNormal l → l.parts ≢ [] → (d : ℕ) (rs : List Part) → AreDivided d l.parts rs → pos 0 <ℤ pos d
 divisor_positive l n m d rs a = by_parts l.parts n.nonzero m rs a
   where
     by_divisor : (e : ℕ) (x y : ℤ) → x ≢ pos 0 → x ≡ y *ℤ pos e → pos 0 <ℤ pos e
@@ -53,30 +53,30 @@ divisor_positive l n m d rs a = by_parts l.parts n.nonzero m rs a
     by_parts (p ∷ ps) z h (q ∷ qs) b = by_divisor d p.factor q.factor z.0 b.1
 
 module _ (strict : Bool) (l r : Lin) (normal : IsNormal l) (names : l.parts ≢ []) (own : IsNormal r) (rounded : IsRounded strict l r) where
-  abbrev by : ℤ
+  abbrev pub by : ℤ
   by = pos rounded.divisor
 
-  above : pos 0 <ℤ by
+  pub above : pos 0 <ℤ by
   above = divisor_positive l normal names rounded.divisor r.parts rounded.divided
 
-  abbrev times : ℚ
+  abbrev pub times : ℚ
   times = ratio l.den by
 
   -- the denominator goes
-  share : (z : ℤ) → times *ℚ ratio z l.den ≡ ratio z by
+  pub share : (z : ℤ) → times *ℚ ratio z l.den ≡ ratio z by
   share z =
       sym (ratio_times l.den by z l.den above normal.positive)
       ∙ sym (ratio_scaled z by (z *ℤ l.den) (l.den *ℤ by) l.den above (product_positive l.den by normal.positive above) refl (*ℤ_comm by l.den))
 
   -- and so does the divisor
-  back : (z : ℤ) → ratio (z *ℤ by) by ≡ ratio z r.den
+  pub back : (z : ℤ) → ratio (z *ℤ by) by ≡ ratio z r.den
   unfolding lib.IntN.one
   back z = sym (ratio_scaled z (pos 1) (z *ℤ by) by by (omega (arith, ints)) above refl (*ℤ_comm (pos 1) by ∙ *ℤ-one by)) ∙ ap (λ d. ratio z d) (sym rounded.whole)
 
-  abbrev rest : ℚ
+  abbrev pub rest : ℚ
   rest = ratio l.constant by +ℚ neg_ℚ (ratio r.constant r.den)
 
-  factors : (k : ℕ) → times *ℚ factor_at k (meaning l) ≡ factor_at k (meaning r)
+  pub factors : (k : ℕ) → times *ℚ factor_at k (meaning l) ≡ factor_at k (meaning r)
   factors k =
       ap (λ x. times *ℚ x) (factor_meaning l k normal.rising) ∙ share (factor_of l.parts k)
       ∙ ap (λ z. ratio z by) (divided_factor rounded.divisor l.parts r.parts rounded.divided k) ∙ back (factor_of r.parts k) ∙ sym (factor_meaning r k own.rising)
@@ -115,6 +115,10 @@ module _ (strict : Bool) (l r : Lin) (normal : IsNormal l) (names : l.parts ≢ 
           ∙ sym (ap (λ x. ratio r.constant r.den +ℚ x) (add_comm_q (ratio l.constant by) (neg_ℚ (ratio r.constant r.den))) ∙ neg_add_cancel_q (ratio r.constant r.den) (ratio l.constant by));
     };
   }
+
+  pub weaker_rest : weaker.rest ≡ rest
+  unfolding weaker
+  weaker_rest = refl
 
   pub rounded_over : (n : ℕ) → IsOver n (meaning l) → IsOver n (meaning r)
   rounded_over n o = record { absent = λ k h. sym (factors k) ∙ ap (λ x. times *ℚ x) (o.absent k h) ∙ mul_zero_q times }

@@ -2,10 +2,10 @@
 #![tactic(auto)]
 
 pub mod bounds;
-mod combining;
-mod directions;
+pub mod combining;
+pub mod directions;
 pub mod finding;
 mod heads;
-mod noting;
+pub mod noting;
 mod rounding;
 pub mod rows;

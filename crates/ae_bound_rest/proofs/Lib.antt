@@ -1,0 +1,10 @@
+pub mod Roundings
+pub mod Counting
+pub mod Pairing
+pub mod Above
+pub mod Solid
+pub mod Agreed
+pub mod Growth
+pub mod Leaving
+pub mod Dominated
+pub mod Ending
