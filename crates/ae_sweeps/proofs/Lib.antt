@@ -1,0 +1,6 @@
+mod Bridges
+mod RuleSides
+mod RulePairs
+mod JoinedNames
+pub mod AlikeNames
+mod Together
