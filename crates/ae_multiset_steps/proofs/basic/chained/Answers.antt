@@ -1,0 +1,9 @@
+use Rattle.ae_store.specs.Shapes.{shapes}
+use Rattle.ae_store.specs.Terms.{terms}
+use Rattle.ae_multiset_steps.proofs.Allowances.{chain_step}
+use Rattle.ae_multiset_steps.proofs.basic.chained.Goals as goal
+
+pub add_many-requires-clause-allowed : goal.add_many-requires-clause-allowed
+add_many-requires-clause-allowed c =
+    let s = c.requires.states in
+    chain_step c.args.store.now.signature (terms (shapes c.args.store.now.nodes)) c.args.justs.now c.args.symbol.now c.requires.fits c.args.from.now s.0 c.args.to.now c.args.first c.args.second s.1 s.2

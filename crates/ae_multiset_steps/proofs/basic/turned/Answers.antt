@@ -1,0 +1,8 @@
+use Rattle.ae_store.specs.Shapes.{shapes}
+use Rattle.ae_store.specs.Terms.{terms}
+use Rattle.ae_multiset_steps.proofs.Allowances.{turn_step}
+use Rattle.ae_multiset_steps.proofs.basic.turned.Goals as goal
+
+pub add_many-requires-clause-allowed : goal.add_many-requires-clause-allowed
+add_many-requires-clause-allowed c =
+    turn_step c.args.store.now.signature (terms (shapes c.args.store.now.nodes)) c.args.justs.now c.args.symbol.now c.requires.fits c.args.from.now c.args.to.now c.args.step c.requires.states

@@ -1,0 +1,4 @@
+pub mod Added
+mod Allowances
+mod Quotients
+mod Readings

@@ -1,0 +1,24 @@
+use Rattle.std.specs.Prelude.{List, map, IfOk}
+use Rattle.std.proofs.Common.{subst}
+use Rattle.ae_core.specs.declared.proofs.Scaled.{Scaled}
+use Rattle.ae_state_steps.specs.ValueSteps.{name_side, value_side}
+use Rattle.ae_value_steps.specs.Stating.{AddsStep}
+use Rattle.std.proofs.Common.{rules}
+use mir.Syntax.{w128}
+use mir.Val.{SFits}
+use Rattle.ae_store.specs.Shapes.{shapes}
+use Rattle.ae_store.specs.Terms.{terms}
+use Rattle.ae_value_steps.proofs.Readings.{difference_allowed}
+use Rattle.ae_value_steps.proofs.sums.state_difference.Goals as goal
+
+pub add_value-requires-clause-allowed : goal.add_value-requires-clause-allowed
+add_value-requires-clause-allowed c =
+    let fq : SFits w128 c.quotient-times.result = search rules in
+    let fp : SFits w128 c.product.result = search rules in
+    let fm : SFits w128 c.negated.result = search rules in
+    difference_allowed c.args.store.now.signature (terms (shapes c.args.store.now.nodes)) c.args.justs.now c.args.real c.args.name c.args.left.now.name c.args.right.now.name c.args.left.now.step c.args.right.now.step c.args.value.now c.args.left.now.value.now c.args.right.now.value.now c.quotient-times.result c.product.result c.in_ok-parts.parts c.requires.written c.requires.left c.requires.right
+    c.quotient-times.ensures.positive fq fp c.quotient-times.ensures.times c.product.ensures c.negated.result fm c.negated.ensures c.sums_have_a_step.ensures.difference c.requires.is c.requires.difference c.in_ok-parts.ensures
+
+pub returns-clause-added : goal.returns-clause-added
+returns-clause-added c =
+    subst (λ (ps : List Scaled). IfOk c.add_value.result (λ id. AddsStep c.args.justs.now c.add_value.new.justs id (name_side c.args.real c.args.name c.args.value.now) (value_side c.args.real c.args.value.now) (map (λ p. p.line) ps))) c.in_ok-parts.ensures c.add_value.ensures.added

@@ -1,0 +1,8 @@
+use Rattle.ae_store.specs.Shapes.{shapes}
+use Rattle.ae_store.specs.Terms.{terms}
+use Rattle.ae_value_steps.proofs.Readings.{equal_allowed}
+use Rattle.ae_value_steps.proofs.zeros.state_equal.Goals as goal
+
+pub add_equal-requires-clause-allowed : goal.add_equal-requires-clause-allowed
+add_equal-requires-clause-allowed c =
+    equal_allowed c.args.store.now.signature (terms (shapes c.args.store.now.nodes)) c.args.justs.now c.args.real c.args.left.now.name c.args.right.now.name c.args.left.now.step c.args.right.now.step c.args.left.now.value.now c.args.right.now.value.now c.in_ok-parts.parts c.requires.left c.requires.right c.requires.same c.names_of_one_value_have_a_step.ensures c.in_ok-parts.ensures
