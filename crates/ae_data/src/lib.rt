@@ -6,5 +6,3 @@ pub mod copies;
 pub mod enumerations;
 pub mod laws;
 pub mod records;
-#[cfg(test)]
-mod tests;

@@ -6,38 +6,8 @@ ghost use Rattle.ae_decide.specs.Values as spec;
 use crate::names::is_term;
 use ae_core::terms::Term;
 use ae_journal::systems::System;
-use ae_num::forms::{Lin, Part, Value};
-
-/// Whether two parts are the same.
-fn same_part(left: &Part, right: &Part) -> bool
-    ensures { IsTrue result ↔ (left.now ≡ right.now) }
-{
-    left.key == right.key && left.factor == right.factor
-}
-
-/// Whether two lists of parts are the same.
-fn same_parts(left: &[Part], right: &[Part]) -> bool
-    ensures { IsTrue result ↔ (left.now ≡ right.now) }
-{
-    if left.len() != right.len() {
-        return false;
-    }
-    for i in 0..left.len() {
-        if !same_part(&left[i], &right[i]) {
-            return false;
-        }
-    }
-    true
-}
-
-/// Whether two forms are the same.
-fn same_lin(left: &Lin, right: &Lin) -> bool
-    ensures { IsTrue result ↔ (left.now ≡ right.now) }
-{
-    left.den == right.den
-        && left.constant == right.constant
-        && same_parts(left.parts.as_slice(), right.parts.as_slice())
-}
+use ae_num::copies::same_form;
+use ae_num::forms::Value;
 
 /// Whether two values are the same.
 #[cycle(same_value)]
@@ -46,7 +16,7 @@ pub fn same_value(left: &Value, right: &Value) -> bool
 {
     match (left, right) {
         (Value::Leaf(a), Value::Leaf(b)) => a == b,
-        (Value::Number(a), Value::Number(b)) => same_lin(a, b),
+        (Value::Number(a), Value::Number(b)) => same_form(a, b),
         (Value::Fields(a), Value::Fields(b)) => same_values(a.as_slice(), b.as_slice()),
         _ => false,
     }

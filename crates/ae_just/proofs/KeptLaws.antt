@@ -37,7 +37,7 @@ module _ (old new : List Term) (keeps : Keeps old new) where
   many_kept u ss t [] h = refl
   many_kept u ss t (n ∷ ns) h = ap (λ x. many_from u ss new (joined u ss t x) ns) (name_kept n h.0) ∙ many_kept u ss (joined u ss t (named old n)) ns h.1
 
-  side_kept : (s : Side) → IsWithin (length old) s → side_term new s ≡ side_term old s
+  pub side_kept : (s : Side) → IsWithin (length old) s → side_term new s ≡ side_term old s
   side_kept (side.Name n) h = name_kept n h
   side_kept (side.Sum [] c real) h = refl
   side_kept (side.Sum (p ∷ ps) c real) h =

@@ -11,12 +11,12 @@ ghost use Rattle.ae_linear.specs.Rows.{row_at, value_of, AreRows, IsFree, IsSubs
 ghost use Rattle.ae_linear.specs.Canonical.{SameByRows, ArePutFor, IsWideFor, IsPutBy, IsWideBy};
 
 use crate::occurrences::{Link, link_each, listed};
-use ae_num::forms::{Lin, Name, Part, subst};
+use ae_num::copies::copied;
+use ae_num::forms::{Lin, Name, subst};
 use ae_num::numbers::NumFail;
 use ae_pmap::{Pmap, Version};
 use ae_steps::Steps;
-use sqlite_items::Items;
-use std::alloc::{AllocError, Global};
+use std::alloc::Global;
 use std::marker::{Brand, Model};
 use std::sync::ledger::{Blank, Ledger};
 
@@ -152,17 +152,6 @@ fn put_in(
     link_each(heads, links, parts, &[name])?;
     rows.insert(name, Row { value, just })?;
     Ok(())
-}
-
-/// A copy of a form.
-fn copied(alloc: Global, form: &Lin) -> Result<Lin, AllocError>
-    ensures { IfOk result (λ copy. copy ≡ form.now) }
-{
-    Ok(Lin {
-        den: form.den,
-        parts: Items::from_slice(alloc, form.parts.as_slice())?,
-        constant: form.constant,
-    })
 }
 
 impl Rows {

@@ -21,7 +21,8 @@ use ae_core::problems::Signature;
 use ae_core::proofs::{EqLine, Relation, Scaled};
 use ae_core::sorts::{same_numeric, sort_of};
 use ae_core::terms::{Sort, Term};
-use ae_num::forms::{Lin, Part, plus, scale, zero};
+use ae_num::copies::same_form;
+use ae_num::forms::{Lin, plus, scale, zero};
 use ae_num::numbers::NumFail;
 use ae_rules::facts::stated;
 use std::alloc::{AllocError, Global};
@@ -219,37 +220,6 @@ fn sum_of_parts<'a>(
         sum = with_line(alloc, keys, relation, &sum, line, *part)?;
     }
     Ok(sum)
-}
-
-/// Whether two parts are the same.
-fn same_part(left: Part, right: Part) -> bool
-    ensures { IsTrue result ↔ (left ≡ right) }
-{
-    left.key == right.key && left.factor == right.factor
-}
-
-/// Whether two lists of parts are the same.
-fn same_parts(left: &[Part], right: &[Part]) -> bool
-    ensures { IsTrue result ↔ (left.now ≡ right.now) }
-{
-    if left.len() != right.len() {
-        return false;
-    }
-    for i in 0..left.len() {
-        if !same_part(left[i], right[i]) {
-            return false;
-        }
-    }
-    true
-}
-
-/// Whether two forms are the same.
-fn same_form(left: &Lin, right: &Lin) -> bool
-    ensures { IsTrue result ↔ (left.now ≡ right.now) }
-{
-    left.den == right.den
-        && left.constant == right.constant
-        && same_parts(left.parts.as_slice(), right.parts.as_slice())
 }
 
 /// Whether a difference times a factor is the sum of the differences of the lines that the parts name.

@@ -183,7 +183,7 @@ module _ (sig : Signature) (ok : Fact → Bool) (hyps : List Lit) where
     written (by_fields {s = s} {t = t} n ss e fs a b c q o) = let x = written_all q in shown_by x.lines x.all (EqFields s t x.at) o (n, ss, e, fs, a, b, c, x.are)
     written (by_round {s = s} {t = t} from r a o) = let x = written a in shown_by x.lines x.all (LeRound s t x.at) o (from, x.is, r)
 
-    written_all : {us vs : List Term} → FollowAll sig ok (Among hyps) us vs → ShownAll us vs
+    pub written_all : {us vs : List Term} → FollowAll sig ok (Among hyps) us vs → ShownAll us vs
     written_all none = record { lines = []; all = tt; at = []; are = tt }
     written_all (more {u = u} {v = v} {us = us} {vs = vs} a b) = all_more u v us vs (written a) (written_all b)
 

@@ -1,5 +1,5 @@
 pub mod Sorts
-mod Nodes
+pub mod Nodes
 mod Written
 pub mod Terms
 pub mod Leaves

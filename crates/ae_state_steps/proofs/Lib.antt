@@ -1,4 +1,4 @@
-mod Stated
+pub mod Stated
 pub mod OverTerms
 pub mod SideSorts
 mod Changes

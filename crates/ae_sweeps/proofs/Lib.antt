@@ -1,4 +1,4 @@
-mod Bridges
+pub mod Bridges
 mod RuleSides
 mod RulePairs
 mod JoinedNames
