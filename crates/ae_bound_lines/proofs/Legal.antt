@@ -42,7 +42,7 @@ use Rattle.ae_rounding.proofs.Legal.{rounded_legal}
 use Rattle.ae_rounding.proofs.Whole.{combined_whole, divided_keys}
 use Rattle.ae_bounds.specs.Rounding.{IsRowOf, IsAssumed}
 use Rattle.ae_bounds.specs.Rounding.IsRowOf.{as_it_is, rounded}
-use Rattle.ae_bounds.specs.Rounding.HasForm.{own}
+use Rattle.ae_bounds.proofs.OwnForms.{own_combined}
 use Rattle.ae_bounds.proofs.Rounded.{rounded_over}
 use Rattle.ae_bounds.specs.Combinations.{IsThere, IsCombined, IsExtended, IsWideIn}
 use Rattle.ae_bounds.specs.Combinations.IsExtended.{as_it_was, one_more, zero_more}
@@ -143,7 +143,7 @@ module _ (x : Setting) (js : List Line) (rows : List Row) (st : AreStanding x js
     whole = all_append Whole rows (r ∷ []) st.whole (row_whole c.of.form (c.first.strict || c.second.strict) r c.of.form_normal c.of.normal c.of.of (form_whole r c), tt);
     all = λ g s. elim (sure_less x js r.strict r.lin g s) [
       | inl h ↦ (let a = st.all g h in (a.0, a.1, Contains-append_left rows (r ∷ []) a.0 a.2, a.3, a.4))
-      | inr e ↦ (r, r.lin, Contains-append_right rows (r ∷ []) r (contains_here r []), own, sym e)
+      | inr e ↦ (r, r.lin, Contains-append_right rows (r ∷ []) r (contains_here r []), own_combined r c.lower c.upper c.from, sym e)
     ];
   }
 

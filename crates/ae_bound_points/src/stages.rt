@@ -8,8 +8,8 @@ ghost use Rattle.ae_bound_points.specs.Inner.Stages.{IsLowerPart, IsUpperPart, I
 
 use ae_bounds::rows::Row;
 use ae_ineq::elimination::Stage;
-use ae_ineq::point::copied;
 use ae_ineq::rows::{Row as Directed, last, row_of};
+use ae_num::copies::copied;
 use ae_num::forms::{Name, Part};
 use sqlite_items::Items;
 use std::alloc::{AllocError, Global};

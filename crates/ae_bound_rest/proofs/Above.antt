@@ -1,5 +1,5 @@
--- Forms of which a positive multiple is another one and a number that isn't negative, or is positive where the form is strict.
-use Rattle.std.specs.Prelude.{ℕ, suc, ◌≡◌, ◌⊎◌, Bool, true, false}
+-- Forms of which a positive multiple is another one and a number that isn't negative; where the form is strict, the number is positive or the other one strict.
+use Rattle.std.specs.Prelude.{ℕ, suc, ◌≡◌, ◌⊎◌, Bool, true, false, ◌||◌}
 use Rattle.std.proofs.Common.{refl, sym, ap, ◌∙◌, subst, inl, inr}
 use native.Mathlib.Decide.{ℕ_discrete}
 use Rattle.ae_math.specs.Fractions.{ℚ, zero_ℚ, neg_ℚ, ◌+ℚ◌, ◌*ℚ◌, is_positive}
@@ -7,32 +7,46 @@ use Rattle.ae_math.specs.Forms.{Form, plus, scale, number, SameForm}
 use Rattle.ae_math.proofs.FractionLaws.{field, add_comm_q, add_zero_q, mul_neg_q, mul_zero_q}
 use Rattle.ae_math.proofs.FractionOrder.{positive_sum}
 use Rattle.ae_math.proofs.FormLaws.{factor_in-scale}
+use Rattle.ae_base.proofs.Tests.{true_false}
+use Rattle.ae_ineq.specs.Inner.Sets.{IsMultiple}
 use Rattle.ae_rows.specs.Rows.{factor_at, combination, IsOver, IsLower, IsUpper}
 use Rattle.ae_rows.proofs.Elimination.{both_positive, factor_combination}
 use Rattle.ae_bounds.proofs.Rounded.{IsWeaker}
 use Rattle.ae_bound_points.proofs.Weaker.{IsLoose, loose_cases, loose_sum, loose_product, plus_factor, weaker_on, weaker_on_rest}
 
-pub record IsAbove (f g : Form ℕ) (strict : Bool) : Type 0 where
+pub record IsAbove (f g : Form ℕ) (strict held : Bool) : Type 0 where
   pub weaker : IsWeaker f g
-  pub firm : strict ≡ true → is_positive weaker.rest ≡ true
+  pub firm : strict ≡ true → (is_positive weaker.rest ≡ true) ⊎ (held ≡ true)
 
-firm_sum : (x y : ℚ) → is_positive x ≡ true → IsLoose y → is_positive (x +ℚ y) ≡ true
+pub firm_sum : (x y : ℚ) → is_positive x ≡ true → IsLoose y → is_positive (x +ℚ y) ≡ true
 firm_sum x y p l = by_cases (loose_cases y l)
   where
     by_cases : (is_positive y ≡ true) ⊎ (y ≡ zero_ℚ) → is_positive (x +ℚ y) ≡ true
     by_cases (inl q) = positive_sum x y p q
     by_cases (inr z) = ap is_positive (ap (λ t. x +ℚ t) z ∙ add_zero_q x) ∙ p
 
-pub above_weaker : (f g h : Form ℕ) (s : Bool) → IsAbove f g s → IsWeaker g h → IsAbove f h s
-above_weaker f g h s a b = record {
-  weaker = weaker_on f g h a.weaker b;
-  firm = λ e. ap is_positive (weaker_on_rest f g h a.weaker b ∙ add_comm_q b.rest (b.times *ℚ a.weaker.rest)) ∙ firm_sum (b.times *ℚ a.weaker.rest) b.rest (both_positive b.times a.weaker.rest b.positive (a.firm e)) b.loose;
-}
+-- of one strictness
+pub same_above : (f g : Form ℕ) (s : Bool) → IsWeaker f g → IsAbove f g s s
+same_above f g s w = record { weaker = w; firm = λ e. inr e }
 
-pub weaker_above : (f g h : Form ℕ) (s : Bool) → IsWeaker f g → IsAbove g h s → IsAbove f h s
-weaker_above f g h s a b = record {
-  weaker = weaker_on f g h a b.weaker;
-  firm = λ e. ap is_positive (weaker_on_rest f g h a b.weaker) ∙ firm_sum b.weaker.rest (b.weaker.times *ℚ a.rest) (b.firm e) (loose_product b.weaker.times a.rest b.weaker.positive a.loose);
+-- with a positive number
+pub firm_above : (f g : Form ℕ) (s b : Bool) (w : IsWeaker f g) → is_positive w.rest ≡ true → IsAbove f g s b
+firm_above f g s b w p = record { weaker = w; firm = λ e. inl p }
+
+pub above_on : (f g h : Form ℕ) (s m k : Bool) → IsAbove f g s m → IsAbove g h m k → IsAbove f h s k
+above_on f g h s m k a b = record {
+  weaker = weaker_on f g h a.weaker b.weaker;
+  firm = λ e. elim (a.firm e) [
+    | inl p ↦ inl
+        (ap is_positive (weaker_on_rest f g h a.weaker b.weaker ∙ add_comm_q b.weaker.rest (b.weaker.times *ℚ a.weaker.rest))
+        ∙ firm_sum (b.weaker.times *ℚ a.weaker.rest) b.weaker.rest (both_positive b.weaker.times a.weaker.rest b.weaker.positive p) b.weaker.loose)
+    | inr z ↦ elim (b.firm z) [
+      | inl q ↦ inl
+          (ap is_positive (weaker_on_rest f g h a.weaker b.weaker)
+          ∙ firm_sum b.weaker.rest (b.weaker.times *ℚ a.weaker.rest) q (loose_product b.weaker.times a.weaker.rest b.weaker.positive a.weaker.loose))
+      | inr y ↦ inr y
+    ]
+  ];
 }
 
 pub weaker_factor : (f g : Form ℕ) (w : IsWeaker f g) (k : ℕ) → w.times *ℚ factor_at k f ≡ factor_at k g
@@ -100,10 +114,32 @@ module _ (n : ℕ) (p q r t : Form ℕ) (w : IsWeaker p r) (z : IsWeaker q t) (l
       ap is_positive (add_comm_q (neg_ℚ (factor_at n t) *ℚ w.rest) (factor_at n r *ℚ z.rest))
       ∙ firm_sum (factor_at n r *ℚ z.rest) (neg_ℚ (factor_at n t) *ℚ w.rest) (both_positive (factor_at n r) z.rest lower_sign h) (loose_product (neg_ℚ (factor_at n t)) w.rest upper_sign w.loose)
 
--- the combination of two forms is above that of those that they are above, strictly where one of them is
-pub combination_above : (n : ℕ) (p q r t : Form ℕ) (a b s : Bool) → IsAbove p r a → IsAbove q t b → IsLower n p → IsUpper n q → (s ≡ true → (a ≡ true) ⊎ (b ≡ true)) → IsAbove (combination n p q) (combination n r t) s
-combination_above n p q r t a b s h k low up either = record {
+either_strict : (c d : Bool) → (c ≡ true) ⊎ (d ≡ true) → c || d ≡ true
+either_strict true d e = refl
+either_strict false d (inl e) = absurd (true_false (sym e))
+either_strict false d (inr e) = e
+
+-- the combination of two forms is above that of those that they are above, with a positive number or that one strict where one of them is strict
+pub combination_above : (n : ℕ) (p q r t : Form ℕ) (a b c d s : Bool) → IsAbove p r a c → IsAbove q t b d → IsLower n p → IsUpper n q → (s ≡ true → (a ≡ true) ⊎ (b ≡ true))
+    → IsAbove (combination n p q) (combination n r t) s (c || d)
+combination_above n p q r t a b c d s h k low up either = record {
   weaker = combined n p q r t h.weaker k.weaker low up;
-  firm = λ e. ap is_positive (combined_rest n p q r t h.weaker k.weaker low up)
-      ∙ elim (either e) [ inl x ↦ first_firm n p q r t h.weaker k.weaker low up (h.firm x) | inr y ↦ second_firm n p q r t h.weaker k.weaker low up (k.firm y) ];
+  firm = λ e. elim (either e) [
+    | inl x ↦ elim (h.firm x) [
+      | inl y ↦ inl (ap is_positive (combined_rest n p q r t h.weaker k.weaker low up) ∙ first_firm n p q r t h.weaker k.weaker low up y)
+      | inr y ↦ inr (either_strict c d (inl y))
+    ]
+    | inr x ↦ elim (k.firm x) [
+      | inl y ↦ inl (ap is_positive (combined_rest n p q r t h.weaker k.weaker low up) ∙ second_firm n p q r t h.weaker k.weaker low up y)
+      | inr y ↦ inr (either_strict c d (inr y))
+    ]
+  ];
+}
+
+-- where nothing is left over, a positive multiple of the one is the other
+pub multiple_of : (f g : Form ℕ) (w : IsWeaker f g) → w.rest ≡ zero_ℚ → IsMultiple f g
+multiple_of f g w e = record {
+  times = w.times;
+  positive = w.positive;
+  same = record { factors = λ k. w.same.factors k ∙ plus_factor g w.rest k; constants = w.same.constants ∙ ap (λ x. g.constant +ℚ x) e ∙ add_zero_q g.constant };
 }

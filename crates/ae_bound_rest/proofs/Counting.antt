@@ -28,10 +28,10 @@ use Rattle.ae_bounds.specs.declared.rows.Origin.TheVariants.{Assumed, Combined}
 use Rattle.ae_bounds.specs.declared.directions.Direction.{Direction}
 use Rattle.ae_bounds.specs.Rounding.{AreRounded}
 use Rattle.ae_bounds.specs.Combinations.{IsThere}
-use Rattle.ae_bounds.specs.Rounding.HasForm.{own}
 use Rattle.ae_bounds.specs.Inner.Directions.{IsEarlier, AreIndexed}
 use Rattle.ae_bounds.specs.declared.combining.Opposed.{Opposed}
 use Rattle.ae_bounds.specs.Inner.Pairs.{HaveLast, IsCombineWide}
+use Rattle.ae_bounds.proofs.OwnForms.{own_unrounded}
 use Rattle.ae_bounds.proofs.Lasts.{lower_last, upper_last}
 use Rattle.ae_bounds.proofs.Closing.{there_append, opposed_lower, opposed_upper, one_opposed}
 use Rattle.ae_bound_rest.specs.Rest.{plain, counted, counted_of, IsRoundingOf, IsStandingIn, AreOpposedIn, IsFormRow, IsMade, IsGrown, IsDoneIn, IsWideOf}
@@ -128,13 +128,13 @@ row_one_of p b q n h (inr k) = by_option b.rounded refl
     by_option (Some r) e = inr (e ∙ ap Some (rounding_one p r q n (subst (λ (o : Option Row). IfSome o (IsRoundingOf p)) e h.rounded) k))
 
 -- ---- rows that were added
-pub there_last : (rows : List Row) (r : Row) → IsThere (rows ++ r ∷ []) (meaning r.lin)
-there_last rows r =
-    record { row = r; among = Contains-append_right rows (r ∷ []) r (contains_here r []); form = r.lin; of = own; times = one_ℚ; positive = positive_one; same = scale_one ℕ_discrete (meaning r.lin) }
+pub there_last : (rows : List Row) (r : Row) → r.unrounded ≡ None → IsThere (rows ++ r ∷ []) (meaning r.lin)
+there_last rows r e =
+    record { row = r; among = Contains-append_right rows (r ∷ []) r (contains_here r []); form = r.lin; of = own_unrounded r e; times = one_ℚ; positive = positive_one; same = scale_one ℕ_discrete (meaning r.lin) }
 
-pub there_noted : {T : Type 0} (rows new : List Row) (r : Row) (result : Result T Fail) → OnOk result (new ≡ rows ++ r ∷ []) → OnOk result (IsThere new (meaning r.lin))
-there_noted rows new r (Ok x) e = subst (λ (rs : List Row). IsThere rs (meaning r.lin)) (sym e) (there_last rows r)
-there_noted rows new r (Err x) e = tt
+pub there_noted : {T : Type 0} (rows new : List Row) (r : Row) (result : Result T Fail) → r.unrounded ≡ None → OnOk result (new ≡ rows ++ r ∷ []) → OnOk result (IsThere new (meaning r.lin))
+there_noted rows new r (Ok x) u e = subst (λ (rs : List Row). IsThere rs (meaning r.lin)) (sym e) (there_last rows r u)
+there_noted rows new r (Err x) u e = tt
 
 pub grown_noted : {T : Type 0} (rows new : List Row) (j k : Noted) (r : Row) (result : Result T Fail) → IsMade rows r → IsNormal r.lin → ¬ IsThere rows (meaning r.lin) → OnOk result (new ≡ rows ++ r ∷ [])
     → OnOk result (k ≡ record j { lines = j.lines ++ line.Combine r.strict r.lin ∷ [] }) → OnErr result ((new ≡ rows) × (k ≡ j)) → IsGrown rows j.lines new k.lines

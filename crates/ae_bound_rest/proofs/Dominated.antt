@@ -1,5 +1,5 @@
 -- Each row that counts is above a kept row, so the widths of the making of the point of the kept rows are licensed.
-use Rattle.std.specs.Prelude.{ℕ, suc, ◌<◌, Bool, true, false, ◌&&◌, ◌||◌, List, [], ◌∷◌, ◌++◌, map, ◌≡◌, ◌≢◌, ◌⊎◌, Option, Some, None, length}
+use Rattle.std.specs.Prelude.{ℕ, suc, pos, ◌-ℤ◌, ◌<◌, Bool, true, false, ◌&&◌, ◌||◌, List, [], ◌∷◌, ◌++◌, map, ◌≡◌, ◌≢◌, ◌⊎◌, Option, Some, None, length}
 use Rattle.std.specs.List.{AllByRecursion, Contains}
 use Rattle.std.proofs.Common.{refl, sym, ap, ◌∙◌, subst, arith, inl, inr}
 use Rattle.std.proofs.lemmas.Bool.{and_parts}
@@ -14,10 +14,12 @@ use Rattle.ae_math.proofs.FormLaws.{scale_one, same_trans, factor_in-scale}
 use Rattle.ae_num.specs.declared.forms.Part.{Part}
 use Rattle.ae_num.specs.declared.forms.Lin.{Lin}
 use Rattle.ae_num.specs.Forms.{meaning, IsNormal, SameMeaning}
+use Rattle.ae_num.specs.Limits.{FitsLimits}
 use Rattle.ae_rows.specs.Rows.{factor_at, combination, IsOver, IsLower, IsUpper, IsCovered}
 use Rattle.ae_rows.specs.Rows.IsCovered.{weaker}
 use Rattle.ae_rows.proofs.Choosing.{positive_one}
 use Rattle.ae_rows.proofs.Elimination.{positive_nonzero}
+use Rattle.ae_journal.specs.Sides.{IsRounded}
 use Rattle.ae_journal.specs.Values.{Sum, leaf_factor, sum_of_lin}
 use Rattle.ae_journal.specs.TermValues.{IsLargest}
 use Rattle.ae_journal.specs.Standing.{Setting}
@@ -28,31 +30,39 @@ use Rattle.ae_journal.specs.declared.answers.WideAt.{WideAt}
 use Rattle.ae_journal.proofs.Splits.{all_contained, contains_one}
 use Rattle.ae_combine_lines.proofs.Sums.{factor_in_sum}
 use Rattle.ae_combine_lines.proofs.Standing.{row_stays}
+use Rattle.ae_rounding.specs.Outside.{IsOutside}
+use Rattle.ae_ineq.specs.Inner.Sets.{IsMultiple}
 use Rattle.ae_ineq.specs.Widths.{IsPointWide}
+use Rattle.ae_ineq.proofs.RowSets.{multiples_meet}
 use Rattle.ae_bounds.specs.declared.rows.Row.{Row}
 use Rattle.ae_bounds.specs.declared.rows.Unrounded.{Unrounded}
-use Rattle.ae_bounds.specs.Rounding.{HasForm, WasRounded}
-use Rattle.ae_bounds.specs.Rounding.HasForm.{own, assumed}
-use Rattle.ae_bounds.specs.Combinations.{IsDone}
-use Rattle.ae_bounds.proofs.Rounded.{IsWeaker, weaker as row_weaker}
+use Rattle.ae_bounds.specs.declared.rows.Origin.{Origin}
+use Rattle.ae_bounds.specs.declared.rows.Origin.TheVariants.{Assumed, Combined}
+use Rattle.ae_bounds.specs.Rounding.{StaysUnrounded, IsRowOf, HasForm, IsLeastRounded, WasRounded, AreSettled}
+use Rattle.ae_bounds.specs.Rounding.StaysUnrounded.{a_number, outside, no_change}
+use Rattle.ae_bounds.specs.Rounding.IsRowOf.{as_it_is, rounded}
+use Rattle.ae_bounds.specs.Rounding.HasForm.{own as has_own, assumed}
+use Rattle.ae_bounds.specs.Combinations.{IsThere, IsCombinationOf, IsDone}
+use Rattle.ae_bounds.proofs.OwnForms.{own_unrounded}
+use Rattle.ae_bounds.proofs.Rounded.{IsWeaker}
 use Rattle.ae_bounds.proofs.SameDirection.{turned}
 use Rattle.ae_bounds.proofs.Zeros.{bare_form}
 use Rattle.ae_bound_points.specs.Points.{IsNonzeroRow}
-use Rattle.ae_bound_points.proofs.Weaker.{multiple_weaker, weaker_on}
-use Rattle.ae_bound_points.proofs.Closed.{combination_weaker}
+use Rattle.ae_bound_points.proofs.Weaker.{loose_cases, multiple_weaker, weaker_on}
 use Rattle.ae_bound_widths.specs.Laws.{IsNamedRow, AreAllKept}
 use Rattle.ae_bound_widths.specs.Fractions.{AreFinished}
 use Rattle.ae_bound_widths.proofs.Kept.{kept_licensed_by}
 use Rattle.ae_bound_widths.proofs.Left.{first_some}
-use Rattle.ae_bound_rest.specs.Rest.{plain, counted, IsRoundingOf, IsStandingIn, IsFormRow, IsMade, IsGrown, AreAllNoted}
+use Rattle.ae_bound_rest.specs.Rest.{plain, counted, counted_of, IsRoundingOf, IsStandingIn, IsFormRow, IsMade, IsGrown, AreAllNoted}
 use Rattle.ae_bound_rest.specs.Rest.IsGrown.{as_it_was, one_more}
-use Rattle.ae_bound_rest.specs.Laws.{IsSorted, AreAgreed, AreSolid, AreThoseAssumed}
+use Rattle.ae_bound_rest.specs.Laws.{IsSorted, AreAgreed, AreThoseAssumed}
 use Rattle.ae_bound_rest.proofs.Agreed.{combined_sorted}
-use Rattle.ae_bound_rest.proofs.Roundings.{divided_some}
-use Rattle.ae_bound_rest.proofs.Above.{IsAbove, above_weaker, weaker_above, weaker_factor, above_lower, above_upper, combination_above}
-use Rattle.ae_bound_rest.proofs.Solid.{rounded_above, solid_above}
-use Rattle.ae_bound_rest.proofs.Counting.{counted_cases}
-use Rattle.ae_bound_rest.proofs.Growth.{IsFine, fine_in, grown_fine, in_map}
+use Rattle.ae_bound_rest.proofs.Roundings.{divided_some, rounded_again}
+use Rattle.ae_bound_rest.proofs.Above.{IsAbove, same_above, firm_above, above_on, weaker_factor, above_lower, above_upper, combination_above, multiple_of}
+use Rattle.ae_bound_rest.proofs.Solid.{rounded_above, most_by_firm, weaker_rounded}
+use Rattle.ae_bound_rest.proofs.Edges.{loose_inside, beyond, over_edge, rounded_constant}
+use Rattle.ae_bound_rest.proofs.Counting.{counted_cases, counted_plain, unrounded_none, contains_grown}
+use Rattle.ae_bound_rest.proofs.Growth.{IsFine, fine_in, grown_fine, in_map, map_in}
 use Rattle.ae_bound_rest.proofs.Leaving.{member, none_left}
 
 -- a row with a name is above a kept row of its sort
@@ -61,7 +71,30 @@ pub record IsDominated (rows : List Row) (s : Row) : Type 0 where
   pub among : Contains rows row
   pub sort : row.integral ≡ s.integral
   pub names : row.lin.parts ≢ []
-  pub above : IsAbove (meaning s.lin) (meaning row.lin) (s.integral && s.strict)
+  pub above : IsAbove (meaning s.lin) (meaning row.lin) (s.integral && s.strict) row.strict
+
+-- it is a multiple of a row that counts, and above a form that a strict row can't be rounded from, which is above a kept row of its sort
+record IsHeldAtEdge (rows sure : List Row) (s : Row) : Type 0 where
+  row : Row
+  among : Contains rows row
+  sort : row.integral ≡ s.integral
+  names : row.lin.parts ≢ []
+  edge : Lin
+  edge_normal : IsNormal edge
+  edge_names : edge.parts ≢ []
+  outside : IsOutside true edge
+  to_edge : IsWeaker (meaning s.lin) (meaning edge)
+  to_row : IsWeaker (meaning edge) (meaning row.lin)
+  there : IsThere sure (meaning s.lin)
+
+data IsNear (rows sure : List Row) (s : Row) : Type 0 where
+  dominated : IsDominated rows s → IsNear rows sure s
+  held : IsHeldAtEdge rows sure s → IsNear rows sure s
+
+-- a kept row over integers allows equality and isn't rounded any further, or it is strict and can't be
+data IsKind (r : Row) : Type 0 where
+  may_equal : r.strict ≡ false → IsRounded false r.lin r.lin → IsKind r
+  stays_strict : r.strict ≡ true → IsOutside true r.lin → IsKind r
 
 -- a form with a name has parts
 no_factor : (l : Lin) (k : ℕ) → l.parts ≡ [] → factor_at k (meaning l) ≡ zero_ℚ
@@ -80,27 +113,39 @@ some_name l n m = by_parts l.parts refl
 negative_some : (c : ℚ) → is_positive (neg_ℚ c) ≡ true → c ≢ zero_ℚ
 negative_some c p z = true_false (sym p ∙ ap (λ y. is_positive (neg_ℚ y)) z ∙ ap is_positive neg_zero_q ∙ positive_zero)
 
--- a loose form is above itself
-itself_above : (f : Form ℕ) (s : Bool) → s ≡ false → IsAbove f f s
-itself_above f s e = record {
-  weaker = multiple_weaker f f (record { times = one_ℚ; positive = positive_one; same = scale_one ℕ_discrete f });
-  firm = λ d. absurd (true_false (sym d ∙ e));
-}
+itself_weaker : (f : Form ℕ) → IsWeaker f f
+itself_weaker f = multiple_weaker f f (record { times = one_ℚ; positive = positive_one; same = scale_one ℕ_discrete f })
+
+-- a name of a form is one of each form that it is above
+still_some : (f g : Form ℕ) → IsWeaker f g → (k : ℕ) → factor_at k f ≢ zero_ℚ → factor_at k g ≢ zero_ℚ
+still_some f g w k m z = m (cancel_q w.times (factor_at k f) zero_ℚ (positive_nonzero w.times w.positive) (weaker_factor f g w k ∙ z ∙ sym (mul_zero_q w.times)))
 
 weaker_same : (f g : Form ℕ) → SameForm ℕ_discrete f g → IsWeaker f g
 weaker_same f g s = multiple_weaker f g (record { times = one_ℚ; positive = positive_one; same = same_trans ℕ_discrete (scale one_ℚ f) f g (scale_one ℕ_discrete f) s })
 
-module _ (x : Setting) (js : List Line) (rows : List Row) (a : AreAgreed x js rows) (done : AreFinished rows) (solid : AreSolid rows) where
+module _ (x : Setting) (js : List Line) (rows : List Row) (a : AreAgreed x js rows) (done : AreFinished rows) (settled : AreSettled rows) where
   normal_kept : (r : Row) → Contains rows r → IsNormal r.lin
   normal_kept r c = all_contained (λ (t : Row). IsNormal t.lin) rows r done.normal c
 
   -- ---- kept rows
-  own_dominated : (r : Row) → Contains rows r → r.lin.parts ≢ [] → IsDominated rows (plain r.lin r.strict r.integral)
-  own_dominated r c m = record { row = r; among = c; sort = refl; names = m; above = itself_above (meaning r.lin) (r.integral && r.strict) (by_sort r.integral refl) }
+  kind_of : (r : Row) → Contains rows r → r.integral ≡ true → r.lin.parts ≢ [] → IsKind r
+  kind_of r c i m = by_unrounded r.unrounded refl
     where
-      by_sort : (b : Bool) → r.integral ≡ b → b && r.strict ≡ false
-      by_sort false e = refl
-      by_sort true e = (solid r c e m).0
+      by_strict : (b : Bool) → r.strict ≡ b → IsOutside r.strict r.lin → IsKind r
+      by_strict false e o = absurd (loose_inside r.lin (normal_kept r c) m (subst (λ b. IsOutside b r.lin) e o))
+      by_strict true e o = stays_strict e (subst (λ b. IsOutside b r.lin) e o)
+
+      by_stays : StaysUnrounded r.strict r.lin → IsKind r
+      by_stays (a_number z) = absurd (m z)
+      by_stays (outside o) = by_strict r.strict refl o
+      by_stays (no_change s d) = may_equal s (subst (λ b. IsRounded b r.lin r.lin) s d)
+
+      by_unrounded : (u : Option Unrounded) → r.unrounded ≡ u → IsKind r
+      by_unrounded None e = by_stays (settled r c e i)
+      by_unrounded (Some u) e = let w = done.rounded r u c e in may_equal w.loose (rounded_again u.strict u.lin w.normal w.names r.lin w.is)
+
+  own_dominated : (r : Row) → Contains rows r → r.lin.parts ≢ [] → IsDominated rows (plain r.lin r.strict r.integral)
+  own_dominated r c m = record { row = r; among = c; sort = refl; names = m; above = record { weaker = itself_weaker (meaning r.lin); firm = λ e. inr (and_parts r.integral r.strict e).1 } }
 
   counted_dominated : (r : Row) → Contains rows r → (counted r).lin.parts ≢ [] → IsDominated rows (counted r)
   counted_dominated r c =
@@ -111,82 +156,228 @@ module _ (x : Setting) (js : List Line) (rows : List Row) (a : AreAgreed x js ro
         among = c;
         sort = refl;
         names = divided_names u r w;
-        above = (let h = rounded_above u.strict u.lin r.lin w.normal w.names w.row_normal w.is in record { weaker = h.weaker; firm = λ d. h.firm ((and_parts r.integral u.strict d).1) });
+        above = (let h = rounded_above u.strict u.lin r.lin w.normal w.names w.row_normal w.is r.strict in record { weaker = h.weaker; firm = λ d. h.firm ((and_parts r.integral u.strict d).1) });
       })
       (λ tag e m. own_dominated r c m) (λ i j e m. own_dominated r c m)
     where
       divided_names : (u : Unrounded) (r : Row) → WasRounded u r → r.lin.parts ≢ []
       divided_names u r w = divided_some u.strict u.lin w.normal w.names r.lin w.is
 
-  -- ---- two rows
-  -- what is rounded is above the same kept row
+  -- ---- what is rounded
+  -- a row that allows equality, where its form is above a kept row
+  weakly : (p r : Row) → Contains rows r → r.integral ≡ p.integral → r.lin.parts ≢ [] → p.strict ≡ false → IsWeaker (meaning p.lin) (meaning r.lin) → IsDominated rows p
+  weakly p r c i m s w = record {
+    row = r;
+    among = c;
+    sort = i;
+    names = m;
+    above = record { weaker = w; firm = λ e. absurd (true_false (sym (and_parts p.integral p.strict e).1 ∙ s)) };
+  }
+
+  -- it is above the same kept row
   rounding_dominated : (s p : Row) → IsNormal s.lin → IsDominated rows s → IsRoundingOf s p → IsDominated rows p
   rounding_dominated s p n d h =
-      let whole : (d.row).integral ≡ true = d.sort ∙ h.whole in
-      let k = solid d.row d.among whole d.names in
-      let firm : IsAbove (meaning s.lin) (meaning d.row.lin) s.strict = record { weaker = d.above.weaker; firm = λ e. d.above.firm ((λ i. h.whole i && s.strict) ∙ e) } in
-      let up = solid_above s.strict s.lin p.lin d.row.lin n h.names h.normal h.is (normal_kept d.row d.among) d.names k.1 firm in
-      record {
-        row = d.row;
-        among = d.among;
-        sort = whole ∙ sym (ap (λ (y : Row). y.integral) h.own);
-        names = d.names;
-        above = record { weaker = up.weaker; firm = λ e. absurd (true_false (sym (and_parts p.integral p.strict e).1 ∙ ap (λ (y : Row). y.strict) h.own)) };
-      }
-
-  -- the combination of two kept rows is above a kept row
-  kept_combination : (p q : Row) (n : ℕ) → IsDone rows p q n → (r : Row) × Contains rows r × IsWeaker (combination n (meaning p.lin) (meaning q.lin)) (meaning r.lin)
-  kept_combination p q n d =
-      let t = d.held.there in
-      let f = meaning d.row.lin in
-      let whole = combination n (meaning p.lin) (meaning q.lin) in
-      let to_form = weaker_on whole f (meaning t.form) (combination_weaker p q d.row n d.of) (multiple_weaker f (meaning t.form) (turned (meaning t.form) f (record { times = t.times; positive = t.positive; same = t.same }))) in
-      (t.row, t.among, to_row whole t.row t.form t.among t.of to_form)
+      weakly p d.row d.among (whole ∙ sym (ap (λ (y : Row). y.integral) h.own)) d.names (ap (λ (y : Row). y.strict) h.own) (by_kind (kind_of d.row d.among whole d.names))
     where
-      to_row : (g : Form ℕ) (r : Row) (l : Lin) → Contains rows r → HasForm r l → IsWeaker g (meaning l) → IsWeaker g (meaning r.lin)
-      to_row g r _ c own w = w
-      to_row g r _ c (assumed tag u e f) w = let h = done.rounded r u c f in weaker_on g (meaning u.lin) (meaning r.lin) w (row_weaker u.strict u.lin r.lin h.normal h.names h.row_normal h.is)
+      whole : (d.row).integral ≡ true
+      whole = d.sort ∙ h.whole
 
-  -- a combination of two rows that are above kept ones
-  form_dominated : (p q : Row) (n : ℕ) (form : Lin) → IsSorted x (plain form (p.strict || q.strict) (p.integral && q.integral)) → IsDominated rows p → IsDominated rows q → IsLower n (meaning p.lin) → IsUpper n (meaning q.lin)
-      → SameMeaning (meaning form) (combination n (meaning p.lin) (meaning q.lin)) → form.parts ≢ [] → IsNormal form → IsDominated rows (plain form (p.strict || q.strict) (p.integral && q.integral))
-  form_dominated p q n form sorted d e low up same some normal =
-      let low_kept : IsLower n (meaning d.row.lin) = above_lower n (meaning p.lin) (meaning d.row.lin) d.above.weaker low in
-      let up_kept : IsUpper n (meaning e.row.lin) = above_upper n (meaning q.lin) (meaning e.row.lin) e.above.weaker up in
-      let k = kept_combination d.row e.row n (done.closed n d.row e.row d.among e.among low_kept up_kept) in
-      let both = combination_above n (meaning p.lin) (meaning q.lin) (meaning d.row.lin) (meaning e.row.lin) (p.integral && p.strict) (q.integral && q.strict) ((p.integral && q.integral) && (p.strict || q.strict))
-      d.above e.above low up (strict_one p.integral q.integral p.strict q.strict) in
-      let above = weaker_above (meaning form) (combination n (meaning p.lin) (meaning q.lin)) (meaning (k.0).lin) ((p.integral && q.integral) && (p.strict || q.strict)) (weaker_same (meaning form) (combination n (meaning p.lin) (meaning q.lin)) same)
-      (above_weaker (combination n (meaning p.lin) (meaning q.lin)) (combination n (meaning d.row.lin) (meaning e.row.lin)) (meaning (k.0).lin) ((p.integral && q.integral) && (p.strict || q.strict)) both k.2) in
-      by_name (some_name form normal some) k.0 k.1 above
+      by_kind : IsKind d.row → IsWeaker (meaning p.lin) (meaning d.row.lin)
+      by_kind (stays_strict e o) = over_edge d.row.lin (normal_kept d.row d.among) d.names o s.strict s.lin p.lin n h.names h.normal h.is d.above.weaker
+      by_kind (may_equal e k) =
+          weaker_rounded s.strict s.lin p.lin d.row.lin n h.names h.normal h.is (normal_kept d.row d.among) d.names k d.above.weaker
+          (most_by_firm s.strict s.lin p.lin d.row.lin n h.names h.normal h.is (normal_kept d.row d.among) d.names k d.above.weaker
+          (λ t. elim (d.above.firm ((λ i. h.whole i && s.strict) ∙ t)) [ inl q ↦ q | inr q ↦ absurd (true_false (sym q ∙ e)) ]))
+
+  -- ---- the combination of two kept rows
+  -- the row that is made of it is below it
+  made_above : (p q c : Row) (n : ℕ) → IsCombinationOf p q n c → IsAbove (combination n (meaning p.lin) (meaning q.lin)) (meaning c.lin) (p.strict || q.strict) c.strict
+  made_above p q c n of = by_row of.of
     where
-      strict_one : (i j s t : Bool) → (i && j) && (s || t) ≡ true → (i && s ≡ true) ⊎ (j && t ≡ true)
-      strict_one true true true t h = inl refl
-      strict_one true true false t h = inr h
-      strict_one true false s t h = absurd (true_false (sym h))
-      strict_one false j s t h = absurd (true_false (sym h))
+      to_form : IsWeaker (combination n (meaning p.lin) (meaning q.lin)) (meaning of.form)
+      to_form =
+          multiple_weaker (combination n (meaning p.lin) (meaning q.lin)) (meaning of.form)
+          (turned (meaning of.form) (combination n (meaning p.lin) (meaning q.lin))
+          (record { times = one_ℚ; positive = positive_one; same = same_trans ℕ_discrete (scale one_ℚ (meaning of.form)) (meaning of.form) (combination n (meaning p.lin) (meaning q.lin)) (scale_one ℕ_discrete (meaning of.form)) of.same }))
 
-      by_name : (k : ℕ) × (factor_at k (meaning form) ≢ zero_ℚ) → (r : Row) → Contains rows r → IsAbove (meaning form) (meaning r.lin) ((p.integral && q.integral) && (p.strict || q.strict))
-          → IsDominated rows (plain form (p.strict || q.strict) (p.integral && q.integral))
-      by_name (k, m) r c up = record {
-        row = r;
-        among = c;
-        sort = one_integral r.integral (p.integral && q.integral) refl refl;
-        names = some_parts r.lin k there;
-        above = up;
-      }
-        where
-          there : factor_at k (meaning r.lin) ≢ zero_ℚ
-          there z = m (cancel_q up.weaker.times (factor_at k (meaning form)) zero_ℚ (positive_nonzero up.weaker.times up.weaker.positive) (weaker_factor (meaning form) (meaning r.lin) up.weaker k ∙ z ∙ sym (mul_zero_q up.weaker.times)))
+      by_row : IsRowOf of.form (p.strict || q.strict) c → IsAbove (combination n (meaning p.lin) (meaning q.lin)) (meaning c.lin) (p.strict || q.strict) c.strict
+      by_row (as_it_is e s u stays) = record { weaker = subst (λ (l : Lin). IsWeaker (combination n (meaning p.lin) (meaning q.lin)) (meaning l)) (sym e) to_form; firm = λ t. inr (s ∙ t) }
+      by_row (rounded i m d s u) =
+          above_on (combination n (meaning p.lin) (meaning q.lin)) (meaning of.form) (meaning c.lin) (p.strict || q.strict) (p.strict || q.strict) c.strict
+          (same_above (combination n (meaning p.lin) (meaning q.lin)) (meaning of.form) (p.strict || q.strict) to_form)
+          (rounded_above (p.strict || q.strict) of.form c.lin of.form_normal m of.normal d c.strict)
 
-          one_integral : (b d : Bool) → r.integral ≡ b → p.integral && q.integral ≡ d → r.integral ≡ p.integral && q.integral
-          one_integral true d e f = e ∙ sym (sorted.integral k m ((a.sorted r c).whole k there e))
-          one_integral false false e f = e ∙ sym f
-          one_integral false true e f = absurd (true_false (sym ((a.sorted r c).integral k there (sorted.whole k m f)) ∙ e))
+  -- a strict one over integers can't be rounded
+  made_outside : (p q c : Row) (n : ℕ) → IsCombinationOf p q n c → c.integral ≡ true → c.strict ≡ true → c.lin.parts ≢ [] → IsOutside true c.lin
+  made_outside p q c n of i t m = by_row of.of
+    where
+      by_stays : (b : Bool) → b ≡ true → StaysUnrounded b c.lin → IsOutside true c.lin
+      by_stays b e (a_number z) = absurd (m z)
+      by_stays b e (no_change s d) = absurd (true_false (sym e ∙ s))
+      by_stays b e (outside o) = subst (λ z. IsOutside z c.lin) e o
+
+      by_row : IsRowOf of.form (p.strict || q.strict) c → IsOutside true c.lin
+      by_row (as_it_is e s u stays) = by_stays (p.strict || q.strict) (sym s ∙ t) (subst (StaysUnrounded (p.strict || q.strict)) (sym e) (stays i))
+      by_row (rounded j z d s u) = absurd (true_false (sym t ∙ s))
+
+  -- ---- a combination of two rows that are above kept ones
+  module _ (sure : List Row) (start : (r : Row) → Contains rows r → Contains sure (counted r)) (p q : Row) (n : ℕ) (form : Lin) (sorted : IsSorted x (plain form (p.strict || q.strict) (p.integral && q.integral)))
+      (d : IsDominated rows p) (e : IsDominated rows q) (low : IsLower n (meaning p.lin)) (up : IsUpper n (meaning q.lin)) (same : SameMeaning (meaning form) (combination n (meaning p.lin) (meaning q.lin)))
+      (some : form.parts ≢ []) (normal : IsNormal form) where
+    abbrev strict : Bool
+    strict = (p.integral && q.integral) && (p.strict || q.strict)
+
+    abbrev own : Row
+    own = plain form (p.strict || q.strict) (p.integral && q.integral)
+
+    done_row : IsDone rows d.row e.row n
+    done_row = done.closed n d.row e.row d.among e.among (above_lower n (meaning p.lin) (meaning d.row.lin) d.above.weaker low) (above_upper n (meaning q.lin) (meaning e.row.lin) e.above.weaker up)
+
+    abbrev made : Row
+    made = done_row.row
+
+    to_made : IsAbove (meaning form) (meaning made.lin) strict made.strict
+    to_made =
+        let here = combination n (meaning p.lin) (meaning q.lin) in
+        let there = combination n (meaning d.row.lin) (meaning e.row.lin) in
+        let both = combination_above n (meaning p.lin) (meaning q.lin) (meaning d.row.lin) (meaning e.row.lin) (p.integral && p.strict) (q.integral && q.strict) d.row.strict e.row.strict strict
+        d.above e.above low up (strict_one p.integral q.integral p.strict q.strict) in
+        above_on (meaning form) here (meaning made.lin) strict strict made.strict (same_above (meaning form) here strict (weaker_same (meaning form) here same))
+        (above_on here there (meaning made.lin) strict (d.row.strict || e.row.strict) made.strict both (made_above d.row e.row made n done_row.of))
+      where
+        strict_one : (i j s t : Bool) → (i && j) && (s || t) ≡ true → (i && s ≡ true) ⊎ (j && t ≡ true)
+        strict_one true true true t h = inl refl
+        strict_one true true false t h = inr h
+        strict_one true false s t h = absurd (true_false (sym h))
+        strict_one false j s t h = absurd (true_false (sym h))
+
+    -- the names and the sort of a row that the form is above
+    some_below : (l : Lin) → IsWeaker (meaning form) (meaning l) → l.parts ≢ []
+    some_below l w = by_name (some_name form normal some)
+      where
+        by_name : (k : ℕ) × (factor_at k (meaning form) ≢ zero_ℚ) → l.parts ≢ []
+        by_name (k, m) = some_parts l k (still_some (meaning form) (meaning l) w k m)
+
+    sort_below : (r : Row) → Contains rows r → IsWeaker (meaning form) (meaning r.lin) → r.integral ≡ p.integral && q.integral
+    sort_below r c w = by_name (some_name form normal some)
+      where
+        by_name : (k : ℕ) × (factor_at k (meaning form) ≢ zero_ℚ) → r.integral ≡ p.integral && q.integral
+        by_name (k, m) = one_integral r.integral (p.integral && q.integral) refl refl
+          where
+            there : factor_at k (meaning r.lin) ≢ zero_ℚ
+            there = still_some (meaning form) (meaning r.lin) w k m
+
+            one_integral : (b z : Bool) → r.integral ≡ b → p.integral && q.integral ≡ z → r.integral ≡ p.integral && q.integral
+            one_integral true z f g = f ∙ sym (sorted.integral k m ((a.sorted r c).whole k there f))
+            one_integral false false f g = f ∙ sym g
+            one_integral false true f g = absurd (true_false (sym ((a.sorted r c).integral k there (sorted.whole k m g)) ∙ f))
+
+    near_by : (r : Row) → Contains rows r → IsAbove (meaning form) (meaning r.lin) strict r.strict → IsNear rows sure own
+    near_by r c h = dominated (record { row = r; among = c; sort = sort_below r c h.weaker; names = some_below r.lin h.weaker; above = h })
+
+    -- the row that is made is held by a row that allows equality: a positive number is left over, or no more than a multiple
+    near_loose : (r : Row) → Contains rows r → IsWeaker (meaning made.lin) (meaning r.lin) → ((c : made.integral ≡ true) → made.strict ≡ true → IsOutside true made.lin → IsMultiple (meaning (counted r).lin) (meaning made.lin))
+        → IsNear rows sure own
+    near_loose r c w multiple = by_strict strict refl
+      where
+        weak : IsWeaker (meaning form) (meaning r.lin)
+        weak = weaker_on (meaning form) (meaning made.lin) (meaning r.lin) to_made.weaker w
+
+        firmly : is_positive to_made.weaker.rest ≡ true → IsNear rows sure own
+        firmly h =
+            near_by r c
+            (above_on (meaning form) (meaning made.lin) (meaning r.lin) strict false r.strict (firm_above (meaning form) (meaning made.lin) strict false to_made.weaker h)
+            (record { weaker = w; firm = λ z. absurd (true_false (sym z)) }))
+
+        -- nothing is left over
+        at_edge : strict ≡ true → made.strict ≡ true → to_made.weaker.rest ≡ zero_ℚ → IsNear rows sure own
+        at_edge s t z =
+            let i = and_parts p.integral q.integral (and_parts (p.integral && q.integral) (p.strict || q.strict) s).0 in
+            let whole : made.integral ≡ true = done_row.of.sort ∙ (λ k. (d.sort ∙ i.0) k && (e.sort ∙ i.1) k) in
+            let names : made.lin.parts ≢ [] = some_below made.lin to_made.weaker in
+            let out = made_outside d.row e.row made n done_row.of whole t names in
+            let m = multiples_meet (meaning (counted r).lin) (meaning form) (meaning made.lin) (multiple whole t out) (multiple_of (meaning form) (meaning made.lin) to_made.weaker z) in
+            held (record {
+              row = r;
+              among = c;
+              sort = sort_below r c weak;
+              names = some_below r.lin weak;
+              edge = made.lin;
+              edge_normal = done_row.of.normal;
+              edge_names = names;
+              outside = out;
+              to_edge = to_made.weaker;
+              to_row = w;
+              there = record {
+                row = counted r;
+                among = start r c;
+                form = (counted r).lin;
+                of = own_unrounded (counted r) (unrounded_none (counted r) (counted_plain r));
+                times = m.times;
+                positive = m.positive;
+                same = m.same;
+              };
+            })
+
+        by_rest : strict ≡ true → made.strict ≡ true → (is_positive to_made.weaker.rest ≡ true) ⊎ (to_made.weaker.rest ≡ zero_ℚ) → IsNear rows sure own
+        by_rest s t (inl h) = firmly h
+        by_rest s t (inr z) = at_edge s t z
+
+        by_firm : strict ≡ true → (is_positive to_made.weaker.rest ≡ true) ⊎ (made.strict ≡ true) → IsNear rows sure own
+        by_firm s (inl h) = firmly h
+        by_firm s (inr t) = by_rest s t (loose_cases to_made.weaker.rest to_made.weaker.loose)
+
+        by_strict : (b : Bool) → strict ≡ b → IsNear rows sure own
+        by_strict false s = near_by r c (record { weaker = weak; firm = λ t. absurd (true_false (sym t ∙ s)) })
+        by_strict true s = by_firm s (to_made.firm s)
+
+    form_near : IsNear rows sure own
+    form_near = by_form t.form t.of (record { times = t.times; positive = t.positive; same = t.same })
+      where
+        t : IsThere rows (meaning made.lin)
+        t = done_row.held.there
+
+        down : (l : Lin) → IsMultiple (meaning l) (meaning made.lin) → IsWeaker (meaning made.lin) (meaning l)
+        down l k = multiple_weaker (meaning made.lin) (meaning l) (turned (meaning l) (meaning made.lin) k)
+
+        -- a row whose own form counts wasn't rounded, or its constant isn't the least
+        own_multiple : ¬ IsLeastRounded t.row → t.row.strict ≡ false → IsMultiple (meaning t.row.lin) (meaning made.lin) → made.integral ≡ true → made.strict ≡ true → IsOutside true made.lin
+            → IsMultiple (meaning (counted t.row).lin) (meaning made.lin)
+        own_multiple more f k i s o =
+            counted_cases (λ (y : Row). IsMultiple (meaning y.lin) (meaning made.lin)) t.row
+            (λ tag u g h. let w = done.rounded t.row u t.among h in
+            let names = some_below made.lin to_made.weaker in
+            let again = rounded_again u.strict u.lin w.normal w.names t.row.lin w.is in
+            let c = rounded_constant made.lin done_row.of.normal names o t.row.lin w.row_normal (divided_some u.strict u.lin w.normal w.names t.row.lin w.is) again k in
+            absurd (more (record { tag = tag; from = g; earlier = u; was = h; least = λ z. beyond made.lin done_row.of.normal names o (subst (λ y. FitsLimits (y -ℤ pos 1)) c z) })))
+            (λ tag g. k) (λ lower upper g. k)
+
+        by_own : (b : Bool) → t.row.strict ≡ b → ¬ IsLeastRounded t.row → IsMultiple (meaning t.row.lin) (meaning made.lin) → IsNear rows sure own
+        by_own true f more k =
+            near_by t.row t.among (above_on (meaning form) (meaning made.lin) (meaning t.row.lin) strict made.strict t.row.strict to_made (record { weaker = down t.row.lin k; firm = λ z. inr f }))
+        by_own false f more k = near_loose t.row t.among (down t.row.lin k) (own_multiple more f k)
+
+        by_earlier : (u : Unrounded) (tag : ℕ) → t.row.from ≡ Assumed tag → t.row.unrounded ≡ Some u → IsMultiple (meaning u.lin) (meaning made.lin) → (b : Bool) → u.strict ≡ b → IsNear rows sure own
+        by_earlier u tag f g k true h =
+            let w = done.rounded t.row u t.among g in
+            near_by t.row t.among
+            (above_on (meaning form) (meaning made.lin) (meaning t.row.lin) strict made.strict t.row.strict to_made
+            (above_on (meaning made.lin) (meaning u.lin) (meaning t.row.lin) made.strict u.strict t.row.strict (record { weaker = down u.lin k; firm = λ z. inr h })
+            (rounded_above u.strict u.lin t.row.lin w.normal w.names w.row_normal w.is t.row.strict)))
+        by_earlier u tag f g k false h =
+            let w = done.rounded t.row u t.among g in
+            let is : counted t.row ≡ plain u.lin u.strict t.row.integral = (λ i. counted_of (f i) (g i) t.row) in
+            near_loose t.row t.among (weaker_on (meaning made.lin) (meaning u.lin) (meaning t.row.lin) (down u.lin k) (rounded_above u.strict u.lin t.row.lin w.normal w.names w.row_normal w.is t.row.strict).weaker)
+            (λ i s o. subst (λ (y : Row). IsMultiple (meaning y.lin) (meaning made.lin)) (sym is) k)
+
+        by_form : (l : Lin) → HasForm t.row l → IsMultiple (meaning l) (meaning made.lin) → IsNear rows sure own
+        by_form _ (has_own more) k = by_own t.row.strict refl more k
+        by_form _ (assumed tag u f g) k = by_earlier u tag f g k u.strict refl
 
   -- ---- all rows that count
-  made_dominated : (rs : List Row) (ls : List Line) → ((s : Row) → Contains rs s → IsFine x ls s) → ((s : Row) → Contains rs s → s.lin.parts ≢ [] → IsDominated rows s) → (r : Row) → IsMade rs r → r.lin.parts ≢ [] → IsDominated rows r
-  made_dominated rs ls fine all r m some = by_form m.is
+  made_dominated : (rs : List Row) (ls : List Line) → ((r : Row) → Contains rows r → Contains rs (counted r)) → ((s : Row) → Contains rs s → IsFine x ls s) → ((s : Row) → Contains rs s → s.lin.parts ≢ [] → IsDominated rows s)
+      → (r : Row) → IsMade rs r → ¬ IsThere rs (meaning r.lin) → r.lin.parts ≢ [] → IsDominated rows r
+  made_dominated rs ls start fine all r m new some = by_form m.is
     where
       standing : (p : Row) → IsStandingIn rs p → p.lin.parts ≢ [] → IsDominated rows p
       standing p (inl c) n = all p c n
@@ -203,12 +394,25 @@ module _ (x : Setting) (js : List Line) (rows : List Row) (a : AreAgreed x js ro
           combined_sorted x m.first m.second (plain m.form (m.first.strict || m.second.strict) (m.first.integral && m.second.integral)) m.name (fine_in x ls rs fine m.first m.opposed.first_in).sorted
           (fine_in x ls rs fine m.second m.opposed.second_in).sorted m.opposed.below m.opposed.above refl (λ k h z. h (m.same.factors k ∙ z))
 
-      form : m.form.parts ≢ [] → IsDominated rows (plain m.form (m.first.strict || m.second.strict) (m.first.integral && m.second.integral))
-      form n = form_dominated m.first m.second m.name m.form sorted first second m.opposed.below m.opposed.above m.same n m.form_normal
+      near : m.form.parts ≢ [] → IsNear rows rs (plain m.form (m.first.strict || m.second.strict) (m.first.integral && m.second.integral))
+      near n = form_near rs start m.first m.second m.name m.form sorted first second m.opposed.below m.opposed.above m.same n m.form_normal
+
+      -- the combination as it is
+      plainly : r ≡ plain m.form (m.first.strict || m.second.strict) (m.first.integral && m.second.integral) → IsNear rows rs (plain m.form (m.first.strict || m.second.strict) (m.first.integral && m.second.integral)) → IsDominated rows r
+      plainly e (dominated d) = subst (IsDominated rows) (sym e) d
+      plainly e (held k) = absurd (new (subst (λ (y : Row). IsThere rs (meaning y.lin)) (sym e) k.there))
+
+      -- and rounded
+      roundly : IsRoundingOf (plain m.form (m.first.strict || m.second.strict) (m.first.integral && m.second.integral)) r → IsNear rows rs (plain m.form (m.first.strict || m.second.strict) (m.first.integral && m.second.integral)) → IsDominated rows r
+      roundly h (dominated d) = rounding_dominated (plain m.form (m.first.strict || m.second.strict) (m.first.integral && m.second.integral)) r m.form_normal d h
+      roundly h (held k) =
+          weakly r k.row k.among (k.sort ∙ h.whole ∙ sym (ap (λ (y : Row). y.integral) h.own)) k.names (ap (λ (y : Row). y.strict) h.own)
+          (weaker_on (meaning r.lin) (meaning k.edge) (meaning k.row.lin)
+          (over_edge k.edge k.edge_normal k.edge_names k.outside (m.first.strict || m.second.strict) m.form r.lin m.form_normal h.names h.normal h.is k.to_edge) k.to_row)
 
       by_form : IsFormRow m.form (m.first.strict || m.second.strict) (m.first.integral && m.second.integral) r → IsDominated rows r
-      by_form (inl e) = subst (IsDominated rows) (sym e) (form (λ z. some (ap (λ (y : Row). y.lin.parts) e ∙ z)))
-      by_form (inr h) = rounding_dominated (plain m.form (m.first.strict || m.second.strict) (m.first.integral && m.second.integral)) r m.form_normal (form h.names) h
+      by_form (inl e) = plainly e (near (λ z. some (ap (λ (y : Row). y.lin.parts) e ∙ z)))
+      by_form (inr h) = roundly h (near h.names)
 
   grown_dominated : (sure : List Row) (ks : List Line) → IsGrown (map counted rows) js sure ks → (s : Row) → Contains sure s → s.lin.parts ≢ [] → IsDominated rows s
   grown_dominated _ _ as_it_was s c n = let m = in_map counted rows s c in subst (λ (y : Row). y.lin.parts ≢ [] → IsDominated rows y) m.2 (counted_dominated m.0 m.1) n
@@ -216,7 +420,8 @@ module _ (x : Setting) (js : List Line) (rows : List Row) (a : AreAgreed x js ro
       elim (Contains-append_cases rs (r ∷ []) s c) [
         | inl h ↦ grown_dominated rs ks g s h n
         | inr h ↦ (let e = contains_one r s h in subst (IsDominated rows) e
-            (made_dominated rs ks (grown_fine x 0 js rows a done rs ks g).fine (grown_dominated rs ks g) r m (λ z. n (ap (λ (y : Row). y.lin.parts) (sym e) ∙ z))))
+            (made_dominated rs ks (λ y o. contains_grown (map counted rows) js rs ks g (counted y) (map_in counted rows y o)) (grown_fine x 0 js rows a done rs ks g).fine (grown_dominated rs ks g) r m t
+            (λ z. n (ap (λ (y : Row). y.lin.parts) (sym e) ∙ z))))
       ]
 
   still_row : (sure : List Row) (ks : List Line) → IsGrown (map counted rows) js sure ks → (b : Bool) (g : Sum) → IsRow x js b g → IsRow x ks b g

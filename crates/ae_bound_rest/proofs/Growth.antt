@@ -32,15 +32,16 @@ use Rattle.ae_bounds.specs.declared.rows.Unrounded.{Unrounded}
 use Rattle.ae_bounds.specs.declared.rows.Origin.{Origin}
 use Rattle.ae_bounds.specs.declared.rows.Origin.TheVariants.{Assumed, Combined}
 use Rattle.ae_bounds.specs.Rounding.{WasRounded}
-use Rattle.ae_bounds.specs.Rounding.HasForm.{own}
 use Rattle.ae_bounds.specs.Combinations.{IsThere}
+use Rattle.ae_bounds.proofs.OwnForms.{own_unrounded}
 use Rattle.ae_bounds.proofs.Rounded.{rounded_over}
 use Rattle.ae_bound_lines.proofs.Legal.{positive_apart, named_below, legal_push}
 use Rattle.ae_bound_widths.specs.Fractions.{AreFinished}
 use Rattle.ae_bound_rest.specs.Rest.{plain, counted, counted_of, IsRoundingOf, IsStandingIn, AreOpposedIn, IsFormRow, IsMade, IsGrown}
 use Rattle.ae_bound_rest.specs.Rest.IsGrown.{as_it_was, one_more}
 use Rattle.ae_bound_rest.specs.Laws.{IsWholeName, IsStanding, IsSorted, AreAgreed}
-use Rattle.ae_bound_rest.proofs.Counting.{counted_cases}
+use Rattle.ae_bound_rest.specs.Inner.Pairs.{IsPlain}
+use Rattle.ae_bound_rest.proofs.Counting.{counted_cases, counted_plain, plain_grown, unrounded_none}
 use Rattle.ae_bound_rest.proofs.Agreed.{all_whole, combined_sorted, names_weaker, standing_stays, own_standing}
 use Rattle.ae_bound_rest.proofs.Pairing.{scaled, absent_back, over_back}
 
@@ -121,7 +122,7 @@ opposed_fine x js sure all p q n o =
     }
 
 -- ---- one combination more
-module _ (x : Setting) (js : List Line) (sure : List Row) (all : (r : Row) → Contains sure r → IsFine x js r) (known : (g : Sum) → IsSure x js g → (s : Row) × Contains sure s × (sum_of_lin s.lin ≡ g)) (r : Row) (m : IsMade sure r)
+module _ (x : Setting) (js : List Line) (sure : List Row) (all : (r : Row) → Contains sure r → IsFine x js r) (known : (g : Sum) → IsSure x js g → (s : Row) × Contains sure s × (sum_of_lin s.lin ≡ g)) (plain_all : (s : Row) → Contains sure s → s.unrounded ≡ None) (r : Row) (m : IsMade sure r)
     (normal : IsNormal r.lin) (new : ¬ IsThere sure (meaning r.lin)) where
   abbrev p : Row
   p = m.first
@@ -156,7 +157,7 @@ module _ (x : Setting) (js : List Line) (sure : List Row) (all : (r : Row) → C
   no_multiple g s u =
       let a = known g s in
       let k = multiple_form r.lin (a.0).lin (subst (IsMultiple (sum_of_lin r.lin)) (sym a.2) u) in
-      new (record { row = a.0; among = a.1; form = (a.0).lin; of = own; times = k.0; positive = k.1; same = k.2 })
+      new (record { row = a.0; among = a.1; form = (a.0).lin; of = own_unrounded a.0 (plain_all a.0 a.1); times = k.0; positive = k.1; same = k.2 })
 
   pub legal_line : MayCombine x js r.strict r.lin
   legal_line = by_form m.is
@@ -266,15 +267,21 @@ module _ (x : Setting) (bound : ℕ) (js : List Line) (rows : List Row) (a : Are
   start_known _ (sure_line before after b h e o) =
       let k = a.lines before after b h e o in (counted k.0, map_in counted rows k.0 k.3, ap (λ (y : Row). sum_of_lin y.lin) (counted_combined k.0 k.1 k.2 k.4) ∙ ap sum_of_lin k.5)
 
+  start_plain : (s : Row) → Contains (map counted rows) s → IsPlain s
+  start_plain s h = let m = in_map counted rows s h in subst IsPlain m.2 (counted_plain m.0)
+
+  pub none_unrounded : (sure : List Row) (ks : List Line) → IsGrown (map counted rows) js sure ks → (s : Row) → Contains sure s → s.unrounded ≡ None
+  none_unrounded sure ks g s c = unrounded_none s (plain_grown (map counted rows) js start_plain sure ks g s c)
+
   pub grown_fine : (sure : List Row) (ks : List Line) → IsGrown (map counted rows) js sure ks → AreFine x bound js sure ks
   grown_fine _ _ as_it_was = record { fine = start_fine; known = start_known; added = []; lines = sym (append-nil js); are_legal = tt }
   grown_fine _ _ (one_more rs ks r g m n d) =
       let h = grown_fine rs ks g in
-      let one : MayCombine x ks r.strict r.lin = legal_line x ks rs h.fine h.known r m n d in
+      let one : MayCombine x ks r.strict r.lin = legal_line x ks rs h.fine h.known (none_unrounded rs ks g) r m n d in
       let there : IsLegalLine x bound (js ++ h.added) (line.Combine r.strict r.lin) = subst (λ (w : List Line). MayCombine x w r.strict r.lin) h.lines one in
       record {
-        fine = fine_more x ks rs h.fine h.known r m n d;
-        known = known_more x ks rs h.fine h.known r m n d;
+        fine = fine_more x ks rs h.fine h.known (none_unrounded rs ks g) r m n d;
+        known = known_more x ks rs h.fine h.known (none_unrounded rs ks g) r m n d;
         added = h.added ++ line.Combine r.strict r.lin ∷ [];
         lines = ap (λ (w : List Line). w ++ line.Combine r.strict r.lin ∷ []) h.lines ∙ append_assoc js h.added (line.Combine r.strict r.lin ∷ []);
         are_legal = legal_push x bound js h.added (line.Combine r.strict r.lin) h.are_legal there;

@@ -198,7 +198,7 @@ module _ (x : Setting) (js : List Line) (rows : List Row) (ks : List Line) (a : 
         by_sure (sum_of_lin t.row.lin) (is_there_sure t.row t.among) (subst (λ (s : Sum). IsMultiple s (sum_of_lin t.row.lin)) (sym e) multiple)
       where
         by_form : (l : Lin) → HasForm t.row l → l ≡ t.row.lin
-        by_form _ own = refl
+        by_form _ (own m) = refl
         by_form _ (assumed tag u o v) = absurd (let z : ◌≡◌ {A = Option Unrounded} None (Some u) = sym (ap (λ (y : Row). y.unrounded) (is_plain t.row t.among)) ∙ v in cc)
 
         by_sure : (g : Sum) → IsSure x ks g → IsMultiple (sum_of_lin f) g → ⊥

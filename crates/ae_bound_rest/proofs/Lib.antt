@@ -3,6 +3,7 @@ pub mod Counting
 pub mod Pairing
 pub mod Above
 pub mod Solid
+pub mod Edges
 pub mod Agreed
 pub mod Growth
 pub mod Leaving

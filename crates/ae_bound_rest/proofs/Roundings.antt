@@ -77,7 +77,7 @@ module _ (strict : Bool) (l : Lin) (normal : IsNormal l) (names : l.parts ≢ []
   all_ones [] = tt
   all_ones (n ∷ ns) = (one-dvd n, all_ones ns)
 
-  own_quotients : (rs : List Part) → AreDivided 1 rs rs
+  pub own_quotients : (rs : List Part) → AreDivided 1 rs rs
   unfolding lib.IntN.one
   own_quotients [] = tt
   own_quotients (r ∷ rs) = (refl, sym (*ℤ-one r.factor), own_quotients rs)
@@ -94,7 +94,7 @@ module _ (strict : Bool) (l : Lin) (normal : IsNormal l) (names : l.parts ≢ []
   above_zero zero p = absurd (omega (arith, ints, p))
   above_zero (suc n) p = omega arith
 
-  own_floor : (k : ℤ) → IsFloor k 1 k
+  pub own_floor : (k : ℤ) → IsFloor k 1 k
   unfolding lib.IntN.one
   own_floor k = record { at_least = subst (λ z. z ≤ℤ k) (sym (*ℤ-one k)) (omega (arith, ints)); less = subst (λ z. k <ℤ z) (sym (*ℤ-one (k +ℤ pos 1))) (omega (arith, ints)) }
 

@@ -1,15 +1,14 @@
 -- A form of integers is above what it is rounded; and what is rounded is above each rounded form that the form is above.
-use Rattle.std.specs.Prelude.{ℕ, zero, suc, ℤ, pos, negsuc, ◌≡◌, ◌≢◌, ◌<◌, ◌*◌, ◌*ℤ◌, ◌-ℤ◌, ◌<ℤ◌, ◌≤ℤ◌, Bool, true, false, cond, List, [], ◌∷◌, map, unsigned_abs}
+use Rattle.std.specs.Prelude.{ℕ, zero, suc, ℤ, pos, negsuc, ◌≡◌, ◌≢◌, ◌<◌, ◌*◌, ◌*ℤ◌, ◌-ℤ◌, ◌<ℤ◌, ◌≤ℤ◌, ◌⊎◌, Bool, true, false, cond, List, [], ◌∷◌, map, unsigned_abs}
 use Rattle.std.specs.List.{AllByRecursion}
 use Rattle.std.specs.Int.{◌∣◌}
-use Rattle.std.proofs.Common.{arith, refl, sym, ap, ◌∙◌, subst}
+use Rattle.std.proofs.Common.{arith, refl, sym, ap, ◌∙◌, subst, inl}
 use Rattle.std.proofs.lemmas.Int.{unsigned_abs-mul}
 use native.Mathlib.Decide.{ℕ_discrete}
 use native.Mathlib.Nat.{one-mul, mul_comm}
 use lib.IntN.{one, *ℤ-one}
 use lib.Signed.{lt_z}
 use borrow.Author.Differences.{ints}
-use Rattle.ae_base.proofs.Tests.{true_false}
 use Rattle.ae_base.proofs.Integers.{size_nonzero}
 use Rattle.ae_math.specs.Fractions.{ℚ, zero_ℚ, one_ℚ, neg_ℚ, ◌+ℚ◌, ◌*ℚ◌, ratio, is_positive}
 use Rattle.ae_math.specs.Forms.{Form, SameForm, scale, factor_in}
@@ -72,12 +71,13 @@ module _ (strict : Bool) (l r : Lin) (normal : IsNormal l) (names : l.parts ≢ 
       by_strict : (r.constant *ℤ pos rounded.divisor) ≤ℤ (l.constant -ℤ pos 1) → (r.constant *ℤ pos rounded.divisor) <ℤ l.constant
       by_strict h = omega (arith, ints, h)
 
-  pub rounded_above : IsAbove (meaning l) (meaning r) strict
-  rounded_above = record {
+  pub rounded_above : (held : Bool) → IsAbove (meaning l) (meaning r) strict held
+  rounded_above held = record {
     weaker = weaker strict l r normal names own rounded;
-    firm = λ e. ap is_positive (weaker_rest strict l r normal names own rounded ∙ ap (λ d. ratio l.constant (pos rounded.divisor) +ℚ neg_ℚ (ratio r.constant d)) rounded.whole)
+    firm = λ e. inl
+        (ap is_positive (weaker_rest strict l r normal names own rounded ∙ ap (λ d. ratio l.constant (pos rounded.divisor) +ℚ neg_ℚ (ratio r.constant d)) rounded.whole)
         ∙ above_whole rounded.divisor (pos rounded.divisor) refl (above strict l r normal names own rounded) l.constant r.constant
-        ∙ is_less (r.constant *ℤ pos rounded.divisor) l.constant (below_constant e);
+        ∙ is_less (r.constant *ℤ pos rounded.divisor) l.constant (below_constant e));
   }
 
 -- ---- forms whose factors have no divisor in common
@@ -92,6 +92,10 @@ self_divisor r n m a = by_parts r.parts n.nonzero m a.divided
     by_parts : (ps : List Part) → AllByRecursion (λ (p : Part). p.factor ≢ pos 0) ps → ps ≢ [] → AreDivided a.divisor ps ps → a.divisor ≡ 1
     by_parts [] z h d = absurd (h refl)
     by_parts (p ∷ ps) z h d = one_size p.factor z.0 d.1
+
+-- such a form has no divisor
+pub primitive : (r : Lin) → IsNormal r → r.parts ≢ [] → IsRounded false r r → IsPrimitive r
+primitive r n m a = record { whole = a.whole; lowest = λ d h. subst (λ k. d ∣ k) (self_divisor r n m a) (a.greatest.1 d h.1) }
 
 -- the factors alone
 abbrev bare : Lin → Lin
@@ -119,7 +123,7 @@ to_bare f r t p w e = record {
 
 -- ---- what is rounded is above a rounded form that the form is above
 module _ (strict : Bool) (f q r : Lin) (nf : IsNormal f) (mf : f.parts ≢ []) (nq : IsNormal q) (is : IsRounded strict f q) (nr : IsNormal r) (mr : r.parts ≢ []) (solid : IsRounded false r r)
-    (a : IsAbove (meaning f) (meaning r) strict) where
+    (w : IsWeaker (meaning f) (meaning r)) where
   abbrev g : ℤ
   g = pos is.divisor
 
@@ -137,7 +141,7 @@ module _ (strict : Bool) (f q r : Lin) (nf : IsNormal f) (mf : f.parts ≢ []) (
       let again = rounded_again strict f nf mf q is in
       let some = divided_some strict f nf mf q is in
       let one_way = to_bare (meaning f) q t (ratio_positive f.den g nf.positive above_zero) is.whole scaled in
-      let other_way = to_bare (meaning f) r a.weaker.times a.weaker.positive solid.whole (weaker_factor (meaning f) (meaning r) a.weaker) in
+      let other_way = to_bare (meaning f) r w.times w.positive solid.whole (weaker_factor (meaning f) (meaning r) w) in
       ap (λ (l : Lin). l.parts)
       (directions_same (bare q) (bare r) (bare_normal q nq) (bare_normal r nr) (bare_primitive q nq some again) (bare_primitive r nr mr solid)
       (multiples_meet (meaning (bare q)) (meaning (bare r)) (nameless (meaning f)) (turned (nameless (meaning f)) (meaning (bare q)) one_way) (turned (nameless (meaning f)) (meaning (bare r)) other_way)))
@@ -145,60 +149,58 @@ module _ (strict : Bool) (f q r : Lin) (nf : IsNormal f) (mf : f.parts ≢ []) (
   same_factors : (k : ℕ) → factor_at k (meaning q) ≡ factor_at k (meaning r)
   same_factors k = (λ i. factor_in ℕ_discrete (map (λ (p : Part). (p.key, ratio p.factor ((is.whole ∙ sym solid.whole) i))) (same_parts i)) k)
 
-  same_times : a.weaker.times ≡ t
+  same_times : w.times ≡ t
   same_times = by_parts f.parts refl
     where
-      by_parts : (ps : List Part) → f.parts ≡ ps → a.weaker.times ≡ t
+      by_parts : (ps : List Part) → f.parts ≡ ps → w.times ≡ t
       by_parts [] e = absurd (mf e)
       by_parts (p ∷ ps) e =
           let x = factor_at p.key (meaning f) in
-          cancel_q x a.weaker.times t (first_some f nf p ps e)
-          (mul_comm_q x a.weaker.times ∙ weaker_factor (meaning f) (meaning r) a.weaker p.key ∙ sym (same_factors p.key) ∙ sym (scaled p.key) ∙ mul_comm_q t x)
+          cancel_q x w.times t (first_some f nf p ps e)
+          (mul_comm_q x w.times ∙ weaker_factor (meaning f) (meaning r) w p.key ∙ sym (same_factors p.key) ∙ sym (scaled p.key) ∙ mul_comm_q t x)
 
   -- the constant over the divisor is that of the rounded form and the rest
-  constant_is : ratio f.constant g ≡ ratio r.constant (pos 1) +ℚ a.weaker.rest
+  constant_is : ratio f.constant g ≡ ratio r.constant (pos 1) +ℚ w.rest
   constant_is =
-      sym (share strict f q nf mf nq is f.constant) ∙ ap (λ x. x *ℚ ratio f.constant f.den) (sym same_times) ∙ a.weaker.same.constants ∙ ap (λ d. ratio r.constant d +ℚ a.weaker.rest) solid.whole
+      sym (share strict f q nf mf nq is f.constant) ∙ ap (λ x. x *ℚ ratio f.constant f.den) (sym same_times) ∙ w.same.constants ∙ ap (λ d. ratio r.constant d +ℚ w.rest) solid.whole
 
-  rest_is : a.weaker.rest ≡ ratio f.constant g +ℚ neg_ℚ (ratio r.constant (pos 1))
+  rest_is : w.rest ≡ ratio f.constant g +ℚ neg_ℚ (ratio r.constant (pos 1))
   rest_is =
-      sym (add_neg_cancel_q (ratio r.constant (pos 1)) a.weaker.rest) ∙ ap (λ x. neg_ℚ (ratio r.constant (pos 1)) +ℚ x) (sym constant_is)
+      sym (add_neg_cancel_q (ratio r.constant (pos 1)) w.rest) ∙ ap (λ x. neg_ℚ (ratio r.constant (pos 1)) +ℚ x) (sym constant_is)
       ∙ add_comm_q (neg_ℚ (ratio r.constant (pos 1))) (ratio f.constant g)
 
   at_most_constant : (r.constant *ℤ g) ≤ℤ f.constant
   at_most_constant =
       not_less_is f.constant (r.constant *ℤ g)
-      (sym (below_whole is.divisor g refl above_zero f.constant r.constant) ∙ ap is_positive (sym (neg_difference (ratio r.constant (pos 1)) (ratio f.constant g)) ∙ ap neg_ℚ (sym rest_is)) ∙ a.weaker.loose)
+      (sym (below_whole is.divisor g refl above_zero f.constant r.constant) ∙ ap is_positive (sym (neg_difference (ratio r.constant (pos 1)) (ratio f.constant g)) ∙ ap neg_ℚ (sym rest_is)) ∙ w.loose)
 
-  below_constant_of : strict ≡ true → (r.constant *ℤ g) <ℤ f.constant
-  below_constant_of e =
-      less_is (r.constant *ℤ g) f.constant (sym (above_whole is.divisor g refl above_zero f.constant r.constant) ∙ ap is_positive (sym rest_is) ∙ a.firm e)
+  module _ (firm : strict ≡ true → is_positive w.rest ≡ true) where
+    below_constant_of : strict ≡ true → (r.constant *ℤ g) <ℤ f.constant
+    below_constant_of e =
+        less_is (r.constant *ℤ g) f.constant (sym (above_whole is.divisor g refl above_zero f.constant r.constant) ∙ ap is_positive (sym rest_is) ∙ firm e)
 
-  slack : (s : Bool) → strict ≡ s → (r.constant *ℤ g) ≤ℤ cond s (f.constant -ℤ pos 1) f.constant
-  slack false e = at_most_constant
-  slack true e = let h = below_constant_of e in omega (arith, ints, h)
+    slack : (s : Bool) → strict ≡ s → (r.constant *ℤ g) ≤ℤ cond s (f.constant -ℤ pos 1) f.constant
+    slack false e = at_most_constant
+    slack true e = let h = below_constant_of e in omega (arith, ints, h)
 
-  most : r.constant ≤ℤ q.constant
-  most = floor_most (cond strict (f.constant -ℤ pos 1) f.constant) is.divisor q.constant r.constant is.floor (slack strict refl)
+    pub most_by_firm : r.constant ≤ℤ q.constant
+    most_by_firm = floor_most (cond strict (f.constant -ℤ pos 1) f.constant) is.divisor q.constant r.constant is.floor (slack strict refl)
 
-  pub solid_above : IsAbove (meaning q) (meaning r) false
+  pub weaker_rounded : r.constant ≤ℤ q.constant → IsWeaker (meaning q) (meaning r)
   unfolding lib.IntN.one
-  solid_above = record {
-    weaker = record {
-      times = one_ℚ;
-      positive = positive_one;
-      rest = ratio q.constant (pos 1) +ℚ neg_ℚ (ratio r.constant (pos 1));
-      loose = ap is_positive (neg_difference (ratio r.constant (pos 1)) (ratio q.constant (pos 1)))
-          ∙ below_whole 1 (pos 1) refl (omega (arith, ints)) q.constant r.constant
-          ∙ not_less_one q.constant r.constant most;
-      same = record {
-        factors = λ k. factor_in-scale ℕ_discrete one_ℚ (meaning q).parts k ∙ one_mul_q (factor_at k (meaning q)) ∙ same_factors k
-            ∙ sym (plus_factor (meaning r) (ratio q.constant (pos 1) +ℚ neg_ℚ (ratio r.constant (pos 1))) k);
-        constants = one_mul_q (ratio q.constant q.den) ∙ ap (ratio q.constant) is.whole
-            ∙ sym (ap (λ d. ratio r.constant d +ℚ (ratio q.constant (pos 1) +ℚ neg_ℚ (ratio r.constant (pos 1)))) solid.whole
-            ∙ ap (λ x. ratio r.constant (pos 1) +ℚ x) (add_comm_q (ratio q.constant (pos 1)) (neg_ℚ (ratio r.constant (pos 1))))
-            ∙ neg_add_cancel_q (ratio r.constant (pos 1)) (ratio q.constant (pos 1)));
-      };
+  weaker_rounded most = record {
+    times = one_ℚ;
+    positive = positive_one;
+    rest = ratio q.constant (pos 1) +ℚ neg_ℚ (ratio r.constant (pos 1));
+    loose = ap is_positive (neg_difference (ratio r.constant (pos 1)) (ratio q.constant (pos 1)))
+        ∙ below_whole 1 (pos 1) refl (omega (arith, ints)) q.constant r.constant
+        ∙ not_less_one q.constant r.constant most;
+    same = record {
+      factors = λ k. factor_in-scale ℕ_discrete one_ℚ (meaning q).parts k ∙ one_mul_q (factor_at k (meaning q)) ∙ same_factors k
+          ∙ sym (plus_factor (meaning r) (ratio q.constant (pos 1) +ℚ neg_ℚ (ratio r.constant (pos 1))) k);
+      constants = one_mul_q (ratio q.constant q.den) ∙ ap (ratio q.constant) is.whole
+          ∙ sym (ap (λ d. ratio r.constant d +ℚ (ratio q.constant (pos 1) +ℚ neg_ℚ (ratio r.constant (pos 1)))) solid.whole
+          ∙ ap (λ x. ratio r.constant (pos 1) +ℚ x) (add_comm_q (ratio q.constant (pos 1)) (neg_ℚ (ratio r.constant (pos 1))))
+          ∙ neg_add_cancel_q (ratio r.constant (pos 1)) (ratio q.constant (pos 1)));
     };
-    firm = λ e. absurd (true_false (sym e));
   }

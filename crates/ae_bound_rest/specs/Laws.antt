@@ -1,5 +1,5 @@
 -- Rows that agree with a journal, over integers too, and the licences of the steps that make their point after the rest of their combinations was noted.
-use Rattle.std.specs.Prelude.{ℕ, Bool, true, false, List, [], ◌∷◌, ◌++◌, ◌≡◌, ◌≢◌, ◌⊎◌, slice_get, Some}
+use Rattle.std.specs.Prelude.{ℕ, Bool, true, List, [], ◌∷◌, ◌++◌, ◌≡◌, ◌≢◌, ◌⊎◌, slice_get, Some}
 use Rattle.std.specs.List.{AllByRecursion, Contains}
 use Rattle.ae_math.specs.Fractions.{zero_ℚ}
 use Rattle.ae_core.specs.Sorts.{sort_of}
@@ -12,7 +12,6 @@ use Rattle.ae_rows.specs.Rows.{IsOver, factor_at}
 use Rattle.ae_journal.specs.Values.{Sum, sum_of_lin, sum_in, minus_val}
 use Rattle.ae_journal.specs.States.{inequality}
 use Rattle.ae_journal.specs.Journals.{OnlyCombines}
-use Rattle.ae_journal.specs.Sides.{IsRounded}
 use Rattle.ae_journal.specs.Standing.{Setting, MayStand, SurelyStands, IsWholeRow, value_now}
 use Rattle.ae_journal.specs.Rows.{IsRow}
 use Rattle.ae_journal.specs.Legal.{AreLegal}
@@ -26,6 +25,7 @@ use Rattle.ae_ineq.specs.Sums.{IsZero}
 use Rattle.ae_ineq.specs.Widths.{IsPointWide}
 use Rattle.ae_bounds.specs.declared.rows.Row.{Row}
 use Rattle.ae_bounds.specs.declared.rows.Origin.TheVariants.{Assumed, Combined}
+use Rattle.ae_bounds.specs.Rounding.{AreSettled}
 use Rattle.ae_bounds.specs.Combinations.{IsExtended}
 use Rattle.ae_bound_lines.specs.Standing.{AreStanding}
 use Rattle.ae_bound_points.specs.Points.{IsNonzeroRow}
@@ -58,10 +58,6 @@ pub record AreAgreed (x : Setting) (js : List Line) (rows : List Row) : Type 0 w
       → (r : Row) × (lower : ℕ) × (upper : ℕ) × Contains rows r × (r.from ≡ Combined lower upper) × (r.lin ≡ h) × (r.strict ≡ b)
   pub noted : (r : Row) (lower upper : ℕ) → Contains rows r → r.from ≡ Combined lower upper → ¬ IsZero (meaning r.lin) → IsNoted js r
 
--- each row over integers allows equality, and rounding it again changes nothing: no rounded constant has left the limits
-abbrev pub AreSolid : List Row → Type 0
-AreSolid rows = (r : Row) → Contains rows r → r.integral ≡ true → r.lin.parts ≢ [] → (r.strict ≡ false) × IsRounded false r.lin r.lin
-
 -- the row of each inequality literal that may stand was assumed, and each row that was assumed is that of one which surely stands
 pub record AreThoseAssumed (x : Setting) (js : List Line) (rows : List Row) : Type 0 where
   pub may : (l : Lit) (s t : Term) (strict : Bool) → MayStand x js l → inequality l ≡ Some (s, t, strict)
@@ -87,5 +83,5 @@ abbrev pub RestLeavesNothing : Type 0
 RestLeavesNothing = (x : Setting) (rows : List Row) (js ks : List Line) → AreAgreed x js rows → AreFinished rows → AreAllNoted rows js ks → AreThoseAssumed x ks rows → NoneLeft x ks
 
 abbrev pub MakingWidthsAreLicensed : Type 0
-MakingWidthsAreLicensed = (x : Setting) (rows : List Row) (js ks : List Line) (w : WideAt) → AreAgreed x js rows → AreFinished rows → AreSolid rows → AreAllNoted rows js ks → AreThoseAssumed x ks rows → IsPointWide (IsNonzeroRow rows) w
+MakingWidthsAreLicensed = (x : Setting) (rows : List Row) (js ks : List Line) (w : WideAt) → AreAgreed x js rows → AreFinished rows → AreSettled rows → AreAllNoted rows js ks → AreThoseAssumed x ks rows → IsPointWide (IsNonzeroRow rows) w
     → IsLicensed x ks w

@@ -8,9 +8,10 @@ ghost use Rattle.ae_bounds.specs.Inner.Directions.{AreIndexed};
 ghost use Rattle.ae_bound_rest.specs.Inner.Pairs.{AreCounted};
 ghost use Rattle.ae_bound_rest.specs.Rest.{plain as plain_row, counted};
 
-use ae_bounds::directions::{Direction, copied, direction_of};
+use ae_bounds::directions::{Direction, direction_of};
 use ae_bounds::noting::add;
 use ae_bounds::rows::{Origin, Row};
+use ae_num::copies::copied;
 use ae_num::forms::Lin;
 use indexmap::IndexSet;
 use sqlite_items::Items;

@@ -133,7 +133,7 @@ module _ (x : Setting) (rows : List Row) (js : List Line) (step : AreInStep x js
 
   -- a form that counts is a row's own
   own_form : (r : Row) (l : Lin) → Contains rows r → HasForm r l → l ≡ r.lin
-  own_form r _ c own = refl
+  own_form r _ c (own m) = refl
   own_form r _ c (assumed tag u e f) = absurd (true_false (sym (done.rounded r u c f).integral ∙ over.real r c))
 
   -- each row that isn't 0 is surely there

@@ -1,5 +1,5 @@
 -- Rows with their directions, and one row more.
-use Rattle.std.specs.Prelude.{ℕ, Bool, true, false, ◌≡◌, ◌⊎◌, Option, Some, None, List, [], ◌∷◌, ◌++◌, take, length, if◌then◌else◌}
+use Rattle.std.specs.Prelude.{ℕ, pos, ◌-ℤ◌, Bool, true, false, ◌≡◌, ◌⊎◌, Option, Some, None, List, [], ◌∷◌, ◌++◌, take, length, if◌then◌else◌}
 use Rattle.std.specs.List.{Contains, list_any}
 use Rattle.std.proofs.Common.{refl, sym, ap, ◌∙◌, subst, inl, inr}
 use Rattle.std.proofs.lemmas.List.Elements.{Contains-append_left, Contains-append_right, Contains-append_cases}
@@ -10,13 +10,14 @@ use Rattle.indexmap.specs.IndexSet.{insert_key}
 use Rattle.ae_base.proofs.AllOf.{all_append}
 use Rattle.ae_base.proofs.Tests.{true_false}
 use Rattle.ae_num.specs.Forms.{meaning, IsNormal}
+use Rattle.ae_num.specs.Limits.{FitsLimits}
 use Rattle.ae_journal.proofs.Splits.{contains_here, contains_one}
 use Rattle.ae_num.specs.declared.forms.Lin.{Lin}
 use Rattle.ae_bounds.specs.declared.rows.Row.{Row}
 use Rattle.ae_bounds.specs.declared.rows.Unrounded.{Unrounded}
 use Rattle.ae_bounds.specs.declared.directions.Direction.{Direction}
 use Rattle.ae_bounds.specs.Combinations.{IsThere}
-use Rattle.ae_bounds.specs.Rounding.{HasForm}
+use Rattle.ae_bounds.specs.Rounding.{HasForm, IsLeastRounded}
 use Rattle.ae_bounds.specs.Rounding.HasForm.{own, assumed}
 use Rattle.ae_bounds.specs.Inner.Directions.{IsDirectionOf, IsEarlier, AreIndexed, is_same, is_same_decides, is_same_equiv}
 use Rattle.ae_bounds.proofs.Zeros.{direction_normal}
@@ -96,7 +97,7 @@ push rows ds es r x n more here less = record {
 
 -- its own form alone
 forms_alone : (r : Row) (d : Direction) (es : List Direction) → IsEarlier r None → IsDirectionOf r.lin d.form → Contains es d → (l : Lin) → HasForm r l → (e : Direction) × Contains es e × IsDirectionOf l e.form
-forms_alone r d es alone i c _ own = (d, c, i)
+forms_alone r d es alone i c _ (own m) = (d, c, i)
 forms_alone r d es alone i c _ (assumed tag u f g) = absurd (alone tag u f g)
 
 pub indexed_added : (rows new : List Row) (ds es : List Direction) (r : Row) (d : Direction) → AreIndexed rows ds → IsDirectionOf r.lin d.form → IsEarlier r None → new ≡ rows ++ r ∷ [] → es ≡ insert_key is_same ds d → AreIndexed new es
@@ -104,19 +105,19 @@ indexed_added rows new ds es r d x i alone e f =
     subst (λ (w : List Row). AreIndexed w es) (sym e)
     (subst (AreIndexed (rows ++ r ∷ [])) (sym f)
     (push rows ds (insert_key is_same ds d) r x (direction_normal r.lin d.form i) (λ h c. insert_more ds d h c) (forms_alone r d (insert_key is_same ds d) alone i (insert_here ds d))
-    (λ h c. elim (insert_less ds d h c) [ inl a ↦ inl a | inr b ↦ inr (r.lin, own, subst (λ (s : Direction). IsDirectionOf r.lin s.form) b i) ])))
+    (λ h c. elim (insert_less ds d h c) [ inl a ↦ inl a | inr b ↦ inr (r.lin, own (λ l. alone l.tag l.earlier l.from l.was), subst (λ (s : Direction). IsDirectionOf r.lin s.form) b i) ])))
 
 -- and the form that it had before it was rounded
 pub same_some : (u v : Unrounded) (o : Option Unrounded) → o ≡ Some u → o ≡ Some v → u ≡ v
 same_some u v o e f = let g : Some u ≡ Some v = sym e ∙ f in cc
 
 forms_both : (r : Row) (d e : Direction) (es : List Direction) → IsEarlier r (Some e) → IsDirectionOf r.lin d.form → Contains es d → Contains es e → (l : Lin) → HasForm r l → (h : Direction) × Contains es h × IsDirectionOf l h.form
-forms_both r d e es two i c k _ own = (d, c, i)
+forms_both r d e es two i c k _ (own m) = (d, c, i)
 forms_both r d e es two i c k _ (assumed tag u f g) = (e, k, subst (λ (v : Unrounded). IsDirectionOf v.lin e.form) (same_some two.1 u r.unrounded two.3 g) two.4)
 
-pub indexed_both : (rows new : List Row) (ds mid es : List Direction) (r : Row) (d e : Direction) → AreIndexed rows ds → IsDirectionOf r.lin d.form → IsEarlier r (Some e) → new ≡ rows ++ r ∷ [] → mid ≡ insert_key is_same ds d → es ≡ insert_key is_same mid e
+pub indexed_both : (rows new : List Row) (ds mid es : List Direction) (r : Row) (d e : Direction) → AreIndexed rows ds → IsDirectionOf r.lin d.form → ¬ IsLeastRounded r → IsEarlier r (Some e) → new ≡ rows ++ r ∷ [] → mid ≡ insert_key is_same ds d → es ≡ insert_key is_same mid e
     → AreIndexed new es
-indexed_both rows new ds mid es r d e x i two h f g =
+indexed_both rows new ds mid es r d e x i more two h f g =
     subst (λ (w : List Row). AreIndexed w es) (sym h)
     (push rows ds es r x (direction_normal r.lin d.form i)
     (λ k c. subst (λ (ws : List Direction). Contains ws k) (sym g) (insert_more mid e k (subst (λ (ws : List Direction). Contains ws k) (sym f) (insert_more ds d k c))))
@@ -126,7 +127,23 @@ indexed_both rows new ds mid es r d e x i two h f g =
     (λ k c. elim (insert_less mid e k (subst (λ (ws : List Direction). Contains ws k) g c)) [
       | inl a ↦ elim (insert_less ds d k (subst (λ (ws : List Direction). Contains ws k) f a)) [
         | inl b ↦ inl b
-        | inr b ↦ inr (r.lin, own, subst (λ (s : Direction). IsDirectionOf r.lin s.form) b i)
+        | inr b ↦ inr (r.lin, own more, subst (λ (s : Direction). IsDirectionOf r.lin s.form) b i)
       ]
       | inr b ↦ inr ((two.1).lin, assumed two.0 two.1 two.2 two.3, subst (λ (s : Direction). IsDirectionOf (two.1).lin s.form) b two.4)
     ]))
+
+-- the form that it had alone, where its own doesn't count
+forms_least : (r : Row) (e : Direction) (es : List Direction) → ¬ FitsLimits (r.lin.constant -ℤ pos 1) → IsEarlier r (Some e) → Contains es e → (l : Lin) → HasForm r l → (h : Direction) × Contains es h × IsDirectionOf l h.form
+forms_least r e es least two k _ (own m) = absurd (m (record { tag = two.0; from = two.2; earlier = two.1; was = two.3; least = least }))
+forms_least r e es least two k _ (assumed tag u f g) = (e, k, subst (λ (v : Unrounded). IsDirectionOf v.lin e.form) (same_some two.1 u r.unrounded two.3 g) two.4)
+
+pub indexed_least : (rows new : List Row) (ds es : List Direction) (r : Row) (e : Direction) → AreIndexed rows ds → IsNormal r.lin → ¬ FitsLimits (r.lin.constant -ℤ pos 1) → IsEarlier r (Some e) → new ≡ rows ++ r ∷ []
+    → es ≡ insert_key is_same ds e → AreIndexed new es
+indexed_least rows new ds es r e x n least two h f =
+    subst (λ (w : List Row). AreIndexed w es) (sym h)
+    (subst (AreIndexed (rows ++ r ∷ [])) (sym f)
+    (push rows ds (insert_key is_same ds e) r x n (λ k c. insert_more ds e k c) (forms_least r e (insert_key is_same ds e) least two (insert_here ds e))
+    (λ k c. elim (insert_less ds e k c) [
+      | inl a ↦ inl a
+      | inr b ↦ inr ((two.1).lin, assumed two.0 two.1 two.2 two.3, subst (λ (s : Direction). IsDirectionOf (two.1).lin s.form) b two.4)
+    ])))

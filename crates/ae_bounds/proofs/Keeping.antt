@@ -1,5 +1,5 @@
 -- The state of an object after rows were added.
-use Rattle.std.specs.Prelude.{ℕ, ◌+◌, ◌<◌, ◌≤◌, ◌≡◌, Bool, ◌||◌, List, [], ◌∷◌, ◌++◌, Result, Ok, Err, OnOk, OnErr, cond, nat_eq, IfSome, Option, Some, None, length, take, slice_get}
+use Rattle.std.specs.Prelude.{ℕ, ◌+◌, ◌<◌, ◌≤◌, ◌≡◌, Bool, true, ◌||◌, List, [], ◌∷◌, ◌++◌, Result, Ok, Err, OnOk, OnErr, cond, nat_eq, IfSome, Option, Some, None, length, take, slice_get}
 use Rattle.std.specs.List.{Contains}
 use Rattle.std.proofs.lemmas.List.Elements.{Contains-append_cases}
 use Rattle.std.proofs.lemmas.Option.{slice_get_within}
@@ -14,7 +14,7 @@ use Rattle.ae_num.specs.Forms.{IsNormal}
 use Rattle.ae_journal.proofs.Splits.{contains_one}
 use Rattle.ae_bounds.specs.declared.rows.Row.{Row}
 use Rattle.ae_bounds.specs.declared.rows.Unrounded.{Unrounded}
-use Rattle.ae_bounds.specs.Rounding.{IsRowOf, WasRounded, AreRounded}
+use Rattle.ae_bounds.specs.Rounding.{StaysUnrounded, IsRowOf, WasRounded, AreRounded, AreSettled}
 use Rattle.ae_bounds.specs.Rounding.IsRowOf.{as_it_is, rounded}
 use Rattle.ae_bounds.proofs.Sums.{some_none}
 use Rattle.ae_bounds.proofs.Indexing.{same_some}
@@ -88,14 +88,31 @@ rounded_extended rows js _ _ (one_more rs ks r e c n) f =
 rounded_extended rows js _ _ (zero_more rs ks r e c z) f =
     rounded_push rs r (rounded_extended rows js rs ks e f) (row_rounded c.of.form (c.first.strict || c.second.strict) r c.of.form_normal c.of.normal c.of.of)
 
+-- ---- rows that weren't
+pub row_settled : (l : Lin) (strict : Bool) (r : Row) → IsRowOf l strict r → r.unrounded ≡ None → r.integral ≡ true → StaysUnrounded r.strict r.lin
+row_settled l strict r (as_it_is a b c d) u i = subst (λ s. StaysUnrounded s r.lin) (sym b) (subst (StaysUnrounded strict) (sym a) (d i))
+row_settled l strict r (rounded a b c d f) u i = absurd (some_none (record { lin = l; strict = strict }) r.unrounded f u)
+
+settled_push : (rows : List Row) (r : Row) → AreSettled rows → (r.unrounded ≡ None → r.integral ≡ true → StaysUnrounded r.strict r.lin) → AreSettled (rows ++ r ∷ [])
+settled_push rows r a new t c e i =
+    elim (Contains-append_cases rows (r ∷ []) t c) [
+      | inl h ↦ a t h e i
+      | inr h ↦ subst (λ (y : Row). y.unrounded ≡ None → y.integral ≡ true → StaysUnrounded y.strict y.lin) (contains_one r t h) new e i
+    ]
+
+settled_extended : (rows : List Row) (js : List Line) (rs : List Row) (ks : List Line) → IsExtended rows js rs ks → AreSettled rows → AreSettled rs
+settled_extended rows js _ _ as_it_was f = f
+settled_extended rows js _ _ (one_more rs ks r e c n) f = settled_push rs r (settled_extended rows js rs ks e f) (row_settled c.of.form (c.first.strict || c.second.strict) r c.of.of)
+settled_extended rows js _ _ (zero_more rs ks r e c z) f = settled_push rs r (settled_extended rows js rs ks e f) (row_settled c.of.form (c.first.strict || c.second.strict) r c.of.of)
+
 at_more : (rows rs : List Row) (js ks : List Line) (k : ℕ) (r : Row) → IsExtended rows js rs ks → slice_get rows k ≡ Some r → slice_get rs k ≡ Some r
 at_more rows rs js ks k r e at = let g = grown rows js rs ks e in ap (λ (w : List Row). slice_get w k) g.1 ∙ get_append rows g.0 k r at
 
 -- ---- the state
 -- more rows behind those that have all their combinations
 kept_append : (rows more : List Row) (ds es : List Direction) (latest : ℕ → Option ℕ) (earlier : List (Option ℕ)) → IsKept rows ds latest earlier → AreIndexed (rows ++ more) es → AreFounded (rows ++ more) → AreRounded (rows ++ more)
-    → IsKept (rows ++ more) es latest earlier
-kept_append rows more ds es latest earlier i x f a =
+    → AreSettled (rows ++ more) → IsKept (rows ++ more) es latest earlier
+kept_append rows more ds es latest earlier i x f a s =
     let h = i.within in
     let l = length-append rows more in
     record {
@@ -103,6 +120,7 @@ kept_append rows more ds es latest earlier i x f a =
       within = omega (arith, h, l);
       founded = f;
       rounded = a;
+      settled = s;
       heads = heads_append rows more latest earlier h i.heads;
       pairs = pairs_append rows more (length earlier) h i.pairs;
     }
@@ -112,7 +130,7 @@ kept_more rows rs js ks ds es latest earlier e i x =
     let g = grown rows js rs ks e in
     subst (λ (w : List Row). IsKept w es latest earlier) (sym g.1)
     (kept_append rows g.0 ds es latest earlier i (subst (λ (w : List Row). AreIndexed w es) g.1 x) (subst AreFounded g.1 (founded_extended rows js rs ks e i.founded))
-    (subst AreRounded g.1 (rounded_extended rows js rs ks e i.rounded)))
+    (subst AreRounded g.1 (rounded_extended rows js rs ks e i.rounded)) (subst AreSettled g.1 (settled_extended rows js rs ks e i.settled)))
 
 -- one row more has all its combinations
 pub kept_step : (rows rs : List Row) (js ks : List Line) (ds es : List Direction) (latest new : ℕ → Option ℕ) (earlier : List (Option ℕ)) (r : Row) (part : Option Part) (head : Option ℕ) → IsExtended rows js rs ks
@@ -128,16 +146,17 @@ kept_step rows rs js ks ds es latest new earlier r part head e i x pairs at last
       within = omega (arith, n, w, l);
       founded = k.founded;
       rounded = k.rounded;
+      settled = k.settled;
       heads = heads_entered rs latest new earlier r part head k.heads (at_more rows rs js ks (length earlier) r e at) last h updates;
       pairs = subst (λ m. AreClosedBelow m rs) (sym l) (closed_step rows rs js ks (length earlier) w e pairs i.pairs);
     }
 
 pub kept_added : {T E : Type 0} (result : Result T E) (rows new : List Row) (r : Row) (ds es : List Direction) (latest : ℕ → Option ℕ) (earlier : List (Option ℕ)) → OnOk result (new ≡ rows ++ r ∷ []) → OnErr result ((new ≡ rows) × (es ≡ ds))
-    → ((lower upper : ℕ) → r.from ≡ Combined lower upper → ⊥) → ((u : Unrounded) → r.unrounded ≡ Some u → WasRounded u r) → IsKept rows ds latest earlier → AreIndexed new es → IsKept new es latest earlier
-kept_added (Ok t) rows new r ds es latest earlier a b o u i x =
+    → ((lower upper : ℕ) → r.from ≡ Combined lower upper → ⊥) → ((u : Unrounded) → r.unrounded ≡ Some u → WasRounded u r) → (r.unrounded ≡ None → r.integral ≡ true → StaysUnrounded r.strict r.lin) → IsKept rows ds latest earlier → AreIndexed new es → IsKept new es latest earlier
+kept_added (Ok t) rows new r ds es latest earlier a b o u s i x =
     subst (λ (w : List Row). IsKept w es latest earlier) (sym a)
-    (kept_append rows (r ∷ []) ds es latest earlier i (subst (λ (w : List Row). AreIndexed w es) a x) (founded_push rows r i.founded (λ lower upper e. absurd (o lower upper e))) (rounded_push rows r i.rounded u))
-kept_added (Err f) rows new r ds es latest earlier a b o u i x =
+    (kept_append rows (r ∷ []) ds es latest earlier i (subst (λ (w : List Row). AreIndexed w es) a x) (founded_push rows r i.founded (λ lower upper e. absurd (o lower upper e))) (rounded_push rows r i.rounded u) (settled_push rows r i.settled s))
+kept_added (Err f) rows new r ds es latest earlier a b o u s i x =
     subst (λ (w : List Row). IsKept w es latest earlier) (sym b.0) (subst (λ (w : List Direction). IsKept rows w latest earlier) (sym b.1) i)
 
 pub none_kept : (latest : ℕ → Option ℕ) → ((n : ℕ) → latest n ≡ None) → IsKept [] [] latest []
@@ -146,6 +165,7 @@ none_kept latest none = record {
   within = omega arith;
   founded = λ k lower upper r e o. absurd (let h = slice_get_within [] k r e in omega (arith, h));
   rounded = λ r u c. absurd (let h = c.1 in omega (arith, h));
+  settled = λ r c e i. absurd (let h = c.1 in omega (arith, h));
   heads = record {
     last = λ n. subst (IsLastBefore [] n 0) (sym (none n)) (λ k l s. absurd (omega (arith, s)));
     before = λ k n o a e. absurd (let h = slice_get_within [] k o e in omega (arith, h));
@@ -168,6 +188,7 @@ kept_same rows ds latest new earlier es e same i =
       within = i.within;
       founded = i.founded;
       rounded = i.rounded;
+      settled = i.settled;
       heads = record { last = λ n. subst (IsLastBefore rows n (length earlier)) (sym (same n)) (i.heads.last n); before = i.heads.before };
       pairs = i.pairs;
     })

@@ -7,6 +7,7 @@ pub mod Closing
 pub mod LargestNames
 pub mod Lasts
 pub mod Made
+pub mod OwnForms
 pub mod Noted
 pub mod Feeding
 pub mod Sums

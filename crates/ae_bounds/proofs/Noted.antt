@@ -17,20 +17,20 @@ use Rattle.ae_bounds.specs.declared.rows.Row.{Row}
 use Rattle.ae_bounds.specs.declared.rows.Origin.TheVariants.{Combined}
 use Rattle.ae_theory.specs.declared.theory.Fail.{Fail}
 use Rattle.ae_bounds.specs.Combinations.{IsThere, IsCombined, IsExtended, HasZero, IsHeld}
-use Rattle.ae_bounds.specs.Rounding.HasForm.{own}
 use Rattle.ae_bounds.specs.Inner.Pairs.{IsMadeOf, IsPairThere}
+use Rattle.ae_bounds.proofs.OwnForms.{own_combined}
 use Rattle.ae_bounds.proofs.Zeros.{form_zero}
 use Rattle.ae_bounds.specs.Combinations.IsExtended.{as_it_was, one_more, zero_more}
 
-there_last : (rows : List Row) (r : Row) → IsThere (rows ++ r ∷ []) (meaning r.lin)
-there_last rows r =
-    record { row = r; among = Contains-append_right rows (r ∷ []) r (contains_here r []); form = r.lin; of = own; times = one_ℚ; positive = positive_one; same = scale_one ℕ_discrete (meaning r.lin) }
+there_last : (rows : List Row) (r : Row) (i j : ℕ) → r.from ≡ Combined i j → IsThere (rows ++ r ∷ []) (meaning r.lin)
+there_last rows r i j e =
+    record { row = r; among = Contains-append_right rows (r ∷ []) r (contains_here r []); form = r.lin; of = own_combined r i j e; times = one_ℚ; positive = positive_one; same = scale_one ℕ_discrete (meaning r.lin) }
 
 zero_last : (rows : List Row) (r : Row) (i j : ℕ) → r.from ≡ Combined i j → IsZero (meaning r.lin) → HasZero (rows ++ r ∷ [])
 zero_last rows r i j e z = record { row = r; among = Contains-append_right rows (r ∷ []) r (contains_here r []); zero = z; lower = i; upper = j; from = e }
 
 held_last : (rows : List Row) (r : Row) (i j : ℕ) → r.from ≡ Combined i j → IsHeld (rows ++ r ∷ []) (meaning r.lin)
-held_last rows r i j e = record { there = there_last rows r; zero = λ z. zero_last rows r i j e z }
+held_last rows r i j e = record { there = there_last rows r i j e; zero = λ z. zero_last rows r i j e z }
 
 pub held_noted : {T : Type 0} (rows new : List Row) (r : Row) (i j : ℕ) (result : Result T Fail) → r.from ≡ Combined i j → OnOk result (new ≡ rows ++ r ∷ []) → OnOk result (IsHeld new (meaning r.lin))
 held_noted rows new r i j (Ok x) f e = subst (λ (rs : List Row). IsHeld rs (meaning r.lin)) (sym e) (held_last rows r i j f)

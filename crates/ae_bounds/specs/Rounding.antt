@@ -1,8 +1,9 @@
 -- Rows of sort `int`, which are rounded when they are kept.
-use Rattle.std.specs.Prelude.{ℕ, Bool, true, false, Some, None, List, [], ◌≡◌, ◌≢◌}
+use Rattle.std.specs.Prelude.{ℕ, Bool, true, false, Some, None, List, [], ◌≡◌, ◌≢◌, pos, ◌-ℤ◌}
 use Rattle.std.specs.List.{Contains}
 use Rattle.ae_num.specs.declared.forms.Lin.{Lin}
 use Rattle.ae_num.specs.Forms.{IsNormal}
+use Rattle.ae_num.specs.Limits.{FitsLimits}
 use Rattle.ae_journal.specs.Sides.{IsRounded}
 use Rattle.ae_rounding.specs.Outside.{IsOutside}
 use Rattle.ae_bounds.specs.declared.rows.Row.{Row}
@@ -27,9 +28,17 @@ pub record IsAssumed (l : Lin) (strict integral : Bool) (tag : ℕ) (r : Row) : 
   pub sort : r.integral ≡ integral
   pub normal : IsNormal r.lin
 
--- the forms of a row that count in a journal: its own, and of an assumed row the one that it had before it was rounded
+-- an assumed row that was rounded to the least constant within the limits: a strict row of its form says more, and can't be rounded
+pub record IsLeastRounded (r : Row) : Type 0 where
+  pub tag : ℕ
+  pub from : r.from ≡ Assumed tag
+  pub earlier : Unrounded
+  pub was : r.unrounded ≡ Some earlier
+  pub least : ¬ FitsLimits (r.lin.constant -ℤ pos 1)
+
+-- the forms of a row that count where a combination may be a multiple of them: its own, unless it is such a row, and of an assumed row the one that it had before it was rounded
 pub data HasForm (r : Row) : Lin → Type 0 where
-  own : HasForm r r.lin
+  own : ¬ IsLeastRounded r → HasForm r r.lin
   assumed : (tag : ℕ) (u : Unrounded) → r.from ≡ Assumed tag → r.unrounded ≡ Some u → HasForm r u.lin
 
 -- what a row of sort `int` was before it was rounded
@@ -40,6 +49,10 @@ pub record WasRounded (u : Unrounded) (r : Row) : Type 0 where
   pub is : IsRounded u.strict u.lin r.lin
   pub loose : r.strict ≡ false
   pub row_normal : IsNormal r.lin
+
+-- the rows over integers that weren't rounded: numbers, those that rounding leaves as they are, and those whose rounded constant is outside the limits
+abbrev pub AreSettled : List Row → Type 0
+AreSettled rows = (r : Row) → Contains rows r → r.unrounded ≡ None → r.integral ≡ true → StaysUnrounded r.strict r.lin
 
 abbrev pub AreRounded : List Row → Type 0
 AreRounded rows = (r : Row) (u : Unrounded) → Contains rows r → r.unrounded ≡ Some u → WasRounded u r

@@ -11,7 +11,7 @@ ghost use Rattle.indexmap.specs.IndexMap.{get};
 ghost use Rattle.ae_bounds.specs.Inner.Heads.{AreBefore, IsHeadAt};
 ghost use Rattle.ae_theory.specs.declared.theory.Fail.TheVariants.{Steps, Number};
 ghost use Rattle.ae_bounds.specs.declared.rows.Row.{Row};
-ghost use Rattle.ae_bounds.specs.Rounding.{IsAssumed, AreRounded};
+ghost use Rattle.ae_bounds.specs.Rounding.{IsAssumed, AreRounded, AreSettled};
 ghost use Rattle.ae_bounds.specs.declared.finding.Found.TheVariants.{Open, Tight, Contradiction};
 ghost use Rattle.ae_ineq.specs.Sums.{HasTightSum, HasRefutedSum};
 ghost use Rattle.ae_bounds.specs.Findings.{given_in, AreFounded, IsRefutedAt, IsTightAt, NoneIsRefuted};
@@ -276,6 +276,7 @@ impl Bounds {
         ensures normal { AllByRecursion (λ row. IsNormal row.lin) self.now }
         ensures founded { AreFounded self.now }
         ensures rounded { AreRounded self.now }
+        ensures settled { AreSettled self.now }
     {
         self.rows.as_slice()
     }

@@ -7,10 +7,10 @@ ghost use Rattle.ae_journal.specs.declared.answers.WideAt.{WideAt};
 ghost use Rattle.ae_theory.specs.declared.theory.Fail.TheVariants.{Steps, Number};
 ghost use Rattle.ae_bounds.specs.Inner.Pairs.{HaveLast, IsCombineWide};
 
-use crate::directions::copied;
 use ae_ineq::combining::combine;
 use ae_ineq::rows::last;
 use ae_journal::answers::{NumStep, WideAt};
+use ae_num::copies::copied;
 use ae_num::forms::{Lin, Name, Part};
 use ae_num::numbers::NumFail;
 use ae_theory::theory::Fail;

@@ -6,9 +6,9 @@ ghost use Rattle.ae_bounds.specs.Inner.Directions.{IsDirectionOf, IsEarlier, par
 ghost use Rattle.ae_bounds.specs.declared.rows.Origin.TheVariants.{Assumed};
 
 use crate::rows::Row;
-use ae_ineq::rows::{direction, same_form};
+use ae_ineq::rows::direction;
+use ae_num::copies::{copied, same_form};
 use ae_num::forms::{Lin, Part};
-use sqlite_items::Items;
 use std::alloc::{AllocError, Global};
 use std::hash::{Hash, Hasher};
 
@@ -81,18 +81,6 @@ impl Hash for Direction {
         state.write_i128(self.form.constant);
         hash_parts(self.form.parts.as_slice(), state);
     }
-}
-
-/// A form with the same numbers.
-pub fn copied(alloc: Global, form: &Lin) -> Result<Lin, AllocError>
-    ensures { IfOk result (λ copy. copy ≡ form.now) }
-{
-    let parts = Items::from_slice(alloc, form.parts.as_slice())?;
-    Ok(Lin {
-        den: form.den,
-        parts,
-        constant: form.constant,
-    })
 }
 
 /// Whether a form is 0.

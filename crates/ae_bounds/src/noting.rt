@@ -1,17 +1,23 @@
 //! Rows that are added, with their directions and their lines.
 
-ghost use Rattle.std.specs.Prelude.{◌≡◌, ◌≢◌, ◌++◌, ◌∷◌, [], OnOk, OnErr, IfOk, IsTrue, true, false, Err, not, Some, None, take, length, ◌+◌, if◌then◌else◌};
+ghost use Rattle.std.specs.Prelude.{◌-ℤ◌, pos, ◌≡◌, ◌≢◌, ◌++◌, ◌∷◌, [], OnOk, OnErr, IfOk, IsTrue, true, false, Err, not, Some, None, take, length, ◌+◌, if◌then◌else◌};
 ghost use Rattle.indexmap.specs.IndexSet.{contains, insert_key};
 ghost use Rattle.ae_journal.specs.Journals.{counted_in};
 ghost use Rattle.ae_journal.specs.declared.lines.Line.TheVariants.{Combine};
 ghost use Rattle.ae_journal.specs.declared.answers.WideAt.{WideAt};
+ghost use Rattle.ae_num.specs.Forms.{IsNormal};
+ghost use Rattle.ae_num.specs.Limits.{FitsLimits};
 ghost use Rattle.ae_theory.specs.declared.theory.Fail.TheVariants.{Steps, Number};
+ghost use Rattle.ae_bounds.specs.Rounding.{IsLeastRounded};
 ghost use Rattle.ae_bounds.specs.Inner.Directions.{AreIndexed, IsDirectionOf, IsEarlier, is_same};
 
-use crate::directions::{Direction, copied};
+use crate::directions::Direction;
 use crate::rows::Row;
+use ae_core::sorts::is_within;
 use ae_journal::journal::{Journal, JournalFail};
 use ae_journal::lines::Line;
+use ae_num::copies::copied;
+use ae_num::forms::Lin;
 use ae_theory::theory::Fail;
 use indexmap::IndexSet;
 use sqlite_items::Items;
@@ -93,8 +99,26 @@ pub fn add(
     push(rows, directions, row, direction)
 }
 
+/// Adds a row with the direction of the form that it had before it was rounded, which alone counts. Refused memory leaves the rows as they were.
+fn add_earlier(
+    rows: &mut Items<Row>,
+    directions: &mut IndexSet<Direction>,
+    row: Row,
+    earlier: Direction,
+) -> Result<(), AllocError>
+    requires normal { IsNormal row.lin }
+    requires least { FitsLimits (row.lin.constant -ℤ pos 1) → ⊥ }
+    requires earlier { IsEarlier row (Some earlier) }
+    requires indexed { AreIndexed rows.old directions.old.keys }
+    ensures added { OnOk result (rows.new ≡ rows.old ++ row ∷ []) }
+    ensures kept { OnErr result ((rows.new ≡ rows.old) × (directions.new.keys ≡ directions.old.keys)) }
+    ensures indexed { AreIndexed rows.new directions.new.keys }
+{
+    push(rows, directions, row, earlier)
+}
+
 /// Adds a row with its direction and that of the form that it had before it was rounded. Refused memory leaves the rows as they were.
-fn add_both(
+fn add_two(
     rows: &mut Items<Row>,
     directions: &mut IndexSet<Direction>,
     row: Row,
@@ -102,6 +126,7 @@ fn add_both(
     earlier: Direction,
 ) -> Result<(), AllocError>
     requires direction { IsDirectionOf row.lin direction.form }
+    requires more { IsLeastRounded row → ⊥ }
     requires earlier { IsEarlier row (Some earlier) }
     requires indexed { AreIndexed rows.old directions.old.keys }
     ensures added { OnOk result (rows.new ≡ rows.old ++ row ∷ []) }
@@ -113,6 +138,51 @@ fn add_both(
     push_more(rows, directions, earlier, count)
 }
 
+/// The number before one within the limits.
+fn less_one(number: i128) -> i128
+    requires { FitsLimits number }
+    ensures { result ≡ number -ℤ pos 1 }
+{
+    number - 1
+}
+
+/// Whether the constant of a form is the least within the limits.
+fn is_least(form: &Lin) -> bool
+    requires { FitsLimits form.now.constant }
+    ensures yes { result ≡ true → FitsLimits (form.now.constant -ℤ pos 1) → ⊥ }
+    ensures no { result ≡ false → FitsLimits (form.now.constant -ℤ pos 1) }
+{
+    let less = less_one(form.constant);
+    !is_within(less)
+}
+
+/// Lets go the direction of a row's own form, which doesn't count.
+fn let_go(_direction: Direction) {}
+
+/// Adds a row that was rounded with its direction and that of the form that it had before. Where its constant is the least within the limits, its own form doesn't
+/// count: a strict row of that form says more. Refused memory leaves the rows as they were.
+fn add_both(
+    rows: &mut Items<Row>,
+    directions: &mut IndexSet<Direction>,
+    row: Row,
+    direction: Direction,
+    earlier: Direction,
+) -> Result<(), AllocError>
+    requires normal { IsNormal row.lin }
+    requires direction { IsDirectionOf row.lin direction.form }
+    requires earlier { IsEarlier row (Some earlier) }
+    requires indexed { AreIndexed rows.old directions.old.keys }
+    ensures added { OnOk result (rows.new ≡ rows.old ++ row ∷ []) }
+    ensures kept { OnErr result ((rows.new ≡ rows.old) × (directions.new.keys ≡ directions.old.keys)) }
+    ensures indexed { AreIndexed rows.new directions.new.keys }
+{
+    if is_least(&row.lin) {
+        let_go(direction);
+        return add_earlier(rows, directions, row, earlier);
+    }
+    add_two(rows, directions, row, direction, earlier)
+}
+
 /// Adds a row that was assumed. Refused memory leaves the rows as they were.
 pub fn add_assumed(
     rows: &mut Items<Row>,
@@ -121,6 +191,7 @@ pub fn add_assumed(
     direction: Direction,
     earlier: Option<Direction>,
 ) -> Result<(), AllocError>
+    requires normal { IsNormal row.lin }
     requires direction { IsDirectionOf row.lin direction.form }
     requires earlier { IsEarlier row earlier }
     requires indexed { AreIndexed rows.old directions.old.keys }

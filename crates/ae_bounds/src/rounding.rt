@@ -5,7 +5,7 @@ ghost use Rattle.ae_num.specs.Forms.{IsNormal};
 ghost use Rattle.ae_bounds.specs.Rounding.{IsRowOf, StaysUnrounded};
 
 use crate::rows::{Origin, Row, Unrounded};
-use ae_ineq::rows::same_form;
+use ae_num::copies::same_form;
 use ae_num::forms::Lin;
 use ae_rounding::rounding::rounded;
 use std::alloc::{AllocError, Global};

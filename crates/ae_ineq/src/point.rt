@@ -19,7 +19,8 @@ ghost use Rattle.ae_ineq.specs.Inner.Points.{IsNumber, IsNumberOrNone, value_in,
 use crate::elimination::Stage;
 use crate::rows::{Row, last};
 use crate::steps::{PointFail, added, multiplied, replaced};
-use ae_num::forms::{Lin, Name, Part, fraction, one, zero};
+use ae_num::copies::copied;
+use ae_num::forms::{Lin, Name, fraction, one, zero};
 use sqlite_items::Items;
 use std::alloc::{AllocError, Global};
 
@@ -28,17 +29,6 @@ use std::alloc::{AllocError, Global};
 pub struct Valuation {
     pub name: Name,
     pub value: Lin,
-}
-
-/// A copy of a form.
-pub fn copied(alloc: Global, form: &Lin) -> Result<Lin, AllocError>
-    ensures { IfOk result (λ copy. copy ≡ form.now) }
-{
-    Ok(Lin {
-        den: form.den,
-        parts: Items::from_slice(alloc, form.parts.as_slice())?,
-        constant: form.constant,
-    })
 }
 
 /// The value of a name, 0 where it has none.

@@ -6,7 +6,8 @@ ghost use Rattle.ae_num.specs.Limits.{FitsLimits};
 ghost use Rattle.ae_ineq.specs.Inner.Primitive.{IsPrimitive};
 ghost use Rattle.ae_ineq.specs.Inner.Sets.{last_part, IsMultiple, IsRow, HasDirection};
 
-use ae_num::forms::{Lin, Name, Part};
+use ae_num::copies::same_form;
+use ae_num::forms::{Lin, Part};
 use ae_num::reduction::{common_divisor, reduced};
 use sqlite_items::Items;
 use std::alloc::{AllocError, Global};
@@ -83,32 +84,6 @@ pub fn row_of(alloc: Global, lin: Lin, strict: bool) -> Result<Row, AllocError>
         strict,
         direction,
     })
-}
-
-/// Whether two lists of parts are equal.
-fn same_parts(left: &[Part], right: &[Part]) -> bool
-    ensures same { result ≡ true → left.now ≡ right.now }
-    ensures differ { result ≡ false → left.now ≢ right.now }
-{
-    if left.len() != right.len() {
-        return false;
-    }
-    for i in 0..left.len() {
-        if left[i].key != right[i].key || left[i].factor != right[i].factor {
-            return false;
-        }
-    }
-    true
-}
-
-/// Whether two forms are equal.
-pub fn same_form(left: &Lin, right: &Lin) -> bool
-    ensures same { result ≡ true → left.now ≡ right.now }
-    ensures differ { result ≡ false → left.now ≢ right.now }
-{
-    left.den == right.den
-        && left.constant == right.constant
-        && same_parts(left.parts.as_slice(), right.parts.as_slice())
 }
 
 /// Whether one of the rows has the direction.

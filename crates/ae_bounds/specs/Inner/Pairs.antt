@@ -10,7 +10,7 @@ use Rattle.ae_bounds.specs.declared.directions.Direction.{Direction}
 use Rattle.ae_bounds.specs.Inner.Directions.{AreIndexed}
 use Rattle.ae_bounds.specs.declared.combining.Opposed.{Opposed}
 use Rattle.ae_bounds.specs.Combinations.{IsCombinationOf, IsDone}
-use Rattle.ae_bounds.specs.Rounding.{AreRounded}
+use Rattle.ae_bounds.specs.Rounding.{AreRounded, AreSettled}
 use Rattle.ae_bounds.specs.Findings.{AreFounded}
 use Rattle.ae_bounds.specs.Inner.Heads.{AreHeads}
 
@@ -51,5 +51,6 @@ pub record IsKept (rows : List Row) (ds : List Direction) (latest : ℕ → Opti
   pub within : length earlier ≤ length rows
   pub founded : AreFounded rows
   pub rounded : AreRounded rows
+  pub settled : AreSettled rows
   pub heads : AreHeads rows latest earlier
   pub pairs : AreClosedBelow (length earlier) rows
