@@ -1,0 +1,2 @@
+-- How multisets of names descend from one another.
+pub mod Descents
