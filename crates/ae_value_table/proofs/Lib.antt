@@ -1,0 +1,4 @@
+pub mod ValueLaws
+pub mod Least
+pub mod Places
+pub mod Versioning
