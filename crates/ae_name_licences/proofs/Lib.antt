@@ -1,0 +1,4 @@
+mod Now
+mod Solved
+mod Legal
+mod Widths
