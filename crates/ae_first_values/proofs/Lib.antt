@@ -1,0 +1,4 @@
+pub mod Keys
+pub mod Limits
+mod Written
+mod Inverses

@@ -1,0 +1,1 @@
+-- Nothing of its own: the contracts speak of the words of ae_num, ae_state_steps and ae_value_steps.

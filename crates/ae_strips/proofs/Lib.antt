@@ -1,0 +1,6 @@
+pub mod FieldTerms
+pub mod FieldSorts
+pub mod Freedom
+pub mod Totals
+mod FieldSteps
+mod FieldMoves

@@ -1,0 +1,3 @@
+-- Fields and written records as nodes, and the steps between names of fields.
+pub mod FieldNodes
+pub mod Saying
