@@ -1,0 +1,4 @@
+mod RestLaws
+mod OrderLaws
+mod SideLaws
+mod RightLaws

@@ -1,0 +1,4 @@
+mod ChainLaws
+pub mod QueueLaws
+mod TakenOut
+mod Lasting

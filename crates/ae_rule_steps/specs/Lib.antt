@@ -1,0 +1,2 @@
+-- Rules whose equations steps state, and multisets that they reduce with their steps.
+pub mod Said
