@@ -1,0 +1,2 @@
+-- Derivations that are joined.
+pub mod Joining

@@ -1,0 +1,2 @@
+-- What steps assume (Assuming).
+pub mod Assuming

@@ -1,0 +1,4 @@
+//! What the equations of steps follow from. Laws alone.
+#![tactic(auto)]
+
+pub mod laws;
