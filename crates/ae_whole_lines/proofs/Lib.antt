@@ -1,0 +1,5 @@
+pub mod LastBytes
+pub mod SameTokens
+pub mod SameRules
+pub mod SameFiles
+pub mod Parting
