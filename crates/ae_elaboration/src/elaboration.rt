@@ -1,9 +1,9 @@
 //! The rules of elaboration on terms and formulas, one function for each: what of a typed text has no form of its own is
 //! written with what has one.
 
-ghost use Rattle.std.specs.Prelude.{◌≡◌, ◌++◌, ◌∷◌, [], List, Some, IfOk};
+ghost use Rattle.std.specs.Prelude.{◌≡◌, ◌++◌, ◌∷◌, [], List, Some, Ok, IfOk};
 ghost use Rattle.std.specs.Option.{option_copied};
-ghost use Rattle.ae_core.specs.declared.formulas.Formula.{Formula, Eq, Lt, Le, Not, And, Or, out-Formula};
+ghost use Rattle.ae_core.specs.declared.formulas.Formula.{Formula, Eq, Lt, Le, Not, Or, out-Formula};
 ghost use Rattle.ae_core.specs.declared.terms.Head.TheVariants as head;
 ghost use Rattle.ae_core.specs.declared.terms.Term.{Term, Apply};
 ghost use Rattle.ae_elab.specs.Elaboration as rule;
@@ -46,48 +46,73 @@ pub fn negation(alloc: Global, formula: Formula) -> Result<Formula, AllocError>
     Ok(Formula::Not(Boxed::new(alloc, formula)?))
 }
 
-fn conjunction(alloc: Global, left: Formula, right: Formula) -> Result<Formula, AllocError>
-    ensures { IfOk result (λ f. f ≡ And left right) }
+// Both boxes, or the first error.
+fn both(
+    first: Result<Boxed<Formula>, AllocError>,
+    second: Result<Boxed<Formula>, AllocError>,
+) -> Result<(Boxed<Formula>, Boxed<Formula>), AllocError>
+    ensures first { IfOk result (λ boxes. first ≡ Ok boxes.0) }
+    ensures second { IfOk result (λ boxes. second ≡ Ok boxes.1) }
 {
-    Ok(Formula::And(Boxed::new(alloc, left)?, Boxed::new(alloc, right)?))
+    let first = first?;
+    let second = second?;
+    Ok((first, second))
 }
 
 fn disjunction(alloc: Global, left: Formula, right: Formula) -> Result<Formula, AllocError>
     ensures { IfOk result (λ f. f ≡ Or left right) }
 {
-    Ok(Formula::Or(Boxed::new(alloc, left)?, Boxed::new(alloc, right)?))
+    let first = Boxed::new(alloc, left);
+    let second = Boxed::new(alloc, right);
+    let (left, right) = both(first, second)?;
+    Ok(Formula::Or(left, right))
+}
+
+// `not a` in a box.
+fn denial(alloc: Global, formula: Formula) -> Result<Boxed<Formula>, AllocError>
+    ensures { IfOk result (λ b. b ≡ Not formula) }
+{
+    let denied = negation(alloc, formula)?;
+    let held = Boxed::new(alloc, denied)?;
+    Ok(held)
 }
 
 /// `a -> b`: `not a or b`.
 pub fn implication(alloc: Global, left: Formula, right: Formula) -> Result<Formula, AllocError>
     ensures { IfOk result (λ f. f ≡ Or (Not left) right) }
 {
-    let denied = negation(alloc, left)?;
-    let whole = disjunction(alloc, denied, right)?;
-    Ok(whole)
+    let second = Boxed::new(alloc, right);
+    let first = denial(alloc, left);
+    let (denied, right) = both(first, second)?;
+    Ok(Formula::Or(denied, right))
 }
 
-// `not c or a`.
-fn where_true(alloc: Global, condition: &Formula, positive: Formula) -> Result<Formula, AllocError>
-    ensures { IfOk result (λ f. f ≡ Or (Not condition.now) positive) }
-{
-    let copy = copy_formula(alloc, condition)?;
-    let whole = implication(alloc, copy, positive)?;
-    Ok(whole)
-}
-
-// `first and (c or b)`.
-fn and_where_false(
+// `not c or a` in a box.
+fn where_true(
     alloc: Global,
-    first: Formula,
+    condition: &Formula,
+    positive: Formula,
+) -> Result<Boxed<Formula>, AllocError>
+    ensures { IfOk result (λ b. b ≡ Or (Not condition.now) positive) }
+{
+    let positive = Boxed::new(alloc, positive)?;
+    let copy = copy_formula(alloc, condition)?;
+    let denied = denial(alloc, copy)?;
+    let held = Boxed::new(alloc, Formula::Or(denied, positive))?;
+    Ok(held)
+}
+
+// `c or b` in a box.
+fn where_false(
+    alloc: Global,
     condition: Formula,
     negative: Formula,
-) -> Result<Formula, AllocError>
-    ensures { IfOk result (λ f. f ≡ And first (Or condition negative)) }
+) -> Result<Boxed<Formula>, AllocError>
+    ensures { IfOk result (λ b. b ≡ Or condition negative) }
 {
-    let second = disjunction(alloc, condition, negative)?;
-    let whole = conjunction(alloc, first, second)?;
-    Ok(whole)
+    let whole = disjunction(alloc, condition, negative)?;
+    let held = Boxed::new(alloc, whole)?;
+    Ok(held)
 }
 
 /// `if c then a else b` between formulas: `(not c or a) and (c or b)`.
@@ -99,13 +124,14 @@ pub fn either_way(
 ) -> Result<Formula, AllocError>
     ensures { IfOk result (λ f. f ≡ rule.either_way condition positive negative) }
 {
-    let first = where_true(alloc, &condition, positive)?;
-    let whole = and_where_false(alloc, first, condition, negative)?;
-    Ok(whole)
+    let yes = where_true(alloc, &condition, positive);
+    let no = where_false(alloc, condition, negative);
+    let (first, second) = both(yes, no)?;
+    Ok(Formula::And(first, second))
 }
 
 // `not (t = u)`.
-fn unequal(alloc: Global, left: &Term, right: &Term) -> Result<Formula, AllocError>
+fn unequal(alloc: Global, left: &Term, right: &Term) -> Result<Boxed<Formula>, AllocError>
     ensures { IfOk result (λ f. f ≡ Not (Eq left.now right.now)) }
 {
     let first = copy_term(alloc, left)?;
@@ -114,7 +140,7 @@ fn unequal(alloc: Global, left: &Term, right: &Term) -> Result<Formula, AllocErr
         left: first,
         right: second,
     };
-    let whole = negation(alloc, equation)?;
+    let whole = denial(alloc, equation)?;
     Ok(whole)
 }
 
@@ -159,22 +185,26 @@ pub fn related(
 }
 
 // A formula behind others, in a conjunction that is grouped to the left.
-fn joined(alloc: Global, before: Option<Formula>, formula: Formula) -> Result<Formula, AllocError>
+fn joined(
+    alloc: Global,
+    before: Option<Boxed<Formula>>,
+    formula: Boxed<Formula>,
+) -> Result<Boxed<Formula>, AllocError>
     ensures { IfOk result (λ f. (rest : List Formula) → all_with (Some f) rest ≡ all_with before (formula ∷ rest)) }
 {
     match before {
         None => Ok(formula),
-        Some(before) => conjunction(alloc, before, formula),
+        Some(before) => Boxed::new(alloc, Formula::And(before, formula)),
     }
 }
 
 // That a term differs from each of some others, behind other formulas.
 fn and_differences(
     alloc: Global,
-    before: Option<Formula>,
+    before: Option<Boxed<Formula>>,
     term: &Term,
     others: &[Term],
-) -> Result<Option<Formula>, AllocError>
+) -> Result<Option<Boxed<Formula>>, AllocError>
     ensures { IfOk result (λ w. (rest : List Formula) → all_with w rest ≡ all_with before (rule.differs_from term.now others.now ++ rest)) }
 {
     let mut whole = before;
@@ -194,7 +224,7 @@ pub fn distinct(alloc: Global, terms: &[Term]) -> Result<Formula, AllocError>
         whole = and_differences(alloc, whole, &terms[i], &terms[i + 1..])?;
     }
     match whole {
-        Some(formula) => Ok(formula),
+        Some(formula) => Ok(formula.into_inner()),
         None => Ok(Formula::True),
     }
 }

@@ -61,9 +61,12 @@ pub fn choice(
 ) -> Result<Cases, AllocError>
     ensures { IfOk result (λ cs. cases_of cs ≡ branch condition (cases_of positive) (cases_of negative)) }
 {
+    let kept = Boxed::new(alloc, condition);
     let left = Boxed::new(alloc, positive);
     let right = Boxed::new(alloc, negative);
-    let (positive, negative) = both(left, right)?;
+    let parts = both(left, right);
+    let (kept, (positive, negative)) = both(kept, parts)?;
+    let condition = kept.into_inner();
     Ok(Cases::Branch {
         condition,
         positive,
@@ -80,7 +83,10 @@ fn choice_of(
 ) -> Result<Cases, AllocError>
     ensures { IfOk result (IsChoice condition positive negative) }
 {
-    let (left, right) = both(positive, negative)?;
+    let kept = Boxed::new(alloc, condition);
+    let cases = both(positive, negative);
+    let (kept, (left, right)) = both(kept, cases)?;
+    let condition = kept.into_inner();
     let whole = choice(alloc, condition, left, right)?;
     Ok(whole)
 }
@@ -327,7 +333,10 @@ fn either_of(
 ) -> Result<Formula, AllocError>
     ensures { IfOk result (IsEitherWay condition positive negative) }
 {
-    let (left, right) = both(positive, negative)?;
+    let kept = Boxed::new(alloc, condition);
+    let formulas = both(positive, negative);
+    let (kept, (left, right)) = both(kept, formulas)?;
+    let condition = kept.into_inner();
     let whole = either_way(alloc, condition, left, right)?;
     Ok(whole)
 }

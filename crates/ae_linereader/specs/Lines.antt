@@ -104,36 +104,43 @@ module _ (sig : Signature) where
   abbrev pub block_read : List ℕ → Read Block
   block_read bytes = after_read (block_lines_code.read bytes) (λ v rest. got (record { deriv = record { hyps = v.0; lines = v.1.0 }; ending = v.1.1 }) rest)
 
-  -- ---- clause lines
+  -- ---- clause lines, each behind its word
+  abbrev pub axiom_read : List ℕ → Read ProofStep
+  axiom_read bytes =
+      after_read ((number (sizes by_blank)).read bytes) (λ n r.
+      after_read (bracketed_read (sorts_read sig) r) (λ ss rest. got (clausal.Line (Hyp n.0 ss)) rest))
+
+  abbrev pub definition_read : List ℕ → Read ProofStep
+  definition_read bytes = after_read ((number (sizes by_blank)).read bytes) (λ n r. after_read ((formula_code sig [] by_line).read r) (λ f rest. got (clausal.Line (Def n.0 f.0)) rest))
+
+  abbrev pub instance_read : List ℕ → Read ProofStep
+  instance_read bytes =
+      after_read ((formula_code sig [] by_blank).read bytes) (λ f r.
+      after_read (bracketed_read (list_read 93 (square_terms sig [])) r) (λ ts rest. got (clausal.Line (Inst f.0 ts)) rest))
+
+  abbrev pub fresh_read : List ℕ → Read ProofStep
+  fresh_read bytes = after_read ((formula_code sig [] by_blank).read bytes) (λ f r. after_read ((number (sizes by_line)).read r) (λ n rest. got (clausal.Line (Fresh f.0 n.0)) rest))
+
+  abbrev pub exhaustion_read : List ℕ → Read ProofStep
+  exhaustion_read bytes = after_read ((term_code sig [] by_line).read bytes) (λ t rest. got (clausal.Line (Exh t.0)) rest)
+
+  abbrev pub trichotomy_read : List ℕ → Read ProofStep
+  trichotomy_read bytes = after_read ((term_code sig [] by_blank).read bytes) (λ s r. after_read ((term_code sig [] by_line).read r) (λ t rest. got (clausal.Line (Tri s.0 t.0)) rest))
+
+  abbrev pub block_line_read : List ℕ → Read ProofStep
+  block_line_read bytes = after_read ((block_code sig).read bytes) (λ b rest. got (clausal.Line (BlockLine b)) rest)
+
+  abbrev pub propagation_read : List ℕ → Read ProofStep
+  propagation_read bytes = after_read ((literals sig (is_real sig)).read bytes) (λ c r. after_read (numbers_read r) (λ ks rest. got (clausal.Line (Rup c ks)) rest))
+
   abbrev pub late_arms : Arms ProofStep
-  late_arms =
-      (codes "tri ", λ bytes. after_read ((term_code sig [] by_blank).read bytes) (λ s r. after_read ((term_code sig [] by_line).read r) (λ t rest. got (clausal.Line (Tri s.0 t.0)) rest)))
-      ∷ (codes "block\n", λ bytes. after_read ((block_code sig).read bytes) (λ b rest. got (clausal.Line (BlockLine b)) rest))
-      ∷ (codes "rup [", λ bytes. after_read ((literals sig (is_real sig)).read bytes) (λ c r. after_read (numbers_read r) (λ ks rest. got (clausal.Line (Rup c ks)) rest)))
-      ∷ (codes "end\n", λ bytes. got clausal.End bytes)
-      ∷ []
+  late_arms = (codes "tri ", trichotomy_read) ∷ (codes "block\n", block_line_read) ∷ (codes "rup [", propagation_read) ∷ (codes "end\n", λ bytes. got clausal.End bytes) ∷ []
 
   abbrev pub middle_arms : Arms ProofStep
-  middle_arms = (
-    codes "inst ",
-    λ bytes.
-        after_read ((formula_code sig [] by_blank).read bytes) (λ f r.
-        after_read (bracketed_read (list_read 93 (square_terms sig [])) r) (λ ts rest. got (clausal.Line (Inst f.0 ts)) rest)),
-  )
-      ∷ (codes "fresh ", λ bytes. after_read ((formula_code sig [] by_blank).read bytes) (λ f r. after_read ((number (sizes by_line)).read r) (λ n rest. got (clausal.Line (Fresh f.0 n.0)) rest)))
-      ∷ (codes "exh ", λ bytes. after_read ((term_code sig [] by_line).read bytes) (λ t rest. got (clausal.Line (Exh t.0)) rest))
-      ∷ late_arms
+  middle_arms = (codes "inst ", instance_read) ∷ (codes "fresh ", fresh_read) ∷ (codes "exh ", exhaustion_read) ∷ late_arms
 
   abbrev pub line_arms : Arms ProofStep
-  line_arms = (
-    hyp_word,
-    λ bytes.
-        after_read ((number (sizes by_blank)).read bytes) (λ n r.
-        after_read (bracketed_read (sorts_read sig) r) (λ ss rest. got (clausal.Line (Hyp n.0 ss)) rest)),
-  )
-      ∷ (codes "goal\n", λ bytes. got (clausal.Line Goal) bytes)
-      ∷ (codes "def ", λ bytes. after_read ((number (sizes by_blank)).read bytes) (λ n r. after_read ((formula_code sig [] by_line).read r) (λ f rest. got (clausal.Line (Def n.0 f.0)) rest)))
-      ∷ middle_arms
+  line_arms = (hyp_word, axiom_read) ∷ (codes "goal\n", λ bytes. got (clausal.Line Goal) bytes) ∷ (codes "def ", definition_read) ∷ middle_arms
 
   abbrev pub proof_lines_code : Code ((ls : List ClauseLine) × Unit {0})
   proof_lines_code = proofs.proof_lines sig (is_real sig)

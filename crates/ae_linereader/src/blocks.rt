@@ -1,13 +1,14 @@
 //! Blocks: hypotheses, derived lines and the ending.
-ghost use Rattle.std.specs.Prelude.{◌≡◌, ◌<◌, ◌≤◌, ◌+◌, length, drop};
-ghost use Rattle.ae_prooftext.specs.Grammar.{block_code};
+ghost use Rattle.std.specs.Prelude.{◌≡◌, ◌<◌, ◌≤◌, ◌+◌, [], length, drop};
+ghost use Rattle.ae_codes.specs.Closers.{by_blank};
+ghost use Rattle.ae_prooftext.specs.Grammar.{block_code, term_code};
 ghost use Rattle.ae_choices.specs.Choices.{picked};
 ghost use Rattle.ae_linereader.specs.Lines.{block_lines_code, block_read, block_step_read, derivation_code, derived_all, derived_arms, derived_code, derived_step_read, hypothesis_read, sides_read};
 ghost use Rattle.ae_readers.specs.Readers.{Reads, ReadsExactly, Ahead, most};
 
 use crate::rules::{read_ending, read_eq_rule, read_le_rule, read_lt_rule};
 use crate::steps::{BlockStep, DerivedStep};
-use ae_base::lists::List;
+use ae_base::lists::{Boxed, List};
 use ae_choices::behind_word;
 use ae_core::formulas::Lit;
 use ae_core::proofs::{Block, Deriv, Ending, EqLine};
@@ -17,26 +18,36 @@ use ae_readers::{Closing, Fault, byte_at, farther, place, read_fixed};
 use ae_termreader::{Tables, read_term};
 use std::alloc::Global;
 
+// A closed term with a blank behind it, held in a box.
+fn read_side(
+    alloc: Global,
+    tables: &Tables<'_>,
+    text: &[u8],
+    at: usize,
+) -> Result<((Boxed<Term>, u8), usize), Fault>
+    ensures read { Reads text.now result ((term_code tables.now.signature.now [] by_blank).read (drop at text.now)) }
+    ensures ahead { Ahead text.now at result }
+{
+    let env = List::new(alloc);
+    let ((term, close), next) = read_term(alloc, tables, env.as_slice(), text, at, Closing::Blank)?;
+    match Boxed::new(alloc, term) {
+        Ok(inner) => Ok(((inner, close), next)),
+        Err(_) => Err(Fault::Memory),
+    }
+}
+
 // Two closed terms, a blank behind each.
 fn read_sides(
     alloc: Global,
     tables: &Tables<'_>,
     text: &[u8],
     at: usize,
-) -> Result<((Term, Term), usize), Fault>
+) -> Result<((Boxed<Term>, Boxed<Term>), usize), Fault>
     ensures read { Reads text.now result (sides_read tables.now.signature.now (drop at text.now)) }
     ensures ahead { Ahead text.now at result }
 {
-    let env = List::new(alloc);
-    let ((left, _), behind) = read_term(alloc, tables, env.as_slice(), text, at, Closing::Blank)?;
-    let ((right, _), next) = read_term(
-        alloc,
-        tables,
-        env.as_slice(),
-        text,
-        behind,
-        Closing::Blank,
-    )?;
+    let ((left, _), behind) = read_side(alloc, tables, text, at)?;
+    let ((right, _), next) = read_side(alloc, tables, text, behind)?;
     Ok(((left, right), next))
 }
 

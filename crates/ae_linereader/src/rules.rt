@@ -6,6 +6,7 @@ ghost use Rattle.ae_linereader.specs.Rules.{eq_all, eq_arms, eq_field_arms, eq_l
 ghost use Rattle.ae_readers.specs.Readers.{Reads, Ahead, most};
 
 use crate::lists::{read_number_and_more, read_numbers, read_sum};
+use ae_base::lists::Boxed;
 use ae_choices::behind_word;
 use ae_core::proofs::{Ending, EqLine};
 use ae_core::terms::Term;
@@ -33,17 +34,21 @@ fn read_eq_field_rule(
     alloc: Global,
     text: &[u8],
     at: usize,
-    left: Term,
-    right: Term,
+    left: Boxed<Term>,
+    right: Boxed<Term>,
 ) -> Result<(EqLine, usize), Fault>
     ensures read { Reads text.now result (picked eq_all (eq_field_arms left right) (drop at text.now)) }
     ensures ahead { Ahead text.now at result }
 {
     if let Some(next) = behind_word(text, at, b"field\n") {
+        let left = left.into_inner();
+        let right = right.into_inner();
         return Ok((EqLine::EqField { left, right }, next));
     }
     if let Some(behind) = behind_word(text, at, b"fields") {
         let (lines, next) = read_numbers(alloc, text, behind)?;
+        let left = left.into_inner();
+        let right = right.into_inner();
         return Ok((EqLine::EqFields { left, right, lines }, next));
     }
     Err(Fault::At(eq_wrong(text, at)))
@@ -53,21 +58,27 @@ fn read_eq_listed_rule(
     alloc: Global,
     text: &[u8],
     at: usize,
-    left: Term,
-    right: Term,
+    left: Boxed<Term>,
+    right: Boxed<Term>,
 ) -> Result<(EqLine, usize), Fault>
     ensures read { Reads text.now result (picked eq_all (eq_listed_arms left right) (drop at text.now)) }
     ensures ahead { Ahead text.now at result }
 {
     if let Some(behind) = behind_word(text, at, b"cong") {
         let (lines, next) = read_numbers(alloc, text, behind)?;
+        let left = left.into_inner();
+        let right = right.into_inner();
         return Ok((EqLine::EqCong { left, right, lines }, next));
     }
     if let Some(next) = behind_word(text, at, b"ac\n") {
+        let left = left.into_inner();
+        let right = right.into_inner();
         return Ok((EqLine::EqAc { left, right }, next));
     }
     if let Some(behind) = behind_word(text, at, b"lin ") {
         let ((times, parts), next) = read_sum(alloc, text, behind)?;
+        let left = left.into_inner();
+        let right = right.into_inner();
         return Ok((
             EqLine::EqLin {
                 left,
@@ -86,26 +97,34 @@ pub fn read_eq_rule(
     alloc: Global,
     text: &[u8],
     at: usize,
-    left: Term,
-    right: Term,
+    left: Boxed<Term>,
+    right: Boxed<Term>,
 ) -> Result<(EqLine, usize), Fault>
     ensures read { Reads text.now result (picked eq_all (eq_arms left right) (drop at text.now)) }
     ensures ahead { Ahead text.now at result }
 {
     if let Some(behind) = behind_word(text, at, b"hyp ") {
         let ((hyp, _), next) = read_size(text, behind, Closing::Line)?;
+        let left = left.into_inner();
+        let right = right.into_inner();
         return Ok((EqLine::EqHyp { left, right, hyp }, next));
     }
     if let Some(next) = behind_word(text, at, b"refl\n") {
+        let left = left.into_inner();
+        let right = right.into_inner();
         return Ok((EqLine::EqRefl { left, right }, next));
     }
     if let Some(behind) = behind_word(text, at, b"sym ") {
         let ((line, _), next) = read_size(text, behind, Closing::Line)?;
+        let left = left.into_inner();
+        let right = right.into_inner();
         return Ok((EqLine::EqSym { left, right, line }, next));
     }
     if let Some(behind) = behind_word(text, at, b"trans ") {
         let ((first, _), middle) = read_size(text, behind, Closing::Blank)?;
         let ((second, _), next) = read_size(text, middle, Closing::Line)?;
+        let left = left.into_inner();
+        let right = right.into_inner();
         return Ok((
             EqLine::EqTrans {
                 left,
@@ -134,18 +153,22 @@ pub fn read_le_rule(
     alloc: Global,
     text: &[u8],
     at: usize,
-    left: Term,
-    right: Term,
+    left: Boxed<Term>,
+    right: Boxed<Term>,
 ) -> Result<(EqLine, usize), Fault>
     ensures read { Reads text.now result (picked le_all (le_arms left right) (drop at text.now)) }
     ensures ahead { Ahead text.now at result }
 {
     if let Some(behind) = behind_word(text, at, b"hyp ") {
         let ((hyp, _), next) = read_size(text, behind, Closing::Line)?;
+        let left = left.into_inner();
+        let right = right.into_inner();
         return Ok((EqLine::LeHyp { left, right, hyp }, next));
     }
     if let Some(behind) = behind_word(text, at, b"sum ") {
         let ((times, parts), next) = read_sum(alloc, text, behind)?;
+        let left = left.into_inner();
+        let right = right.into_inner();
         return Ok((
             EqLine::LeSum {
                 left,
@@ -158,6 +181,8 @@ pub fn read_le_rule(
     }
     if let Some(behind) = behind_word(text, at, b"round ") {
         let ((line, _), next) = read_size(text, behind, Closing::Line)?;
+        let left = left.into_inner();
+        let right = right.into_inner();
         return Ok((EqLine::LeRound { left, right, line }, next));
     }
     Err(Fault::At(le_wrong(text, at)))
@@ -177,18 +202,22 @@ pub fn read_lt_rule(
     alloc: Global,
     text: &[u8],
     at: usize,
-    left: Term,
-    right: Term,
+    left: Boxed<Term>,
+    right: Boxed<Term>,
 ) -> Result<(EqLine, usize), Fault>
     ensures read { Reads text.now result (picked lt_all (lt_arms left right) (drop at text.now)) }
     ensures ahead { Ahead text.now at result }
 {
     if let Some(behind) = behind_word(text, at, b"hyp ") {
         let ((hyp, _), next) = read_size(text, behind, Closing::Line)?;
+        let left = left.into_inner();
+        let right = right.into_inner();
         return Ok((EqLine::LtHyp { left, right, hyp }, next));
     }
     if let Some(behind) = behind_word(text, at, b"sum ") {
         let ((times, parts), next) = read_sum(alloc, text, behind)?;
+        let left = left.into_inner();
+        let right = right.into_inner();
         return Ok((
             EqLine::LtSum {
                 left,

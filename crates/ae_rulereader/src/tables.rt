@@ -40,20 +40,43 @@ impl<'a> AcTables<'a> {
     pub fn new(alloc: Global, signature: &'a Signature) -> Result<AcTables<'a>, AllocError>
         ensures { IfOk result (λ t. t.terms.signature.now ≡ signature.now) }
     {
-        let plain_words = table_of(alloc, signature, false)?;
-        let some_plain = some_name(plain_words.words.as_slice());
-        let sorted_words = table_of(alloc, signature, true)?;
-        let some_sorted = some_name(sorted_words.words.as_slice());
+        let plain = kind_of(alloc, signature, false)?;
+        let sorted = kind_of(alloc, signature, true)?;
+        let terms = Tables::new(alloc, signature)?;
         Ok(AcTables {
-            terms: Tables::new(alloc, signature)?,
-            plain: symbols_of(alloc, signature, false)?,
-            plain_words,
-            some_plain,
-            sorted: symbols_of(alloc, signature, true)?,
-            sorted_words,
-            some_sorted,
+            terms,
+            plain: plain.symbols,
+            plain_words: plain.words,
+            some_plain: plain.is_named,
+            sorted: sorted.symbols,
+            sorted_words: sorted.words,
+            some_sorted: sorted.is_named,
         })
     }
+}
+
+/// The associative and commutative symbols with type variables, or those without.
+#[derive(Drop)]
+struct SymbolKind {
+    symbols: List<usize>,
+    words: Names,
+    /// Whether one of them has a name that can be read.
+    is_named: bool,
+}
+
+fn kind_of(alloc: Global, signature: &Signature, sorted: bool) -> Result<SymbolKind, AllocError>
+    ensures symbols { IfOk result (λ k. k.symbols ≡ of_kind_all signature.now sorted) }
+    ensures words { IfOk result (λ k. k.words.words ≡ map (symbol_name signature.now) (of_kind_all signature.now sorted)) }
+    ensures named { IfOk result (λ k. k.is_named ≡ has_name (map (symbol_name signature.now) (of_kind_all signature.now sorted))) }
+{
+    let symbols = symbols_of(alloc, signature, sorted)?;
+    let words = table_of(alloc, signature, sorted)?;
+    let is_named = some_name(words.words.as_slice());
+    Ok(SymbolKind {
+        symbols,
+        words,
+        is_named,
+    })
 }
 
 // The numbers below a count.

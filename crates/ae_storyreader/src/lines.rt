@@ -1,10 +1,11 @@
 //! The lines of journals.
-ghost use Rattle.std.specs.Prelude.{◌≡◌, ◌≤◌, length, drop};
+ghost use Rattle.std.specs.Prelude.{◌≡◌, ◌≤◌, [], length, drop};
 ghost use Rattle.ae_choices.specs.Choices.{picked};
-ghost use Rattle.ae_readers.specs.Readers.{Reads, Ahead, most};
+ghost use Rattle.ae_prooftext.specs.Grammar.{formula_code};
+ghost use Rattle.ae_readers.specs.Readers.{Reads, Ahead, close_of, most};
 ghost use Rattle.ae_storyreader.specs.Lines.{applied_read, form_read, last_arms, late_arms, learnt_read, line_read, line_words, middle_arms, solved_read, typed_read};
 
-use ae_base::lists::List;
+use ae_base::lists::{Boxed, List};
 use ae_choices::behind_word;
 use ae_core::formulas::{Formula, Lit};
 use ae_core::terms::{Sort, Term};
@@ -69,6 +70,24 @@ fn read_typed(
     Ok(((axiom, sorts), next))
 }
 
+// A closed formula, held in a box.
+fn read_boxed(
+    alloc: Global,
+    tables: &Tables<'_>,
+    text: &[u8],
+    at: usize,
+    closing: Closing,
+) -> Result<((Boxed<Formula>, u8), usize), Fault>
+    ensures read { Reads text.now result ((formula_code tables.now.signature.now [] (close_of closing)).read (drop at text.now)) }
+    ensures ahead { Ahead text.now at result }
+{
+    let ((formula, close), next) = read_formula(alloc, tables, &[], text, at, closing)?;
+    match Boxed::new(alloc, formula) {
+        Ok(inner) => Ok(((inner, close), next)),
+        Err(_) => Err(Fault::Memory),
+    }
+}
+
 // A quantified formula and the terms for its variables.
 fn read_applied(
     alloc: Global,
@@ -79,10 +98,11 @@ fn read_applied(
     ensures read { Reads text.now result (applied_read tables.now.signature.now (drop at text.now)) }
     ensures ahead { Ahead text.now at result }
 {
-    let ((formula, _), behind) = read_formula(alloc, tables, &[], text, at, Closing::Blank)?;
+    let ((formula, _), behind) = read_boxed(alloc, tables, text, at, Closing::Blank)?;
     let (_, open) = read_fixed(text, behind, b"[")?;
     let (terms, end) = read_square_terms(alloc, tables, &[], text, open)?;
     let (_, next) = read_fixed(text, end, b"\n")?;
+    let formula = formula.into_inner();
     Ok(((formula, terms), next))
 }
 

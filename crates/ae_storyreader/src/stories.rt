@@ -1,19 +1,19 @@
 //! Whole journals.
-ghost use Rattle.std.specs.Prelude.{◌≡◌, ◌≤◌, ◌<◌, ◌+◌, length, drop};
+ghost use Rattle.std.specs.Prelude.{◌≡◌, ◌≤◌, ◌<◌, ◌+◌, length, drop, IfOk};
 ghost use Rattle.ae_choices.specs.Whole.{ReadsWhole};
 ghost use Rattle.ae_readers.specs.Readers.{Reads, ReadsExactly, Ahead};
 ghost use Rattle.ae_stategrammar.specs.Journals.{lines, names, story};
 ghost use Rattle.ae_storyreader.specs.Stories.{story_read};
 
 use crate::lines::read_line;
-use ae_base::lists::List;
+use ae_base::lists::{Boxed, List};
 use ae_core::problems::Signature;
 use ae_core::terms::Term;
 use ae_journal::lines::{Line, Story};
 use ae_readers::{Fault, byte_at, read_fixed};
 use ae_rulereader::AcTables;
 use ae_statereader::read_name_lines;
-use std::alloc::Global;
+use std::alloc::{AllocError, Global};
 
 /// Lines, up to the end.
 pub type Lines = (List<Line>, ());
@@ -90,6 +90,18 @@ pub fn read_story_at(
     read_parts(alloc, tables, text, at)
 }
 
+/// The words of a signature in a box, since they are many lists; `Err` where there is no memory for them.
+pub fn tables_of<'a>(
+    alloc: Global,
+    signature: &'a Signature,
+) -> Result<Boxed<AcTables<'a>>, AllocError>
+    ensures { IfOk result (λ t. t.terms.signature.now ≡ signature.now) }
+{
+    let tables = AcTables::new(alloc, signature)?;
+    let held = Boxed::new(alloc, tables)?;
+    Ok(held)
+}
+
 fn read_whole(alloc: Global, tables: &AcTables<'_>, text: &[u8]) -> Result<Story, Fault>
     ensures { ReadsWhole (story tables.now.terms.signature.now) text.now result }
 {
@@ -109,8 +121,8 @@ fn read_whole(alloc: Global, tables: &AcTables<'_>, text: &[u8]) -> Result<Story
 pub fn read_story(alloc: Global, signature: &Signature, text: &[u8]) -> Result<Story, Fault>
     ensures { ReadsWhole (story signature.now) text.now result }
 {
-    match AcTables::new(alloc, signature) {
+    match tables_of(alloc, signature) {
         Err(_) => Err(Fault::Memory),
-        Ok(tables) => read_whole(alloc, &tables, text),
+        Ok(tables) => read_whole(alloc, tables.get(), text),
     }
 }

@@ -8,7 +8,7 @@ ghost use Rattle.ae_statereader.specs.Lines.{Onward};
 ghost use Rattle.ae_storyreader.specs.Widths.{all_ops, all_steps, key_read, named_form_read, numbers_read, op_arms, pair_of, some_key_read, start_read, step_arms, width_read};
 
 use crate::lines::read_form_line;
-use crate::stories::read_story_at;
+use crate::stories::{read_story_at, tables_of};
 use ae_choices::behind_word;
 use ae_core::problems::Signature;
 use ae_journal::answers::{NumStep, WideAt};
@@ -200,8 +200,8 @@ fn read_whole(alloc: Global, tables: &AcTables<'_>, text: &[u8]) -> Result<Numbe
 pub fn read_number(alloc: Global, signature: &Signature, text: &[u8]) -> Result<NumberText, Fault>
     ensures { ReadsWhole (number_code signature.now) text.now (pair_of result) }
 {
-    match AcTables::new(alloc, signature) {
+    match tables_of(alloc, signature) {
         Err(_) => Err(Fault::Memory),
-        Ok(tables) => read_whole(alloc, &tables, text),
+        Ok(tables) => read_whole(alloc, tables.get(), text),
     }
 }

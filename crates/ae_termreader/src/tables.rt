@@ -60,24 +60,97 @@ impl<'a> Tables<'a> {
     pub fn new(alloc: Global, signature: &'a Signature) -> Result<Tables<'a>, AllocError>
         ensures { IfOk result (λ t. t.signature.now ≡ signature.now) }
     {
-        let type_words = type_table(alloc, signature)?;
-        let named = has_name(type_words.words.as_slice());
+        let sorts = sort_tables(alloc, signature)?;
+        let terms = term_tables(alloc, signature)?;
+        let formulas = formula_tables(alloc, signature)?;
         Ok(Tables {
             signature,
-            type_words,
-            sort_words: sort_table(alloc, signature)?,
-            named,
-            heads: bracket_heads(alloc, signature)?,
-            head_words: head_table(alloc, signature)?,
-            constants: lone_heads(alloc, signature)?,
-            constant_words: constant_table(alloc, signature)?,
-            propositions: lone_symbols(alloc, signature)?,
-            proposition_words: proposition_table(alloc, signature)?,
-            symbol_words: symbol_table(alloc, signature)?,
-            formula_words: formula_table(alloc, signature, true)?,
-            positive_words: formula_table(alloc, signature, false)?,
+            type_words: sorts.type_words,
+            sort_words: sorts.sort_words,
+            named: sorts.named,
+            heads: terms.heads,
+            head_words: terms.head_words,
+            constants: terms.constants,
+            constant_words: terms.constant_words,
+            propositions: formulas.propositions,
+            proposition_words: formulas.proposition_words,
+            symbol_words: formulas.symbol_words,
+            formula_words: formulas.formula_words,
+            positive_words: formulas.positive_words,
         })
     }
+}
+
+/// What is looked up in sorts.
+#[derive(Drop)]
+struct SortTables {
+    type_words: Names,
+    sort_words: Names,
+    named: bool,
+}
+
+fn sort_tables(alloc: Global, signature: &Signature) -> Result<SortTables, AllocError>
+    ensures types { IfOk result (λ t. t.type_words.words ≡ type_names signature.now) }
+    ensures sorts { IfOk result (λ t. t.sort_words.words ≡ atoms (type_names signature.now)) }
+    ensures named { IfOk result (λ t. t.named ≡ has_name (type_names signature.now)) }
+{
+    let type_words = type_table(alloc, signature)?;
+    let named = has_name(type_words.words.as_slice());
+    let sort_words = sort_table(alloc, signature)?;
+    Ok(SortTables {
+        type_words,
+        sort_words,
+        named,
+    })
+}
+
+/// What is looked up in terms.
+#[derive(Drop)]
+struct TermTables {
+    heads: List<Head>,
+    head_words: Names,
+    constants: List<Head>,
+    constant_words: Names,
+}
+
+fn term_tables(alloc: Global, signature: &Signature) -> Result<TermTables, AllocError>
+    ensures heads { IfOk result (λ t. t.heads ≡ bracket_heads signature.now) }
+    ensures head_words { IfOk result (λ t. t.head_words.words ≡ bracket_table signature.now) }
+    ensures constants { IfOk result (λ t. t.constants ≡ lone_heads signature.now) }
+    ensures constant_words { IfOk result (λ t. t.constant_words.words ≡ lone_table signature.now) }
+{
+    Ok(TermTables {
+        heads: bracket_heads(alloc, signature)?,
+        head_words: head_table(alloc, signature)?,
+        constants: lone_heads(alloc, signature)?,
+        constant_words: constant_table(alloc, signature)?,
+    })
+}
+
+/// What is looked up in formulas.
+#[derive(Drop)]
+struct FormulaTables {
+    propositions: List<usize>,
+    proposition_words: Names,
+    symbol_words: Names,
+    formula_words: Names,
+    positive_words: Names,
+}
+
+fn formula_tables(alloc: Global, signature: &Signature) -> Result<FormulaTables, AllocError>
+    ensures propositions { IfOk result (λ t. t.propositions ≡ lone_symbols signature.now) }
+    ensures proposition_words { IfOk result (λ t. t.proposition_words.words ≡ leaf_words (map (symbol_name signature.now) (lone_symbols signature.now))) }
+    ensures symbol_words { IfOk result (λ t. t.symbol_words.words ≡ map (symbol_name signature.now) (symbols signature.now)) }
+    ensures formula_words { IfOk result (λ t. t.formula_words.words ≡ bracket_words true (map (symbol_name signature.now) (symbols signature.now))) }
+    ensures positive_words { IfOk result (λ t. t.positive_words.words ≡ bracket_words false (map (symbol_name signature.now) (symbols signature.now))) }
+{
+    Ok(FormulaTables {
+        propositions: lone_symbols(alloc, signature)?,
+        proposition_words: proposition_table(alloc, signature)?,
+        symbol_words: symbol_table(alloc, signature)?,
+        formula_words: formula_table(alloc, signature, true)?,
+        positive_words: formula_table(alloc, signature, false)?,
+    })
 }
 
 #[tactic(auto, unfolding(ae_prooftext::specs::Words::type_names))]

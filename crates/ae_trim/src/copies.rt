@@ -251,10 +251,13 @@ pub(crate) fn copy_line(alloc: Global, line: &ClauseLine) -> Result<ClauseLine, 
             row: *row,
             formula: copy_formula(alloc, formula)?,
         }),
-        ClauseLine::Inst { formula, terms } => Ok(ClauseLine::Inst {
-            formula: copy_formula(alloc, formula)?,
-            terms: copy_terms(alloc, terms.as_slice())?,
-        }),
+        ClauseLine::Inst { formula, terms } => {
+            let terms = copy_terms(alloc, terms.as_slice())?;
+            Ok(ClauseLine::Inst {
+                formula: copy_formula(alloc, formula)?,
+                terms,
+            })
+        }
         ClauseLine::Fresh { formula, first } => Ok(ClauseLine::Fresh {
             formula: copy_formula(alloc, formula)?,
             first: *first,

@@ -1,4 +1,18 @@
+use Rattle.std.proofs.Common.{◌≡◌, ◌∙◌, ap}
+use Rattle.std.proofs.lemmas.Result.{IfOk-at_ok}
+use Rattle.ae_core.specs.declared.formulas.Formula.{Formula}
+use Rattle.ae_elab.specs.Elaboration.{branch}
+use Rattle.ae_lifting.specs.Inner.Answered.{AreOk}
+use Rattle.ae_lifting.specs.Lifting.{cases_of}
 use Rattle.ae_lifting.proofs.cases.choice_of.Goals as goal
 
 pub returns : goal.returns
-returns c = (c.in_ok-left.left, c.in_ok-left.right, c.in_ok-left.ensures, c.in_ok-whole.ensures)
+returns c =
+    let all = c.in_ok-kept in
+    let same = c.into_inner-condition.ensures ∙ IfOk-at_ok {T = Formula} (λ b. b ≡ c.args.condition) all.ensures.0 c.new-kept.ensures in
+    let cases = IfOk-at_ok (λ v. AreOk c.args.positive c.args.negative v.0 v.1) all.ensures.1 c.both-cases.ensures in (
+      all.left,
+      all.right,
+      cases,
+      c.in_ok-whole.ensures ∙ ap (λ (z : Formula). branch z (cases_of all.left) (cases_of all.right)) same,
+    )
