@@ -4,8 +4,6 @@
 mod conflict;
 mod lawful;
 mod marks;
-#[cfg(test)]
-mod tests;
 mod trail;
 
 pub use conflict::{Learnt, conflict_clause};

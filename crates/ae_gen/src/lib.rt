@@ -4,6 +4,3 @@
 mod demo;
 
 pub use demo::demo_text;
-
-#[cfg(test)]
-mod tests;

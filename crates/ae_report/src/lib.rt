@@ -8,6 +8,3 @@ mod refusal;
 pub use laws::one_place;
 pub use lines::{Place, place_of, refusal_text};
 pub use refusal::Refusal;
-
-#[cfg(test)]
-mod tests;

@@ -4,10 +4,9 @@ ghost use Rattle.std.specs.Prelude.{◌≡◌, ◌≤◌, true, length};
 ghost use Rattle.std.specs.Option.{IfSome};
 ghost use Rattle.ae_report.specs.Lines.{refused_at};
 
-use crate::lines::refusal_text;
-use crate::refusal::Refusal;
 use ae_lex::LexFault;
 use ae_readers::Fault;
+use ae_report::{Refusal, refusal_text};
 use ae_syntax::SyntaxFault;
 use std::alloc::{AllocError, Global};
 

@@ -1,9 +1,11 @@
 //! What is learnt from small trails. What is expected was found by hand, on the graph of the reasons.
-use crate::marks::clause_at;
-use crate::{Assigned, Learnt, Trail, are_false, conflict_clause, is_lawful};
+ghost use Rattle.std.specs.Prelude.{◌≡◌, ◌<◌, length};
+ghost use Rattle.ae_explain.specs.Trail.{clause};
+
 use ae_core::equality::same_lit;
 use ae_core::formulas::{Clause, Formula, Lit};
 use ae_core::lists::List;
+use ae_explain::{Assigned, Learnt, Trail, are_false, conflict_clause, is_lawful};
 use std::alloc::{AllocError, Global};
 
 /// A true literal: the number of its atom, negative where the atom is false; its level; and the place of its reason.
@@ -52,33 +54,56 @@ fn clauses_of(alloc: Global, rows: &[&[i32]]) -> Result<List<Clause>, AllocError
     Ok(clauses)
 }
 
+/// Puts the literal of a row at the end of a trail, and says whether its formula was new.
+fn put_row(alloc: Global, trail: &mut Trail, row: &Row) -> Result<bool, AllocError> {
+    let (number, level, by) = *row;
+    let lit = lit_of(alloc, number);
+    if trail.place_of(&lit.formula).is_some() {
+        return Ok(false);
+    }
+    trail.assign(alloc, Assigned { lit, level, by })?;
+    Ok(true)
+}
+
 /// The trail of these rows; where a formula would stand twice, those before it.
 fn trail_of(alloc: Global, rows: &[Row]) -> Result<Trail, AllocError> {
     let mut trail = Trail::new(alloc);
-    for (number, level, by) in rows {
-        let lit = lit_of(alloc, *number);
-        if trail.place_of(&lit.formula).is_some() {
-            return Ok(trail);
+    for row in rows {
+        if !put_row(alloc, &mut trail, row)? {
+            break;
         }
-        let (level, by) = (*level, *by);
-        trail.assign(alloc, Assigned { lit, level, by })?;
     }
     Ok(trail)
 }
 
+/// The literals of the clause at a place.
+fn clause_at(clauses: &[Clause], number: usize) -> &[Lit]
+    requires within { number < length clauses.now }
+    ensures { result.now ≡ clause clauses.now number }
+{
+    clauses[number].as_slice()
+}
+
 /// What is learnt, where the trail is lawful and the clause is false in it.
+fn learnt_of(
+    alloc: Global,
+    trail: &Trail,
+    clauses: &[Clause],
+    falsified: usize,
+) -> Result<Option<Learnt>, AllocError> {
+    if clauses.len() <= falsified || !is_lawful(trail, clauses) {
+        return Ok(None);
+    }
+    if !are_false(trail, clause_at(clauses, falsified)) {
+        return Ok(None);
+    }
+    Ok(Some(conflict_clause(alloc, trail, clauses, falsified)?))
+}
+
 fn learnt_from(alloc: Global, conflict: &Conflict) -> Result<Option<Learnt>, AllocError> {
-    let trail = trail_of(alloc, conflict.rows)?;
     let list = clauses_of(alloc, conflict.clauses)?;
-    let clauses = list.as_slice();
-    let falsified = conflict.falsified;
-    if clauses.len() <= falsified || !is_lawful(&trail, clauses) {
-        return Ok(None);
-    }
-    if !are_false(&trail, clause_at(clauses, falsified)) {
-        return Ok(None);
-    }
-    Ok(Some(conflict_clause(alloc, &trail, clauses, falsified)?))
+    let trail = trail_of(alloc, conflict.rows)?;
+    learnt_of(alloc, &trail, list.as_slice(), conflict.falsified)
 }
 
 fn same_clause(left: &[Lit], right: &[Lit]) -> bool {

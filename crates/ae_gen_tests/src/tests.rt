@@ -1,6 +1,6 @@
 //! The demo's text against its first goals written out.
 
-use crate::demo::demo_text;
+use ae_gen::demo_text;
 use std::alloc::AllocError;
 
 const FOUR_GOALS: &str = "type t
