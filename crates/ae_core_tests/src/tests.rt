@@ -76,16 +76,18 @@ fn literal(alloc: Global, holds: bool) -> Result<Boxed<Formula>, AllocError> {
 
 /// Truth values and relations, each before those that follow it.
 fn push_atoms(formulas: &mut List<Formula>) -> Result<(), AllocError> {
-    let (x, y, z) = (Term::Bound(0), Term::Bound(1), Term::Bound(2));
     formulas.push(Formula::True)?;
     formulas.push(Formula::False)?;
     formulas.push(Formula::Eq {
         left: Term::Bound(5),
         right: Term::Bound(0),
     })?;
-    formulas.push(Formula::Lt { left: x, right: z })?;
     formulas.push(Formula::Lt {
-        left: y,
+        left: Term::Bound(0),
+        right: Term::Bound(2),
+    })?;
+    formulas.push(Formula::Lt {
+        left: Term::Bound(1),
         right: Term::Bound(0),
     })?;
     formulas.push(Formula::Le {
@@ -112,13 +114,24 @@ fn ascending_formulas(alloc: Global) -> Result<List<Formula>, AllocError> {
     Ok(formulas)
 }
 
+/// Whether a term's copy is the term.
+fn term_is_copied(alloc: Global, term: &Term) -> Result<bool, AllocError> {
+    let copy = Boxed::new(alloc, copy_term(alloc, term)?)?;
+    Ok(same_term(copy.get(), term))
+}
+
+/// Whether a formula's copy is the formula.
+fn formula_is_copied(alloc: Global, formula: &Formula) -> Result<bool, AllocError> {
+    let copy = Boxed::new(alloc, copy_formula(alloc, formula)?)?;
+    Ok(same_formula(copy.get(), formula))
+}
+
 #[test]
 fn orders_terms(rt: HostRuntime) -> Result<(), Fail> {
     let terms = ascending_terms(rt.alloc())?;
     let terms = terms.as_slice();
     for i in 0..terms.len() {
-        let copy = copy_term(rt.alloc(), &terms[i])?;
-        assert!(rt; same_term(&copy, &terms[i]), "copy of term {i}");
+        assert!(rt; term_is_copied(rt.alloc(), &terms[i])?, "copy of term {i}");
         for j in 0..terms.len() {
             assert_eq!(rt;
                 compare_terms(&terms[i], &terms[j]),
@@ -135,8 +148,10 @@ fn orders_formulas(rt: HostRuntime) -> Result<(), Fail> {
     let formulas = ascending_formulas(rt.alloc())?;
     let formulas = formulas.as_slice();
     for i in 0..formulas.len() {
-        let copy = copy_formula(rt.alloc(), &formulas[i])?;
-        assert!(rt; same_formula(&copy, &formulas[i]), "copy of formula {i}");
+        assert!(rt;
+            formula_is_copied(rt.alloc(), &formulas[i])?,
+            "copy of formula {i}"
+        );
         for j in 0..formulas.len() {
             assert_eq!(rt;
                 compare_formulas(&formulas[i], &formulas[j]),
@@ -160,79 +175,112 @@ fn one_term(alloc: Global, term: Term) -> Result<List<Term>, AllocError> {
     Ok(terms)
 }
 
-/// `forall x : s [f [s] x]. p [s] x`, where f is symbol 1 and p is symbol 2.
-fn for_all(alloc: Global, sort: &Sort) -> Result<Formula, AllocError> {
-    let pattern = applied(
-        Head::Symbol(1),
-        one_sort(alloc, sort)?,
-        one_term(alloc, Term::Bound(0))?,
-    );
-    let mut triggers = List::new(alloc);
-    triggers.push(one_term(alloc, pattern)?)?;
-    let body = Formula::Pred {
-        symbol: 2,
-        sorts: one_sort(alloc, sort)?,
-        args: one_term(alloc, Term::Bound(0))?,
-    };
-    Ok(Formula::All(Quant {
-        sorts: one_sort(alloc, sort)?,
-        triggers,
-        body: Boxed::new(alloc, body)?,
-    }))
+/// `p [s] x`, where p is symbol 2 and x the innermost variable.
+fn predicate(alloc: Global, sort: &Sort) -> Result<Boxed<Formula>, AllocError> {
+    let sorts = one_sort(alloc, sort)?;
+    let args = one_term(alloc, Term::Bound(0))?;
+    Boxed::new(
+        alloc,
+        Formula::Pred {
+            symbol: 2,
+            sorts,
+            args,
+        },
+    )
 }
 
-/// `exists z : int. z = left - right`.
-fn some_difference(alloc: Global, left: Term, right: Term) -> Result<Formula, AllocError> {
-    let mut args = List::new(alloc);
-    args.push(left)?;
-    args.push(right)?;
-    let body = Formula::Eq {
-        left: Term::Bound(0),
-        right: applied(Head::Int(Op::Sub), List::new(alloc), args),
-    };
-    Ok(Formula::Ex(Quant {
-        sorts: one_sort(alloc, &Sort::Int)?,
-        triggers: List::new(alloc),
-        body: Boxed::new(alloc, body)?,
-    }))
+/// The trigger `f [s] x`, where f is symbol 1 and x the innermost variable.
+fn trigger(alloc: Global, sort: &Sort) -> Result<List<Term>, AllocError> {
+    let sorts = one_sort(alloc, sort)?;
+    let args = one_term(alloc, Term::Bound(0))?;
+    one_term(alloc, applied(Head::Symbol(1), sorts, args))
+}
+
+/// `forall x : s [f [s] x]. p [s] x`.
+fn for_all(alloc: Global, sort: &Sort) -> Result<Boxed<Formula>, AllocError> {
+    let sorts = one_sort(alloc, sort)?;
+    let mut triggers = List::new(alloc);
+    triggers.push(trigger(alloc, sort)?)?;
+    let body = predicate(alloc, sort)?;
+    Boxed::new(
+        alloc,
+        Formula::All(Quant {
+            sorts,
+            triggers,
+            body,
+        }),
+    )
+}
+
+/// `exists z : int. z = x - y` of these x and y.
+fn some_difference(alloc: Global, args: List<Term>) -> Result<Boxed<Formula>, AllocError> {
+    let right = applied(Head::Int(Op::Sub), List::new(alloc), args);
+    let body = Boxed::new(
+        alloc,
+        Formula::Eq {
+            left: Term::Bound(0),
+            right,
+        },
+    )?;
+    let sorts = one_sort(alloc, &Sort::Int)?;
+    Boxed::new(
+        alloc,
+        Formula::Ex(Quant {
+            sorts,
+            triggers: List::new(alloc),
+            body,
+        }),
+    )
+}
+
+/// Whether the formula at a sort has at int this instance.
+fn is_instance(alloc: Global, general: &Sort, wanted: &Sort) -> Result<bool, AllocError> {
+    let sorts = one_sort(alloc, &Sort::Int)?;
+    let general = for_all(alloc, general)?;
+    let found = Boxed::new(alloc, instance(alloc, general.get(), sorts.as_slice())?)?;
+    let wanted = for_all(alloc, wanted)?;
+    Ok(same_formula(found.get(), wanted.get()))
 }
 
 #[test]
 fn puts_sorts(rt: HostRuntime) -> Result<(), Fail> {
-    let sorts = one_sort(rt.alloc(), &Sort::Int)?;
-    let general = for_all(rt.alloc(), &Sort::Var(0))?;
-    let found = instance(rt.alloc(), &general, sorts.as_slice())?;
-    assert!(rt;
-        same_formula(&found, &for_all(rt.alloc(), &Sort::Int)?),
-        "instance at int"
-    );
-    let kept = instance(
-        rt.alloc(),
-        &for_all(rt.alloc(), &Sort::Rigid(0))?,
-        sorts.as_slice(),
-    )?;
-    assert!(rt;
-        same_formula(&kept, &for_all(rt.alloc(), &Sort::Rigid(0))?),
-        "a goal's variable"
-    );
+    let at_int = is_instance(rt.alloc(), &Sort::Var(0), &Sort::Int)?;
+    assert!(rt; at_int, "instance at int");
+    let kept = is_instance(rt.alloc(), &Sort::Rigid(0), &Sort::Rigid(0))?;
+    assert!(rt; kept, "a goal's variable");
     Ok(())
 }
 
-/// In `forall x y : int. exists z : int. z = x - y` the variable x has the distance 2 in the body, and y 1.
+/// `forall x y : int. exists z : int. z = x - y`, where x has the distance 2 in the body, and y 1.
+fn general_difference(alloc: Global) -> Result<Quant, AllocError> {
+    let mut sorts = one_sort(alloc, &Sort::Int)?;
+    sorts.push(Sort::Int)?;
+    let body = some_difference(alloc, pair(alloc, 2, 1)?)?;
+    Ok(Quant {
+        sorts,
+        triggers: List::new(alloc),
+        body,
+    })
+}
+
+/// 3 and 5.
+fn three_and_five(alloc: Global) -> Result<List<Term>, AllocError> {
+    let mut terms = one_term(alloc, numeral(3, 1, false))?;
+    terms.push(numeral(5, 1, false))?;
+    Ok(terms)
+}
+
+/// What comes of 3 for x and 5 for y in that.
+fn puts_three_and_five(alloc: Global) -> Result<bool, AllocError> {
+    let quant = general_difference(alloc)?;
+    let terms = three_and_five(alloc)?;
+    let found = Boxed::new(alloc, substitute(alloc, &quant, terms.as_slice())?)?;
+    let wanted = some_difference(alloc, terms)?;
+    Ok(same_formula(found.get(), wanted.get()))
+}
+
 #[test]
 fn puts_terms_under_inner_blocks(rt: HostRuntime) -> Result<(), Fail> {
-    let mut sorts = one_sort(rt.alloc(), &Sort::Int)?;
-    sorts.push(Sort::Int)?;
-    let body = some_difference(rt.alloc(), Term::Bound(2), Term::Bound(1))?;
-    let quant = Quant {
-        sorts,
-        triggers: List::new(rt.alloc()),
-        body: Boxed::new(rt.alloc(), body)?,
-    };
-    let mut terms = one_term(rt.alloc(), numeral(3, 1, false))?;
-    terms.push(numeral(5, 1, false))?;
-    let found = substitute(rt.alloc(), &quant, terms.as_slice())?;
-    let wanted = some_difference(rt.alloc(), numeral(3, 1, false), numeral(5, 1, false))?;
-    assert!(rt; same_formula(&found, &wanted), "3 for x and 5 for y");
+    assert!(rt; puts_three_and_five(rt.alloc())?, "3 for x and 5 for y");
     Ok(())
 }

@@ -1,5 +1,6 @@
 //! Formulas over a few symbols, read and written again; what no formula's text goes on to. What is expected is written by hand from the rules of the texts.
-use ae_base::lists::List;
+use ae_base::lists::{Boxed, List};
+use ae_core::formulas::Formula;
 use ae_core::problems::{Kind, Nature, Signature, SymbolEntry, TypeEntry};
 use ae_core::terms::Sort;
 use ae_core::words::Word;
@@ -21,61 +22,96 @@ fn element(alloc: Global) -> Sort {
     }
 }
 
-fn symbol(
-    alloc: Global,
-    name: &str,
-    args: List<Sort>,
-    gives: Option<Sort>,
-) -> Result<SymbolEntry, AllocError> {
-    Ok(SymbolEntry {
-        name: word(alloc, name)?,
+fn symbol(name: Word, args: List<Sort>, gives: Option<Sort>) -> SymbolEntry {
+    SymbolEntry {
+        name,
         vars: 0,
         args,
         result: gives,
         nature: Nature::Free,
-    })
+    }
 }
 
-/// One type `t`, its constant `a`, a predicate `p` of `t`, and a proposition `q`.
-fn signature(alloc: Global) -> Result<Signature, AllocError> {
+fn types(alloc: Global) -> Result<List<TypeEntry>, AllocError> {
     let mut types = List::new(alloc);
     types.push(TypeEntry {
         name: word(alloc, "t")?,
         arity: 0,
         kind: Kind::Abstract,
     })?;
-    let mut one = List::new(alloc);
-    one.push(element(alloc))?;
+    Ok(types)
+}
+
+fn one_element(alloc: Global) -> Result<List<Sort>, AllocError> {
+    let mut sorts = List::new(alloc);
+    sorts.push(element(alloc))?;
+    Ok(sorts)
+}
+
+fn symbols(alloc: Global) -> Result<List<SymbolEntry>, AllocError> {
     let mut symbols = List::new(alloc);
-    symbols.push(symbol(alloc, "a", List::new(alloc), Some(element(alloc)))?)?;
-    symbols.push(symbol(alloc, "p", one, None)?)?;
-    symbols.push(symbol(alloc, "q", List::new(alloc), None)?)?;
+    let a = word(alloc, "a")?;
+    symbols.push(symbol(a, List::new(alloc), Some(element(alloc))))?;
+    let p = word(alloc, "p")?;
+    symbols.push(symbol(p, one_element(alloc)?, None))?;
+    let q = word(alloc, "q")?;
+    symbols.push(symbol(q, List::new(alloc), None))?;
+    Ok(symbols)
+}
+
+/// One type `t`, its constant `a`, a predicate `p` of `t`, and a proposition `q`.
+fn signature(alloc: Global) -> Result<Signature, AllocError> {
+    let types = types(alloc)?;
+    let symbols = symbols(alloc)?;
     Ok(Signature { types, symbols })
 }
 
-// Whether a line is a formula's text: it is read, and written so.
-fn comes_back(alloc: Global, line: &[u8]) -> Result<bool, AllocError> {
-    let signature = signature(alloc)?;
-    let tables = Tables::new(alloc, &signature)?;
+// Whether a formula and the byte behind it are written so.
+fn is_written(
+    alloc: Global,
+    signature: &Signature,
+    formula: Boxed<Formula>,
+    close: u8,
+    line: &[u8],
+) -> Result<bool, AllocError> {
+    let mut out = Vec::new(alloc);
+    put_formula(&mut out, signature, formula.get())?;
+    out.push(close)?;
+    Ok(out.as_slice() == line)
+}
+
+fn formula_comes_back(
+    alloc: Global,
+    signature: &Signature,
+    tables: &Tables<'_>,
+    line: &[u8],
+) -> Result<bool, AllocError> {
     let env = List::new(alloc);
-    match read_formula(alloc, &tables, env.as_slice(), line, 0, Closing::Line) {
+    match read_formula(alloc, tables, env.as_slice(), line, 0, Closing::Line) {
         Ok(((formula, close), next)) => {
-            let mut out = Vec::new(alloc);
-            put_formula(&mut out, &signature, &formula)?;
-            out.push(close)?;
-            Ok(next == line.len() && out.as_slice() == line)
+            let formula = Boxed::new(alloc, formula)?;
+            let is_same = is_written(alloc, signature, formula, close, line)?;
+            Ok(is_same && next == line.len())
         }
         Err(_) => Ok(false),
     }
 }
 
+// Whether a line is a formula's text: it is read, and written so.
+fn comes_back(alloc: Global, line: &[u8]) -> Result<bool, AllocError> {
+    let signature = signature(alloc)?;
+    let tables = Boxed::new(alloc, Tables::new(alloc, &signature)?)?;
+    formula_comes_back(alloc, &signature, tables.get(), line)
+}
+
+fn formula_fault(alloc: Global, tables: &Tables<'_>, line: &[u8]) -> Option<Fault> {
+    read_positive(alloc, tables, line, 0, Closing::Line).err()
+}
+
 fn fault_of(alloc: Global, line: &[u8]) -> Result<Option<Fault>, AllocError> {
     let signature = signature(alloc)?;
-    let tables = Tables::new(alloc, &signature)?;
-    match read_positive(alloc, &tables, line, 0, Closing::Line) {
-        Ok(_) => Ok(None),
-        Err(fault) => Ok(Some(fault)),
-    }
+    let tables = Boxed::new(alloc, Tables::new(alloc, &signature)?)?;
+    Ok(formula_fault(alloc, tables.get(), line))
 }
 
 #[test]
@@ -97,27 +133,37 @@ fn wrong_formulas(rt: HostRuntime) -> Result<(), Fail> {
     Ok(())
 }
 
-// Whether literals behind `[` are a clause's text: they are read, and written so.
-fn clause_comes_back(alloc: Global, line: &[u8]) -> Result<bool, AllocError> {
-    let signature = signature(alloc)?;
-    let tables = Tables::new(alloc, &signature)?;
-    match read_clause(alloc, &tables, line, 0) {
+fn literals_come_back(
+    alloc: Global,
+    signature: &Signature,
+    tables: &Tables<'_>,
+    line: &[u8],
+) -> Result<bool, AllocError> {
+    match read_clause(alloc, tables, line, 0) {
         Ok((clause, next)) => {
             let mut out = Vec::new(alloc);
-            put_literals(&mut out, &signature, clause.as_slice())?;
+            put_literals(&mut out, signature, clause.as_slice())?;
             Ok(next == line.len() && out.as_slice() == line)
         }
         Err(_) => Ok(false),
     }
 }
 
+// Whether literals behind `[` are a clause's text: they are read, and written so.
+fn clause_comes_back(alloc: Global, line: &[u8]) -> Result<bool, AllocError> {
+    let signature = signature(alloc)?;
+    let tables = Boxed::new(alloc, Tables::new(alloc, &signature)?)?;
+    literals_come_back(alloc, &signature, tables.get(), line)
+}
+
+fn literals_fault(alloc: Global, tables: &Tables<'_>, line: &[u8]) -> Option<Fault> {
+    read_clause(alloc, tables, line, 0).err()
+}
+
 fn clause_fault(alloc: Global, line: &[u8]) -> Result<Option<Fault>, AllocError> {
     let signature = signature(alloc)?;
-    let tables = Tables::new(alloc, &signature)?;
-    match read_clause(alloc, &tables, line, 0) {
-        Ok(_) => Ok(None),
-        Err(fault) => Ok(Some(fault)),
-    }
+    let tables = Boxed::new(alloc, Tables::new(alloc, &signature)?)?;
+    Ok(literals_fault(alloc, tables.get(), line))
 }
 
 #[test]

@@ -20,41 +20,54 @@ fn element(alloc: Global) -> Sort {
     }
 }
 
-fn symbol(
-    alloc: Global,
-    name: &str,
-    args: List<Sort>,
-    gives: Option<Sort>,
-) -> Result<SymbolEntry, AllocError> {
-    Ok(SymbolEntry {
-        name: word(alloc, name)?,
+fn symbol(name: Word, args: List<Sort>, gives: Option<Sort>) -> SymbolEntry {
+    SymbolEntry {
+        name,
         vars: 0,
         args,
         result: gives,
         nature: Nature::Free,
-    })
+    }
 }
 
-/// One type `t`, its constants `a`, `b` and `c`, a symbol `f` of `t`, a predicate `p` of `t`, a proposition `q`, and a constant `x` of `real`.
-fn signature(alloc: Global) -> Result<Signature, AllocError> {
+fn types(alloc: Global) -> Result<List<TypeEntry>, AllocError> {
     let mut types = List::new(alloc);
     types.push(TypeEntry {
         name: word(alloc, "t")?,
         arity: 0,
         kind: Kind::Abstract,
     })?;
+    Ok(types)
+}
+
+fn one_element(alloc: Global) -> Result<List<Sort>, AllocError> {
+    let mut sorts = List::new(alloc);
+    sorts.push(element(alloc))?;
+    Ok(sorts)
+}
+
+fn symbols(alloc: Global) -> Result<List<SymbolEntry>, AllocError> {
     let mut symbols = List::new(alloc);
-    symbols.push(symbol(alloc, "a", List::new(alloc), Some(element(alloc)))?)?;
-    symbols.push(symbol(alloc, "b", List::new(alloc), Some(element(alloc)))?)?;
-    symbols.push(symbol(alloc, "c", List::new(alloc), Some(element(alloc)))?)?;
-    let mut one = List::new(alloc);
-    one.push(element(alloc))?;
-    symbols.push(symbol(alloc, "f", one, Some(element(alloc)))?)?;
-    let mut one = List::new(alloc);
-    one.push(element(alloc))?;
-    symbols.push(symbol(alloc, "p", one, None)?)?;
-    symbols.push(symbol(alloc, "q", List::new(alloc), None)?)?;
-    symbols.push(symbol(alloc, "x", List::new(alloc), Some(Sort::Real))?)?;
+    for name in ["a", "b", "c"] {
+        let name = word(alloc, name)?;
+        symbols.push(symbol(name, List::new(alloc), Some(element(alloc))))?;
+    }
+    let f = word(alloc, "f")?;
+    let args = one_element(alloc)?;
+    symbols.push(symbol(f, args, Some(element(alloc))))?;
+    let p = word(alloc, "p")?;
+    symbols.push(symbol(p, one_element(alloc)?, None))?;
+    let q = word(alloc, "q")?;
+    symbols.push(symbol(q, List::new(alloc), None))?;
+    let x = word(alloc, "x")?;
+    symbols.push(symbol(x, List::new(alloc), Some(Sort::Real)))?;
+    Ok(symbols)
+}
+
+/// One type `t`, its constants `a`, `b` and `c`, a symbol `f` of `t`, a predicate `p` of `t`, a proposition `q`, and a constant `x` of `real`.
+fn signature(alloc: Global) -> Result<Signature, AllocError> {
+    let types = types(alloc)?;
+    let symbols = symbols(alloc)?;
     Ok(Signature { types, symbols })
 }
 
@@ -72,10 +85,7 @@ fn comes_back(alloc: Global, text: &[u8]) -> Result<bool, AllocError> {
 
 fn fault_of(alloc: Global, text: &[u8]) -> Result<Option<Fault>, AllocError> {
     let signature = signature(alloc)?;
-    match read_proof(alloc, &signature, text) {
-        Ok(_) => Ok(None),
-        Err(fault) => Ok(Some(fault)),
-    }
+    Ok(read_proof(alloc, &signature, text).err())
 }
 
 fn wrong_at(alloc: Global, text: &[u8], place: usize) -> Result<bool, AllocError> {

@@ -25,14 +25,14 @@ fn element(alloc: Global) -> Sort {
     }
 }
 
-fn constant(alloc: Global, name: &str, sort: Sort) -> Result<SymbolEntry, AllocError> {
-    Ok(SymbolEntry {
-        name: word(alloc, name)?,
+fn constant(alloc: Global, name: Word, sort: Sort) -> SymbolEntry {
+    SymbolEntry {
+        name,
         vars: 0,
         args: List::new(alloc),
         result: Some(sort),
         nature: Nature::Free,
-    })
+    }
 }
 
 // A symbol of two elements that is associative and commutative.
@@ -41,8 +41,9 @@ fn joining(alloc: Global) -> Result<SymbolEntry, AllocError> {
     for _ in 0..2 {
         args.push(element(alloc))?;
     }
+    let name = word(alloc, "u")?;
     Ok(SymbolEntry {
-        name: word(alloc, "u")?,
+        name,
         vars: 0,
         args,
         result: Some(element(alloc)),
@@ -63,10 +64,12 @@ fn types(alloc: Global) -> Result<List<TypeEntry>, AllocError> {
 fn symbols(alloc: Global) -> Result<List<SymbolEntry>, AllocError> {
     let mut symbols = List::new(alloc);
     for name in ELEMENTS {
-        symbols.push(constant(alloc, name, element(alloc))?)?;
+        let name = word(alloc, name)?;
+        symbols.push(constant(alloc, name, element(alloc)))?;
     }
     for name in NUMBERS {
-        symbols.push(constant(alloc, name, Sort::Real)?)?;
+        let name = word(alloc, name)?;
+        symbols.push(constant(alloc, name, Sort::Real))?;
     }
     symbols.push(joining(alloc)?)?;
     Ok(symbols)
@@ -74,10 +77,9 @@ fn symbols(alloc: Global) -> Result<List<SymbolEntry>, AllocError> {
 
 /// The type `t` with its constants, the constants of `real`, and `u`, which is associative and commutative.
 fn signature(alloc: Global) -> Result<Signature, AllocError> {
-    Ok(Signature {
-        types: types(alloc)?,
-        symbols: symbols(alloc)?,
-    })
+    let types = types(alloc)?;
+    let symbols = symbols(alloc)?;
+    Ok(Signature { types, symbols })
 }
 
 // Whether the bytes are a journal's text: it is read, and written so.
@@ -100,17 +102,11 @@ fn width_comes_back(alloc: Global, signature: &Signature, text: &[u8]) -> Result
 }
 
 fn story_fails(alloc: Global, signature: &Signature, text: &[u8], fault: Fault) -> bool {
-    match read_story(alloc, signature, text) {
-        Ok(_) => false,
-        Err(found) => found == fault,
-    }
+    read_story(alloc, signature, text).err() == Some(fault)
 }
 
 fn width_fails(alloc: Global, signature: &Signature, text: &[u8], fault: Fault) -> bool {
-    match read_number(alloc, signature, text) {
-        Ok(_) => false,
-        Err(found) => found == fault,
-    }
+    read_number(alloc, signature, text).err() == Some(fault)
 }
 
 /// Each kind of line.

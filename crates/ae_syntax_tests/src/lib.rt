@@ -1,5 +1,0 @@
-//! Tests of the grammar by example.
-#![tactic(auto)]
-
-#[cfg(test)]
-mod tests;
