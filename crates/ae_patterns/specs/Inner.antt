@@ -1,0 +1,2 @@
+-- Types of the signature.
+pub mod Counts
