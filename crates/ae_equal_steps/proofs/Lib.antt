@@ -1,0 +1,5 @@
+mod PatternLaws
+mod Adding
+mod PairLaws
+mod FieldSteps
+mod Alike

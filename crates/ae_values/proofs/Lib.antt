@@ -1,0 +1,12 @@
+mod NumberPuts
+mod PutValues
+mod Restating
+mod Said
+mod Puttable
+mod AfterPut
+mod WidthLaws
+mod Kept
+mod LeafPuts
+mod Leadable
+mod AfterLead
+mod Occurring
