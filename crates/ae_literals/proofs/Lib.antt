@@ -1,0 +1,5 @@
+mod NamedLiterals
+mod SaidEquations
+pub mod SeenConstructors
+mod OpposedAtoms
+mod Meeting

@@ -1,0 +1,3 @@
+-- What the parts find, and how far they have come.
+pub mod Parts
+pub mod Seen

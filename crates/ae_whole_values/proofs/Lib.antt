@@ -1,0 +1,7 @@
+mod WholeForms
+mod NotWhole
+mod CommonDivisors
+mod Evaluated
+mod Unsolvable
+mod Shown
+mod Held

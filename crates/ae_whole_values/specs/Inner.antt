@@ -1,0 +1,2 @@
+-- Values that no integer has.
+pub mod Multiples
