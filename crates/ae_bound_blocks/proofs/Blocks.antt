@@ -1,38 +1,56 @@
--- The lines of the rows of which a row is made end by that row.
-use Rattle.std.specs.Prelude.{ℕ, ◌+◌, ◌<◌, ◌≡◌, Bool, true, List, length, take, slice_get, get_or, Some}
-use Rattle.std.specs.List.{AllByRecursion, flat_map}
+-- The lines of the rows of which a row is made end by one that says it.
+use Rattle.std.specs.Prelude.{ℕ, zero, suc, ◌+◌, ◌<◌, ◌≡◌, Bool, true, List, [], ◌∷◌, ◌++◌, length, take, slice_get, get_or, Some}
+use Rattle.std.specs.List.{AllByRecursion}
 use Rattle.std.proofs.Common.{arith, refl, sym, ap, ◌∙◌, subst, take_all}
 use Rattle.std.proofs.lemmas.List.{length-take-le}
-use Rattle.std.proofs.lemmas.Option.{slice_get_within}
+use Rattle.std.proofs.lemmas.Option.{slice_get_within, same_Some}
 use Rattle.ae_base.proofs.AllOf.{all_at}
 use Rattle.ae_base.proofs.ListFacts.{get_front}
 use Rattle.ae_core.specs.declared.terms.Term.{Term}
 use Rattle.ae_core.specs.declared.problems.Signature.{Signature}
-use Rattle.ae_num.specs.Forms.{IsNormal}
-use Rattle.ae_rules.specs.Derivations.{EndsZero}
+use Rattle.ae_core.specs.declared.proofs.EqLine.{EqLine}
+use Rattle.ae_core.specs.declared.proofs.Deriv.{Deriv}
+use Rattle.ae_num.specs.Forms.{meaning, IsNormal}
+use Rattle.ae_rules.specs.Lines.{Fact, Stated, states, HaveSort}
+use Rattle.ae_row_lines.specs.Says.{Says}
+use Rattle.ae_store.specs.Terms.{named}
+use Rattle.ae_state_steps.specs.ValueSteps.{sort_for}
 use Rattle.ae_bounds.specs.declared.rows.Row.{Row}
 use Rattle.ae_journal.proofs.Splits.{contains_at}
 use Rattle.ae_bounds.specs.Rounding.{AreRounded}
-use Rattle.ae_bounds.specs.Findings.{AreFounded, IsRefutedAt}
-use Rattle.ae_trim.specs.Inner.Marks.{marked, MarkUsed}
+use Rattle.ae_bounds.specs.Findings.{AreFounded}
+use Rattle.ae_trim.specs.Inner.Marks.{MarkUsed}
 use Rattle.ae_bound_blocks.specs.declared.given.Given.{Given}
 use Rattle.ae_bound_blocks.specs.declared.emitting.Emitted.{Emitted}
-use Rattle.ae_bound_blocks.specs.Ancestors.{IsAncestor, itself, tags_of, AreTagsOf}
-use Rattle.ae_bound_blocks.specs.Said.{kept, AreGiven, AreOpaqueRounded}
+use Rattle.ae_bound_blocks.specs.Ancestors.{itself, tags_of, AreTagsOf}
+use Rattle.ae_bound_blocks.specs.Said.{kept, row_fact, IsGiven, AreGiven, AreOpaqueRounded}
 use Rattle.ae_bound_blocks.specs.Inner.Marks.{as_lines}
 use Rattle.ae_bound_blocks.specs.Inner.Emitting.{IsSaid, AreReady, AreEmitted}
 use Rattle.ae_bound_blocks.proofs.Marking.{get_within, founded_first, exactly, marks_closed, marks_long, tags_first}
-use Rattle.ae_bound_blocks.proofs.Ending.{row_ends}
+use Rattle.ae_bound_blocks.proofs.Saying.{says_row}
+use Rattle.ae_bound_blocks.proofs.Sorting.{row_sorted}
 
-module _ (sig : Signature) (ts : List Term) (real : Bool) (rows : List Row) (place : ℕ) (given : List Given) (normal : AllByRecursion (λ (r : Row). IsNormal r.lin) rows) (founded : AreFounded rows) (refuted : IsRefutedAt rows place)
-    (are_given : AreGiven sig ts real rows place given) (were : AreRounded rows) (opaque : AreOpaqueRounded ts real rows place) where
-  pub within : place < length rows
-  within = slice_get_within rows place refuted.row refuted.at
+-- the last of some lines
+last_of : (lines : List EqLine) (k : ℕ) (f : Fact) → suc k ≡ length lines → Stated lines k f → (front : List EqLine) × (l : EqLine) × (lines ≡ front ++ l ∷ []) × (states l ≡ f)
+last_of [] k f e s = absurd (omega (arith, e))
+last_of (x ∷ []) zero f e s = ([], x, refl, same_Some (states x) f s)
+last_of (x ∷ []) (suc k) f e s = absurd (omega (arith, e))
+last_of (x ∷ y ∷ rest) zero f e s = absurd (omega (arith, e))
+last_of (x ∷ y ∷ rest) (suc k) f e s = let r = last_of (y ∷ rest) k f (omega (arith, e)) s in (x ∷ r.0, r.1, ap (λ ls. x ∷ ls) r.2, r.3)
+
+-- what gives a row by its own form
+abbrev pub lines_from : Deriv → Bool → Row → Given
+lines_from d real r = record { deriv = d; multiple = r.lin.den; real = real }
+
+module _ (sig : Signature) (ts : List Term) (real : Bool) (rows : List Row) (place : ℕ) (given : List Given) (normal : AllByRecursion (λ (r : Row). IsNormal r.lin) rows) (founded : AreFounded rows) (row : Row)
+    (at_place : slice_get rows place ≡ Some row) (are_given : AreGiven sig ts real rows place given) (were : AreRounded rows) (opaque : AreOpaqueRounded ts real rows place) where
+  within : place < length rows
+  within = slice_get_within rows place row at_place
 
   abbrev first : List Row
   first = take (place + 1) rows
 
-  pub first_long : length first ≡ place + 1
+  first_long : length first ≡ place + 1
   first_long = let l = within in length-take-le (place + 1) rows (omega (arith, l))
 
   module _ (ms : List Bool) (m : MarkUsed (as_lines true first) ms) where
@@ -50,18 +68,27 @@ module _ (sig : Signature) (ts : List Term) (real : Bool) (rows : List Row) (pla
     }
 
     module _ (e : Emitted) (emitted : AreEmitted sig ts real first given ms (length first) e) where
-      pub last_place : place < length e.places
-      last_place = let a = emitted.places in let b = first_long in omega (arith, a, b)
-
-      last_said : IsSaid sig ts real e.deriv.lines (get_or e.places place 0) (kept refuted.row)
+      last_said : IsSaid sig ts real e.deriv.lines (get_or e.places place 0) (kept row)
       last_said =
-          emitted.said place refuted.row (let b = first_long in omega (arith, b)) ((exactly true rows place within founded ms m place).1 itself)
-          (get_within (place + 1) rows place (omega arith) ∙ refuted.at)
+          emitted.said place row (let b = first_long in omega (arith, b)) ((exactly true rows place within founded ms m place).1 itself)
+          (get_within (place + 1) rows place (omega arith) ∙ at_place)
 
-      pub ends_zero : EndsZero sig e.deriv.lines (get_or e.places place 0)
-      ends_zero =
-          row_ends sig ts real refuted.row.strict refuted.row.lin e.deriv.lines (get_or e.places place 0) (all_at (λ (x : Row). IsNormal x.lin) rows place refuted.row normal refuted.at) last_said.numbers
-          refuted.refuted last_said.stated
+      -- the last line says the row
+      pub last_given : IsGiven sig ts real (kept row) (lines_from e.deriv real row)
+      last_given =
+          let n : suc (get_or e.places place 0) ≡ length e.deriv.lines = emitted.last place (let b = first_long in omega (arith, b)) ((exactly true rows place within founded ms m place).1 itself) in
+          let w = last_of e.deriv.lines (get_or e.places place 0) (row_fact ts real row.strict row.lin) n last_said.stated in
+          let o = all_at (λ (x : Row). IsNormal x.lin) rows place row normal at_place in
+          record {
+            allowed = emitted.allowed;
+            front = w.0;
+            last = w.1;
+            lines = w.2;
+            relation = ap (λ (f : Fact). f.relation) w.3;
+            says = subst (Says (named ts) row.lin.den (meaning row.lin)) (sym w.3) (says_row ts real row.strict row.lin o);
+            sorted = subst (HaveSort sig (sort_for real)) (sym w.3) (row_sorted sig ts real row.strict row.lin o last_said.numbers);
+            numbers = last_said.numbers;
+          }
 
       pub tags_are : AreTagsOf rows place e.tags
       tags_are = record {

@@ -1,5 +1,5 @@
-mod Saying
-mod Sorting
+pub mod Saying
+pub mod Sorting
 pub mod Naming
 pub mod Marking
 mod Adding

@@ -70,6 +70,9 @@ module _ (sig : Signature) (ts : List Term) (real : Bool) (rows : List Row) (giv
     allowed = more.said.allowed;
     places = ap length more.places ∙ length_push old.places more.place ∙ ap (λ k. k + 1) a.places;
     said = said;
+    last = λ k q w.
+        let s : n ≡ k = omega (arith, q) in
+        ap suc (ap (λ xs. get_or xs k 0) more.places ∙ get_or_at old.places more.place [] 0 k (let z = a.places in omega (arith, z, s))) ∙ more.last;
     tags = tags ∙ ap (λ xs. xs ++ tag_of r.from) a.tags ∙ sym (tags_step marks rows n r m e) ∙ ap (λ k. tags_of (take k marks) rows) (let h : suc n ≡ n + 1 = omega arith in h);
     hyps = hyps ∙ ap (λ hs. hs ++ flat_map (hyps_of given) (tag_of r.from)) a.hyps ∙ sym (flat_map-append (hyps_of given) old.tags (tag_of r.from)) ∙ ap (flat_map (hyps_of given)) (sym tags);
   }
@@ -94,6 +97,7 @@ module _ (sig : Signature) (ts : List Term) (real : Bool) (rows : List Row) (giv
     allowed = subst (λ ls. AllAllowed sig (fact_ok sig) new.deriv.hyps [] ls) (sym lines) (subst (λ hs. AllAllowed sig (fact_ok sig) hs [] old.deriv.lines) (sym hyps) a.allowed);
     places = ap length places ∙ length_push old.places 0 ∙ ap (λ k. k + 1) a.places;
     said = said;
+    last = λ k q w. absurd (true≢false (sym (subst (λ z. marked marks z ≡ true) (let s : k ≡ n = omega (arith, q) in s) w) ∙ m));
     tags = tags ∙ a.tags ∙ sym (tags_skip marks rows n m) ∙ ap (λ k. tags_of (take k marks) rows) (let h : suc n ≡ n + 1 = omega arith in h);
     hyps = hyps ∙ a.hyps ∙ ap (flat_map (hyps_of given)) (sym tags);
   }
@@ -112,6 +116,7 @@ module _ (sig : Signature) (ts : List Term) (real : Bool) (rows : List Row) (giv
     allowed = subst (λ ls. AllAllowed sig (fact_ok sig) e.deriv.hyps [] ls) (sym lines) tt;
     places = ap length places;
     said = λ k x l w q. absurd (omega (arith, l));
+    last = λ k q w. absurd (omega (arith, q));
     tags = tags;
     hyps = hyps ∙ ap (flat_map (hyps_of given)) (sym tags);
   }

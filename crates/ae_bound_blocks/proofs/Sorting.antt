@@ -28,7 +28,7 @@ is_number_sort true = inr refl
 is_number_sort false = inl refl
 
 -- a name of a number is a name of the store
-name_within : (sig : Signature) (ts : List Term) (real : Bool) (n : ℕ) → IsNumberName sig ts real n → n < length ts
+pub name_within : (sig : Signature) (ts : List Term) (real : Bool) (n : ℕ) → IsNumberName sig ts real n → n < length ts
 name_within sig ts real n h = elim (cases_lt n (length ts)) [
   | inl l ↦ l
   | inr l ↦

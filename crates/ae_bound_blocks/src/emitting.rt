@@ -52,7 +52,7 @@ fn strict_of(row: &Row) -> bool
 }
 
 /// The number of the last line.
-fn last_line(deriv: &Deriv) -> usize
+pub fn last_line(deriv: &Deriv) -> usize
     requires some { 0 < length deriv.now.lines }
     ensures { suc result ≡ length deriv.now.lines }
 {

@@ -1,5 +1,5 @@
 //! The block of a row that can't hold.
-ghost use Rattle.std.specs.Prelude.{◌≡◌, ◌<◌, ◌+◌, ℕ, length, take, IfOk};
+ghost use Rattle.std.specs.Prelude.{◌≡◌, ℕ, IfOk};
 ghost use Rattle.std.specs.List.{AllByRecursion, flat_map};
 ghost use Rattle.ae_num.specs.Forms.{IsNormal};
 ghost use Rattle.ae_rules.specs.Derivations.{IsContradictory};
@@ -11,10 +11,9 @@ ghost use Rattle.ae_bounds.specs.Findings.{AreFounded, IsRefutedAt};
 ghost use Rattle.ae_bound_blocks.specs.Ancestors.{AreTagsOf, hyps_of};
 ghost use Rattle.ae_bound_blocks.specs.Said.{AreGiven, AreOpaqueRounded};
 
-use crate::ancestors::ancestors;
-use crate::emitting::{Emitted, emit};
+use crate::derived::{Grounds, derive};
+use crate::emitting::last_line;
 use crate::given::Given;
-use crate::lines::line_at;
 use ae_bounds::rows::Row;
 use ae_core::proofs::{Block, Ending};
 use ae_store::store::Store;
@@ -45,15 +44,14 @@ pub fn explain(
     ensures tags { IfOk result (λ e. AreTagsOf rows.now place e.tags) }
     ensures hyps { IfOk result (λ e. e.block.deriv.hyps ≡ flat_map (hyps_of given.now) e.tags) }
 {
-    let first = &rows[..place + 1];
-    let marks = ancestors(alloc, first, true)?;
-    let emitted = emit(alloc, store, real, first, given, &marks)?;
-    let line = line_at(emitted.places.as_slice(), place);
-    let Emitted {
+    let grounds = derive(alloc, store, rows, place, real, given)?;
+    let Grounds { given: lines, tags } = grounds;
+    let Given {
         deriv,
-        tags,
-        places: _,
-    } = emitted;
+        multiple: _,
+        real: _,
+    } = lines;
+    let line = last_line(&deriv);
     let ending = Ending::Zero { line };
     Ok(Explained {
         block: Block { deriv, ending },

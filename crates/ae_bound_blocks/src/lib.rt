@@ -2,8 +2,9 @@
 #![tactic(auto)]
 
 mod ancestors;
+pub mod derived;
 mod emitting;
 pub mod explaining;
 pub mod given;
-mod lines;
+pub mod lines;
 pub mod tight;

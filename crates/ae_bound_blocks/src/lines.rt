@@ -45,7 +45,7 @@ fn side_of(alloc: Global, real: bool, form: &Lin) -> Result<Side, AllocError>
 }
 
 /// A form times its denominator, written out.
-fn sum_term(alloc: Global, store: &Store, real: bool, form: &Lin) -> Result<Term, AllocError>
+pub fn sum_term(alloc: Global, store: &Store, real: bool, form: &Lin) -> Result<Term, AllocError>
     requires within { ArePartsWithin (length (terms (shapes store.now.nodes))) (times_of form.now.parts) }
     ensures { IfOk result (λ t. t ≡ spec.sum_term (terms (shapes store.now.nodes)) real form.now) }
 {

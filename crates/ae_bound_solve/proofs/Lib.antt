@@ -1,3 +1,3 @@
-mod OneSort
-mod Extended
+pub mod OneSort
+pub mod Extended
 mod Making

@@ -198,7 +198,7 @@ module _ (sig : Signature) (ts : List Term) (rows : List Row) (given : List Give
       by_origin before (Combined lower upper) e = of_combined k r at lower upper e before
 
   module _ (place : ℕ) (row : Row) (at : slice_get rows place ≡ Some row) where
-    pub one_sort : (real : Bool) × AreOfSort rows given place real × ((x : Bool) → x ≡ real → AreGiven sig ts x rows place given × AreOpaqueRounded ts x rows place)
+    pub one_sort : (real : Bool) × AreOfSort rows given place real × ((x : Bool) → x ≡ real → AreGiven sig ts x rows place given × AreOpaqueRounded ts x rows place) × (row.integral ≡ true → real ≡ false)
     one_sort =
         let s = sorted_below (suc place) place row (omega arith) at in (
           s.real,
@@ -210,4 +210,9 @@ module _ (sig : Signature) (ts : List Term) (rows : List Row) (given : List Give
                     (g.0, g.1, subst (λ (y : Bool). IsGiven sig ts y (was r) g.0) ((s.below k r a b).0 tag g.0 f g.1) g.2)),
                 (λ k r u a b f. (s.below k r a b).1 u f),
               )),
+          s.whole,
         )
+
+    -- the names of a row over integers are opaque terms
+    pub opaque_row : row.integral ≡ true → AllByRecursion (λ (p : Part). form (named ts p.key) ≡ single (named ts p.key)) row.lin.parts
+    opaque_row i = (opaque_form row.lin ((sorted_below (suc place) place row (omega arith) at).own i)).opaque

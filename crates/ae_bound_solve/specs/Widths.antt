@@ -13,6 +13,6 @@ use Rattle.ae_bound_rest.specs.Rest.{AreNoted}
 abbrev pub IsWidth : List Row → WideAt → Type 0
 IsWidth rows w = IsWideIn rows w ⊎ (IsPointWide (IsNonzeroRow rows) w × AreFinished rows)
 
--- nothing more was noted, or combinations that were left
+-- nothing more was noted, or combinations that were left of rows that have all theirs
 abbrev pub AreNotedOrNone : List Row → List Line → List Line → Type 0
-AreNotedOrNone rows js ks = (ks ≡ js) ⊎ AreNoted rows js ks
+AreNotedOrNone rows js ks = (ks ≡ js) ⊎ (AreFinished rows × AreNoted rows js ks)

@@ -2,6 +2,7 @@
 #![tactic(auto)]
 
 pub mod answer;
+pub mod derived;
 pub mod licensed;
 mod refuted;
 pub mod solving;

@@ -18,7 +18,7 @@ ghost use Rattle.ae_bounds.specs.Findings.{IsRefutedAt, NoneIsRefuted};
 ghost use Rattle.ae_bound_points.specs.Points.{ArePositiveAt};
 ghost use Rattle.ae_bound_blocks.specs.Ancestors.{AreTagsOf, hyps_of};
 ghost use Rattle.ae_bound_blocks.specs.Tight.{AreTight};
-ghost use Rattle.ae_bound_rest.specs.Laws.{AreAgreed, AreSolid, AreThoseAssumed};
+ghost use Rattle.ae_bound_rest.specs.Laws.{AreAgreed, AreThoseAssumed};
 ghost use Rattle.ae_bound_solve.specs.Given.{AreAllGiven, AreOpaqueNames};
 ghost use Rattle.ae_bound_solve.specs.Widths.{IsWidth, AreNotedOrNone};
 ghost use Rattle.ae_bound_solve.specs.declared.answer.Answer.TheVariants.{Point, Contradiction, Tight};
@@ -53,7 +53,7 @@ fn with_rest(alloc: Global, bounds: &Bounds, journal: &mut Journal, wide: WideAt
     ensures noted { AreNotedOrNone bounds.now journal.old.lines journal.new.lines }
     ensures limit { journal.new.limit ≡ journal.old.limit }
     ensures steps { result ≡ Steps → counted_in journal.new.lines ≡ journal.new.limit }
-    ensures licensed { (at : WideAt) (x : Setting) → result ≡ Number at → AreAgreed x journal.old.lines bounds.now → AreSolid bounds.now → AreThoseAssumed x journal.new.lines bounds.now → IsLicensed x journal.new.lines at }
+    ensures licensed { (at : WideAt) (x : Setting) → result ≡ Number at → AreAgreed x journal.old.lines bounds.now → AreThoseAssumed x journal.new.lines bounds.now → IsLicensed x journal.new.lines at }
 {
     if is_of_combination(&wide) {
         return Fail::Number(wide);
@@ -86,7 +86,7 @@ pub fn solve_licensed(
     ensures extended { (js : List Line) × IsExtended bounds.old journal.old.lines bounds.new js × AreNotedOrNone bounds.new js journal.new.lines }
     ensures limit { journal.new.limit ≡ journal.old.limit }
     ensures steps { result ≡ Err Steps → counted_in journal.new.lines ≡ journal.new.limit }
-    ensures licensed { (wide : WideAt) (x : Setting) → result ≡ Err (Number wide) → AreAgreed x journal.old.lines bounds.old → AreSolid bounds.new → AreThoseAssumed x journal.new.lines bounds.new → IsLicensed x journal.new.lines wide }
+    ensures licensed { (wide : WideAt) (x : Setting) → result ≡ Err (Number wide) → AreAgreed x journal.old.lines bounds.old → AreThoseAssumed x journal.new.lines bounds.new → IsLicensed x journal.new.lines wide }
 {
     match solve(alloc, store, bounds, journal, given) {
         Ok(answer) => Ok(answer),

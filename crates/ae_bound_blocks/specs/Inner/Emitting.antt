@@ -66,10 +66,11 @@ pub record AreReady (sig : Signature) (ts : List Term) (real : Bool) (rows : Lis
   pub closed : (k p : ℕ) → marked marks k ≡ true → Contains (sources_at true rows k) p → marked marks p ≡ true
   pub each_given : (k tag : ℕ) (r : Row) → marked marks k ≡ true → slice_get rows k ≡ Some r → r.from ≡ Assumed tag → (g : Given) × (slice_get given tag ≡ Some g) × IsGiven sig ts real (was r) g
 
--- the marked ones of the first rows are said by lines
+-- the marked ones of the first rows are said by lines, the last of these, where it is marked, by the last one
 pub record AreEmitted (sig : Signature) (ts : List Term) (real : Bool) (rows : List Row) (given : List Given) (marks : List Bool) (count : ℕ) (e : Emitted) : Type 0 where
   pub allowed : AllAllowed sig (fact_ok sig) e.deriv.hyps [] e.deriv.lines
   pub places : length e.places ≡ count
   pub said : (k : ℕ) (r : Row) → k < count → marked marks k ≡ true → slice_get rows k ≡ Some r → IsSaid sig ts real e.deriv.lines (get_or e.places k 0) (kept r)
+  pub last : (k : ℕ) → suc k ≡ count → marked marks k ≡ true → suc (get_or e.places k 0) ≡ length e.deriv.lines
   pub tags : e.tags ≡ tags_of (take count marks) rows
   pub hyps : e.deriv.hyps ≡ flat_map (hyps_of given) e.tags

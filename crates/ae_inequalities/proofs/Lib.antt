@@ -1,0 +1,5 @@
+mod Sources
+mod JoinedTags
+mod Numbered
+mod Legal
+mod More
