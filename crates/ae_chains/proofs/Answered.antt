@@ -1,11 +1,11 @@
 -- A refuted chain is a valid goal, and a chain that values tell apart is one that has a saturated state and no derivation.
-use Rattle.std.specs.Prelude.{ℕ, zero, suc, ◌+◌, ◌<◌, Bool, false, List, [], ◌∷◌, ◌++◌, ◌≡◌, ◌≢◌, length, get_or, slice_get, Some, None}
+use Rattle.std.specs.Prelude.{ℕ, zero, suc, ◌+◌, ◌<◌, Bool, true, false, List, [], ◌∷◌, ◌++◌, ◌≡◌, ◌≢◌, length, get_or, slice_get, Some, None}
 use Rattle.std.specs.List.{AllByRecursion}
 use Rattle.std.proofs.Common.{refl, sym, ap, ◌∙◌, subst, arith, inl, inr, append_assoc, append-nil}
 use Rattle.std.proofs.lemmas.Option.{same_Some, slice_get_within, get_or_from_slice_get}
 use Rattle.ae_base.specs.Options.{◌>>=◌}
 use Rattle.ae_base.specs.Relations.{Pairwise}
-use Rattle.ae_rules.specs.Derivations.{Derives, goal_body}
+use Rattle.ae_rules.specs.Derivations.{Derives, clause_ok, goal_body}
 use Rattle.ae_core.specs.Signatures.{IsLawful}
 use Rattle.ae_core.specs.Sorts.{sort_of}
 use Rattle.ae_core.specs.declared.terms.Sort.{Named}
@@ -28,12 +28,12 @@ use Rattle.ae_chains.specs.Inner.ChainProofs.{chain_proof}
 use Rattle.ae_chains.specs.Inner.Search.{Refutes, IsOpen, block_of}
 use Rattle.ae_chains.specs.Inner.Merging.{numbers_of}
 use Rattle.ae_chains.specs.Inner.StateChains.{constant_system, state_literals, state_of}
-use Rattle.ae_chains.specs.Inner.Answers.{IsPartOf, by_refutation, by_values}
+use Rattle.ae_chains.specs.Inner.Answers.{IsPartBy, IsFound, by_refutation, by_values}
 use Rattle.ae_journal.specs.States.{IsSaturated}
 use Rattle.ae_journal.specs.Evaluate.{is_true_at, unassigned}
 use Rattle.ae_journal.specs.declared.answers.Answer.TheVariants.{Unknown}
 use Rattle.ae_statetext.specs.AnswerTexts.{answer_text}
-use Rattle.ae_chains.proofs.ChainProof.{derives}
+use Rattle.ae_chains.proofs.ChainProof.{derives, state_ok}
 use Rattle.ae_chains.proofs.ChainTrimmed.{chain_axioms, chain_used}
 use Rattle.ae_chains.proofs.ChainValues.{proof_signed, state_signed}
 use Rattle.ae_chains.proofs.ConstantSystems.{constants_fit}
@@ -94,6 +94,13 @@ module _ (p : Problem) (cs : Chains) (lawful : IsLawful p.signature) (is : AreCh
   ok : IsChainOver (length table) g
   ok = over p.signature table g at.is_chain
 
+  pub derived : (r : Refutation) → Refutes table g.hyps g.last r → Derives p k (chain_proof table g.hyps g.last (block_of g.hyps r))
+  derived r h = derives p k table g.hyps g.last (λ c lt. (_, constants_fit p.signature table is.table c lt)) body_is r at.is_chain.hyps at.is_chain.last h
+
+  -- each literal of the goal's state is closed and well sorted
+  pub literals_ok : clause_ok p.signature (state_literals table g.hyps g.last) ≡ true
+  literals_ok = state_ok p k table g.hyps g.last (λ c lt. (_, constants_fit p.signature table is.table c lt)) body_is g.hyps g.last at.is_chain.hyps at.is_chain.last
+
   -- the part of a goal that is refuted
   valid_part : (r : Refutation) (part : List ℕ) → Refutes table g.hyps g.last r
       → part ≡ valid_text p.signature at.name [] (chain_proof table g.hyps g.last (block_of g.hyps r)) → IsValidPart p k part
@@ -101,7 +108,7 @@ module _ (p : Problem) (cs : Chains) (lawful : IsLawful p.signature) (is : AreCh
     name = at.name;
     is_name = name_is;
     proof = chain_proof table g.hyps g.last (block_of g.hyps r);
-    derives = derives p k table g.hyps g.last (λ c lt. (_, constants_fit p.signature table is.table c lt)) body_is r at.is_chain.hyps at.is_chain.last h;
+    derives = derived r h;
     used = chain_used table g.hyps g.last (block_of g.hyps r);
     axioms = [];
     are_axioms = chain_axioms table g.hyps g.last (block_of g.hyps r);
@@ -111,7 +118,7 @@ module _ (p : Problem) (cs : Chains) (lawful : IsLawful p.signature) (is : AreCh
 
   -- the state of a goal whose sides have different values
   module _ (vs : List NamedValue) (open_values : IsOpen (length table) g.hyps g.last vs) where
-    values : IsValues (length table) (numbers_of vs)
+    pub values : IsValues (length table) (numbers_of vs)
     values = subst (IsValues (length table)) (sym open_values.numbers) (values_are (length table) g.hyps ok.hyps)
 
     same : AllByRecursion (Same (numbers_of vs)) g.hyps
@@ -122,7 +129,7 @@ module _ (p : Problem) (cs : Chains) (lawful : IsLawful p.signature) (is : AreCh
         subst (Keeps (length table) (λ c. sort_of p.signature (constant table c))) (sym open_values.numbers)
         (values_keep (length table) (λ c. sort_of p.signature (constant table c)) g.hyps ok.hyps (hyps_alike p.signature table g.hyps at.is_chain.hyps))
 
-    saturated_here : (bound : ℕ) → IsSaturated p k (state_of table g.hyps g.last (numbers_of vs)) bound
+    pub saturated_here : (bound : ℕ) → IsSaturated p k (state_of table g.hyps g.last (numbers_of vs)) bound
     saturated_here = saturated p k table (in_reach p cs is) is.table g (numbers_of vs) values keep body_of ok.hyps ok.last same open_values.apart
 
     false_here : (way : Bool) (b : Formula) → goal_body p k ≡ Some b
@@ -144,9 +151,9 @@ module _ (p : Problem) (cs : Chains) (lawful : IsLawful p.signature) (is : AreCh
     }
 
   -- the part of a goal
-  pub goal_is_part : (part : List ℕ) → IsPartOf p.signature table at.name g part → IsPart p k part
-  goal_is_part part (by_refutation r h w) = inl (valid_part r part h w)
-  goal_is_part part (by_values vs h w) = inr (unknown_part vs h part w)
+  pub goal_is_part : (Q : Refutation → Type 0) (part : List ℕ) → IsPartBy Q p.signature table at.name g part → IsPart p k part
+  goal_is_part Q part (by_refutation r h q w) = inl (valid_part r part h w)
+  goal_is_part Q part (by_values vs h w) = inr (unknown_part vs h part w)
 
 -- ---- the goal of a call
 module _ (p : Problem) (cs : Chains) (is : AreChains p cs) (k : ℕ) (lt : k < length p.items) where
@@ -162,14 +169,14 @@ module _ (p : Problem) (cs : Chains) (is : AreChains p cs) (k : ℕ) (lt : k < l
   pub goal_over : (g : Chain) → g ≡ get_or cs.goals k g → IsChainOver (length cs.constants) g
   goal_over g e = subst (IsChainOver (length cs.constants)) (sym (its_goal g e)) (over p.signature cs.constants at.goal at.is_chain)
 
-  pub part_is : IsLawful p.signature → (table name : List ℕ) (g : Chain) (x : Item) (part : List ℕ) → table ≡ cs.constants → name ≡ item_name x → x ≡ get_or p.items k x → g ≡ get_or cs.goals k g
-      → IsPartOf p.signature table name g part → IsPart p k part
-  part_is lawful table name g x part t n e f h =
+  -- what was found, in the goal's own words
+  pub found_is : (table name : List ℕ) (g : Chain) (x : Item) (part : List ℕ) → table ≡ cs.constants → name ≡ item_name x → x ≡ get_or p.items k x → g ≡ get_or cs.goals k g
+      → IsFound p.signature table name g part → IsFound p.signature cs.constants at.name at.goal part
+  found_is table name g x part t n e f h =
       let same : name ≡ at.name = n ∙ ap item_name (e ∙ get_or_from_slice_get p.items k _ x at.is_item) in
-      goal_is_part p cs lawful is k at part
-      (subst (λ z. IsPartOf p.signature z at.name at.goal part) t
-      (subst (λ z. IsPartOf p.signature table z at.goal part) same
-      (subst (λ z. IsPartOf p.signature table name z part) (its_goal g f) h)))
+      subst (λ z. IsFound p.signature z at.name at.goal part) t
+      (subst (λ z. IsFound p.signature table z at.goal part) same
+      (subst (λ z. IsFound p.signature table name z part) (its_goal g f) h))
 
 -- ---- parts in order
 -- one part more

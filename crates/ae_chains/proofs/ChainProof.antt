@@ -25,6 +25,7 @@ use Rattle.ae_core.specs.declared.proofs.ClauseLine.TheVariants.{Goal, Def, Bloc
 use Rattle.ae_chains.specs.declared.chains.Equation.{Equation}
 use Rattle.ae_chains.specs.Inner.Chains.{constant, equation, chain, IsEquationOf}
 use Rattle.ae_chains.specs.Inner.ChainProofs.{assumed, defs, hints, chain_proof}
+use Rattle.ae_chains.specs.Inner.StateChains.{state_literals}
 use Rattle.ae_chains.specs.Inner.Search.{IsStep, OfConstants, Refutes, block_of, no_signature, any}
 use Rattle.ae_chains.specs.declared.search.Refutation.{Refutation}
 use Rattle.ae_chains.proofs.Equations.{sides_are, formula_of, signs_differ}
@@ -107,6 +108,12 @@ module _ (p : Problem) (k : ℕ) (table : List ℕ) (es : List Equation) (g : Eq
   chain_ok (e ∷ hs) t ws w =
       formula_in_or p.signature (is_closed_sort p.signature) [] (Not (equation table e)) (chain table hs t)
       ∙ (λ i. (formula_in_not p.signature (is_closed_sort p.signature) [] (equation table e) ∙ equation_ok e ws.0) i && chain_ok hs t ws.1 w i)
+
+  -- each literal of the chain's state is closed and well sorted
+  pub state_ok : (hs : List Equation) (t : Equation) → AllByRecursion (IsEquationOf p.signature table) hs → IsEquationOf p.signature table t
+      → clause_ok p.signature (state_literals table hs t) ≡ true
+  state_ok [] t ws w = and_from _ true (equation_ok t w) refl
+  state_ok (e ∷ hs) t ws w = and_from _ _ (chain_ok (e ∷ hs) t ws w) (and_from _ _ (equation_ok e ws.0) (state_ok hs t ws.1 w))
 
   -- ---- the block
   -- both sides have one sort

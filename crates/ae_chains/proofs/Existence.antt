@@ -182,14 +182,14 @@ module _ (p : Problem) (cs : Chains) (lawful : IsLawful p.signature) (is : AreCh
       (λ same.
       let r = refuted table g.hyps g.last ok.hyps ok.last same.1 in
       let part = valid_text p.signature at.name [] (chain_proof table g.hyps g.last (block_of g.hyps r.0)) in
-      (part, goal_is_part p cs lawful is k at part (by_refutation r.0 r.1 refl)))
+      (part, goal_is_part p cs lawful is k at (λ f. Unit {0}) part (by_refutation r.0 r.1 tt refl)))
       (λ other.
       let open_values : IsOpen (length table) g.hyps g.last (named_values vs) = record {
         numbers = numbers_named vs;
         apart = subst (λ z. get_or z g.last.left 0 ≢ get_or z g.last.right 0) (sym (numbers_named vs)) other.1;
       } in
       let part = answer_text p.signature at.name (Unknown (state_of table g.hyps g.last (numbers_of (named_values vs)))) in
-      (part, goal_is_part p cs lawful is k at part (by_values (named_values vs) open_values refl)))
+      (part, goal_is_part p cs lawful is k at (λ f. Unit {0}) part (by_values (named_values vs) open_values refl)))
       (eqb_tells (get_or vs g.last.left 0) (get_or vs g.last.right 0))
 
   -- n goals from place k on have parts

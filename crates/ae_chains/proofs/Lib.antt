@@ -16,4 +16,6 @@ pub mod Countermodels
 pub mod Reached
 pub mod ChainReading
 pub mod Answered
+pub mod Numbers
+pub mod ReadingBack
 pub mod Existence

@@ -1,12 +1,13 @@
 //! A goal's part of the output.
 
-ghost use Rattle.std.specs.Prelude.{◌≡◌, ◌++◌, ◌<◌, [], length, codes, IfOk, OnOk};
+ghost use Rattle.std.specs.Prelude.{◌≡◌, ◌+◌, ◌++◌, ◌<◌, ◌^◌, [], length, codes, IfOk, OnOk};
 ghost use Rattle.ae_core.specs.Signatures.{IsLawful};
 ghost use Rattle.ae_core.specs.declared.problems.Item.{Item};
 ghost use Rattle.ae_journal.specs.declared.answers.Answer.TheVariants.{Unknown};
+ghost use Rattle.ae_printed.specs.ReadBack.{IsReadBack};
 ghost use Rattle.ae_statetext.specs.AnswerTexts.{goal_line, answer_text};
 ghost use Rattle.ae_chains.specs.Parts.{IsPart, valid_text};
-ghost use Rattle.ae_chains.specs.Inner.Answers.{IsPartOf};
+ghost use Rattle.ae_chains.specs.Inner.Answers.{IsFound};
 ghost use Rattle.ae_chains.specs.Inner.Chains.{AreChains, item_name};
 ghost use Rattle.ae_chains.specs.Inner.ChainProofs.{chain_proof};
 ghost use Rattle.ae_chains.specs.Inner.Merging.{numbers_of};
@@ -14,19 +15,20 @@ ghost use Rattle.ae_chains.specs.Inner.Places.{IsChainOver};
 ghost use Rattle.ae_chains.specs.Inner.Search.{block_of};
 ghost use Rattle.ae_chains.specs.Inner.StateChains.{state_of};
 
-use crate::chains::{Chain, Chains};
+use crate::chains::{Chain, Chains, Equation};
 use crate::proofs::put_chain_proof;
 use crate::search::{Named, Outcome, Refutation, settle};
 use crate::states::{release_state, state_of_chain};
 use ae_core::problems::{Item, Problem, Signature};
+use ae_core::proofs::EqLine;
 use ae_core::words::Word;
 use ae_journal::answers::Answer;
 use ae_prooftext::put;
 use ae_statetext::answer_text;
 use std::alloc::{AllocError, Global};
 
-/// The part of the output of the goal at a place among the items of a problem, whose chains these are; `Err` where there is no
-/// memory for it.
+/// The part of the output of the goal at a place among the items of a problem, whose chains these are. It is read back as a part
+/// of that goal. `Err` where there is no memory for it.
 pub fn goal_part(
     alloc: Global,
     problem: &Problem,
@@ -37,6 +39,7 @@ pub fn goal_part(
     requires chains { AreChains problem.now chains.now }
     requires goal { goal < length problem.now.items }
     ensures part { IfOk result (λ part. IsPart problem.now goal part.items) }
+    ensures read_back { IfOk result (λ part. IsReadBack problem.now goal part.items) }
 {
     let items = problem.items.as_slice();
     let goals = chains.goals.as_slice();
@@ -60,6 +63,22 @@ fn name_of(item: &Item) -> &Word
     }
 }
 
+// The constants of a table, and what the proof of a chain hints at, are counted by numbers of 64 bits.
+fn count_places(table: &[usize], hyps: &[Equation])
+    ensures constants { length table.now < 2 ^ 64 }
+    ensures hints { length hyps.now + length hyps.now + 1 < 2 ^ 64 }
+{
+    let _constants = table.len();
+    let _hints = hyps.len() + hyps.len() + 1;
+}
+
+// So are the lines of a derivation.
+fn count_lines(lines: &[EqLine])
+    ensures { length lines.now < 2 ^ 64 }
+{
+    let _count = lines.len();
+}
+
 // The part of a goal of this name that is a chain over a table of constants.
 fn chain_part(
     alloc: Global,
@@ -69,10 +88,14 @@ fn chain_part(
     goal: &Chain,
 ) -> Result<Vec<u8>, AllocError>
     requires { IsChainOver (length table.now) goal.now }
-    ensures { IfOk result (λ part. IsPartOf signature.now table.now name.now goal.now part.items) }
+    ensures { IfOk result (λ part. IsFound signature.now table.now name.now goal.now part.items) }
 {
-    match settle(alloc, table, goal.hyps.as_slice(), goal.last)? {
+    let hyps = goal.hyps.as_slice();
+    count_places(table, hyps);
+    match settle(alloc, table, hyps, goal.last)? {
         Outcome::Refuted(refutation) => {
+            let lines = refutation.deriv.lines.as_slice();
+            count_lines(lines);
             valid_part(alloc, signature, table, name, goal, refutation)
         }
         Outcome::Open(values) => {

@@ -26,14 +26,14 @@ fn implication(
     alloc: Global,
     table: &[usize],
     hyp: Equation,
-    rest: Formula,
+    rest: Boxed<Formula>,
 ) -> Result<Formula, AllocError>
     requires { IsEquationOver (length table.now) hyp }
     ensures { IfOk result (λ formula. formula ≡ Or (Not (equation table.now hyp)) rest) }
 {
     let stated = Boxed::new(alloc, equation_formula(alloc, table, hyp))?;
     let denied = Boxed::new(alloc, Formula::Not(stated))?;
-    Ok(Formula::Or(denied, Boxed::new(alloc, rest)?))
+    Ok(Formula::Or(denied, rest))
 }
 
 /// The formula of a chain; `Err` where there is no memory for it, as in every function here.
@@ -51,7 +51,8 @@ pub fn chain_formula(
     let mut place = hyps.len();
     while 0 < place {
         place -= 1;
-        formula = implication(alloc, table, hyps[place], formula)?;
+        let rest = Boxed::new(alloc, formula)?;
+        formula = implication(alloc, table, hyps[place], rest)?;
     }
     Ok(formula)
 }
@@ -102,10 +103,11 @@ fn put_definitions(
     ensures { OnOk result (out.new.items ≡ out.old.items ++ flat_map (line_text signature.now) (defs table.now hyps.now last)) }
 {
     for i in 0..hyps.len() {
-        let rest = chain_formula(alloc, table, &hyps[i..], last)?;
-        put_definition(out, signature, OR_FROM_LEFT, &rest)?;
-        put_definition(out, signature, OR_FROM_RIGHT, &rest)?;
-        release(rest);
+        let rest = Boxed::new(alloc, chain_formula(alloc, table, &hyps[i..], last)?)?;
+        let formula = rest.get();
+        put_definition(out, signature, OR_FROM_LEFT, formula)?;
+        put_definition(out, signature, OR_FROM_RIGHT, formula)?;
+        release(rest.into_inner());
     }
     Ok(())
 }

@@ -3,12 +3,8 @@ use Rattle.std.specs.Prelude.{ℕ, suc, ◌+◌, ◌<◌, ◌≤◌, ◌⊎◌, 
 use Rattle.std.proofs.Common.{refl, sym, ap, ◌∙◌, subst, arith, inl, inr, ⊎_elim, append-nil, length-append}
 use Rattle.ae_base.specs.Options.{or_else}
 use Rattle.ae_base.proofs.Options.{never_some}
-use Rattle.ae_chains.specs.Inner.Chains.{AreChains}
 use Rattle.ae_chains.specs.Parts.{IsPart, AreParts}
-use Rattle.ae_chains.specs.declared.chains.Chains.{Chains}
 use Rattle.ae_chains.proofs.Answered.{parts_more}
-use Rattle.ae_chains.proofs.Existence.{goes_on}
-use Rattle.ae_chains.proofs.Reached.{in_reach}
 use Rattle.ae_core.specs.declared.problems.Problem.{Problem}
 use Rattle.ae_io.specs.Moves.{Written, Lost, Untold, Told, Gets, GetsPrefix, Rose}
 use Rattle.ae_io.proofs.Moves.{gets_then}
@@ -16,10 +12,10 @@ use Rattle.ae_driver.specs.declared.program.TheConstants.{INPUT_LIMIT}
 use Rattle.ae_driver.specs.declared.program.Status.{Status}
 use Rattle.ae_driver.specs.declared.program.Status.TheVariants as status
 use Rattle.ae_driver.specs.declared.reasons.Reason.{Reason}
-use Rattle.ae_driver.specs.Inner.Endings.{PartEnds, HasParts, GoalsEnd, RefusalEnds, TextEnds}
+use Rattle.ae_driver.specs.Inner.Endings.{PartEnds, AreReadBack, HasParts, GoalsEnd, RefusalEnds, TextEnds}
 use Rattle.ae_driver.specs.Output.{IsBegun, IsDone, IsRefused, IsRefusedText, IsOutOfMemory, IsCutOff, IsOffered, IsRead, IsTooLong, Reads, writes_parts, writes_refusal}
-use Rattle.ae_driver.specs.Problems.{IsProblemOf}
-use Rattle.ae_driver.proofs.OneProblem.{lawful, not_refused}
+use Rattle.ae_driver.specs.Passing.{IsDoneAndPasses}
+use Rattle.ae_driver.proofs.OneProblem.{not_refused}
 
 -- ---- what the sink got
 front_of : (xs ys : List ℕ) (n : ℕ) → take (length xs + n) (xs ++ ys) ≡ xs ++ take n ys
@@ -37,7 +33,7 @@ gets_nothing (Told xs) = sym (append-nil xs)
 
 module _ (p : Problem) where
   pub nothing_yet : (a : Written) → HasParts p 0 a a
-  nothing_yet a = record { bytes = []; parts = refl; written = gets_nothing a }
+  nothing_yet a = record { bytes = []; parts = refl; read_back = refl; written = gets_nothing a }
 
   with_part : (i : ℕ) (bytes part : List ℕ) → AreParts p 0 i bytes → IsPart p i part → AreParts p 0 (i + 1) (bytes ++ part)
   with_part i bytes part a h =
@@ -45,8 +41,12 @@ module _ (p : Problem) where
       (parts_more p 0 i bytes part a (subst (λ m. IsPart p m part) (let z : i ≡ 0 + i = omega arith in z) h))
 
   pub part_done : (i : ℕ) (a b c : Written) → HasParts p i a b → PartEnds p i b c status.Done → HasParts p (i + 1) a c
-  part_done i a b c h (part, is_part, got) =
-      record { bytes = h.bytes ++ part; parts = with_part i h.bytes part h.parts is_part; written = gets_then a b c h.bytes part h.written got }
+  part_done i a b c h (part, is_part, back, got) = record {
+    bytes = h.bytes ++ part;
+    parts = with_part i h.bytes part h.parts is_part;
+    read_back = subst (λ m. AreReadBack p m (h.bytes ++ part)) (let n : suc i ≡ i + 1 = omega arith in n) (h.bytes, part, refl, h.read_back, back);
+    written = gets_then a b c h.bytes part h.written got;
+  }
 
   part_cut : (i : ℕ) (a b c : Written) → i < length p.items → HasParts p i a b → PartEnds p i b c status.WriteFault → GoalsEnd p a c status.WriteFault
   part_cut i a b c lt h (part, is_part, got) =
@@ -61,27 +61,12 @@ module _ (p : Problem) where
   part_ends i a b c status.ReadFault lt h e m n = absurd e
   part_ends i a b c status.Usage lt h e m n = absurd e
 
--- ---- the goals of a text
-module _ (text : List ℕ) (p : Problem) (cs : Chains) (of_text : IsProblemOf text p) (are : AreChains p cs) where
-  reads : Reads text p
-  reads = record { states = of_text; reach = in_reach p cs are }
-
-  begun : (k : ℕ) (bytes : List ℕ) → k ≤ length p.items → AreParts p 0 k bytes → IsBegun text bytes
-  begun k bytes le parts =
-      let r = goes_on p cs (lawful text p of_text) are k bytes le parts in
-      record { problem = p; reads = reads; count = k; at_most = le; parts = parts; rest = r.0; legal = record { problem = p; reads = reads; parts = r.1 } }
-
-  pub text_ends : (a c : Written) (s : Status) → GoalsEnd p a c s → TextEnds text a c s
-  text_ends a c status.Done e = (e.bytes, record { problem = p; reads = reads; parts = e.parts }, e.written)
-  text_ends a c status.WriteFault (k, le, h) = (h.bytes, inl (begun k h.bytes le h.parts), h.written)
-  text_ends a c status.Memory (k, le, h) = (h.bytes, inr (begun k h.bytes le h.parts), h.written)
-  text_ends a c status.Refused e = absurd e
-  text_ends a c status.ReadFault e = absurd e
-  text_ends a c status.Usage e = absurd e
-
 -- what a text's end says of a run
 pub done_is : (left : Option (List ℕ)) (text : List ℕ) (a c : Written) → IsRead left text → TextEnds text a c status.Done → IsDone left a c
-done_is left text a c r (bytes, legal, got) = record { text = text; read = r; bytes = bytes; answers = legal; written = got }
+done_is left text a c r (bytes, legal, pass, got) = record { text = text; read = r; bytes = bytes; answers = legal; written = got }
+
+pub passes_is : (left : Option (List ℕ)) (text : List ℕ) (a c : Written) → IsRead left text → TextEnds text a c status.Done → IsDoneAndPasses left a c
+passes_is left text a c r (bytes, legal, pass, got) = record { text = text; read = r; bytes = bytes; passes = pass; written = got }
 
 pub refused_is : (left : Option (List ℕ)) (text : List ℕ) (a c : Written) → IsRead left text → TextEnds text a c status.Refused → IsRefusedText left a c
 refused_is left text a c r (why, refused, (line, is_line, got)) = record { text = text; read = r; why = why; refused = refused; line = line; is_line = is_line; written = got }

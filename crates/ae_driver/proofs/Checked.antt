@@ -19,6 +19,7 @@ use Rattle.ae_parts.specs.Codes.{parts_code}
 use Rattle.ae_parts.specs.Parts.{PartsStand}
 use Rattle.ae_parts.specs.declared.parts.Part.{Part}
 use Rattle.ae_parts.proofs.PartLaws.{parts_stand}
+use Rattle.ae_printed.specs.ReadBack.{proof_in}
 use Rattle.ae_proofreader.specs.Whole.{StandsIn}
 use Rattle.ae_readers.specs.declared.fault.Fault.{Fault}
 use Rattle.ae_readers.specs.declared.fault.Fault.TheVariants as fault
@@ -37,7 +38,7 @@ use Rattle.ae_driver.specs.declared.reasons.Reason.{Reason}
 use Rattle.ae_driver.specs.declared.reasons.Reason.TheVariants.{Plain}
 use Rattle.ae_driver.specs.Checking.{AreVerdicts, IsInput, IsChecked, IsCheckingBegun, IsRefusedInput, no_separator, by_problem, by_parts}
 use Rattle.ae_driver.specs.Checking.{IsDoneChecking, IsRefusedChecking, IsOutOfMemoryChecking, IsCutOffChecking, IsOfferedChecking}
-use Rattle.ae_driver.specs.Checking.{ReadsParts, goals_of, names_of, proof_in, moved}
+use Rattle.ae_driver.specs.Checking.{ReadsParts, goals_of, names_of, moved}
 use Rattle.ae_driver.specs.Checking.{writes_verdicts, writes_input_refusal}
 use Rattle.ae_driver.specs.Inner.Endings.{HasLines, InputEnds, IsVerdictLine, LineEnds, LinesEnd, RefusalEnds}
 use Rattle.ae_driver.specs.Output.{IsRead}

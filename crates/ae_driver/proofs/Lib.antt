@@ -2,3 +2,4 @@ pub mod OneProblem
 pub mod Answered
 pub mod Fronts
 pub mod Checked
+pub mod Passing

@@ -7,8 +7,7 @@ use Rattle.ae_core.specs.declared.problems.Problem.{Problem}
 use Rattle.ae_io.specs.Moves.{Written, Gets, GetsPrefix}
 use Rattle.ae_parts.specs.Codes.{parts_code}
 use Rattle.ae_parts.specs.declared.parts.Part.{Part}
-use Rattle.ae_parts.specs.declared.parts.Part.TheVariants as part
-use Rattle.ae_prooftext.specs.declared.proofs.ProofText.{ProofText}
+use Rattle.ae_printed.specs.ReadBack.{proof_in}
 use Rattle.ae_readers.specs.declared.fault.Fault.{Fault}
 use Rattle.ae_readers.specs.declared.fault.Fault.TheVariants as fault
 use Rattle.ae_report.specs.Lines.{IsRefusalLine}
@@ -64,11 +63,6 @@ pub data IsRefusedInput (input : List ℕ) : Reason → Type 0 where
       → IsRefusedInput input (Plain (refusal.Proof (moved (length front) f)))
 
 -- ---- what is written
--- the proof that a part gives
-abbrev pub proof_in : Part → Option ProofText
-proof_in (part.Valid t) = Some t
-proof_in _ = None
-
 -- a line for each of these goals, in order: the verdict on its part, as a proof of that very goal
 abbrev pub AreVerdicts : Problem → List GoalPlace → List Part → List ℕ → Type 0
 AreVerdicts p [] [] bytes = bytes ≡ []

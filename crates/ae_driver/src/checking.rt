@@ -2,6 +2,7 @@
 
 ghost use Rattle.std.specs.Prelude.{◌≡◌, ◌≢◌, ◌≤◌, ◌+◌, drop, length, take, IfOk, Some};
 ghost use Rattle.ae_io.specs.Moves.{Rose};
+ghost use Rattle.ae_printed.specs.ReadBack.{proof_in};
 ghost use Rattle.ae_proofreader.specs.Whole.{StandsIn};
 ghost use Rattle.ae_readers.specs.declared.fault.Fault.TheVariants.{Memory as NoMemoryForParts};
 ghost use Rattle.ae_report.specs.declared.refusal.Refusal.TheVariants.{Proof as WrongParts};
@@ -36,7 +37,7 @@ fn verdict_of(
     goal: usize,
     part: &Part,
 ) -> Result<Verdict, AllocError>
-    ensures { IfOk result (IsVerdict problem.now goal (spec.proof_in part.now)) }
+    ensures { IfOk result (IsVerdict problem.now goal (proof_in part.now)) }
 {
     match part {
         Part::Valid(text) => verdict(alloc, problem, goal, text),

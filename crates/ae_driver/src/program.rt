@@ -6,6 +6,7 @@ ghost use Rattle.ae_io.specs.Moves.{Rose, Gets, GetsPrefix};
 ghost use Rattle.ae_chains.specs.Inner.Chains.{AreChains};
 ghost use Rattle.ae_core.specs.Signatures.{IsLawful};
 ghost use Rattle.ae_driver.specs.Output.{IsDone, IsOffered, IsRefusedText, IsRefusedByLength, IsOutOfMemory, IsCutOff, usage_line};
+ghost use Rattle.ae_driver.specs.Passing.{IsDoneAndPasses};
 ghost use Rattle.ae_driver.specs.Problems.{IsProblemOf};
 ghost use Rattle.ae_driver.specs.Checking.{IsDoneChecking, IsOfferedChecking, IsRefusedChecking, IsOutOfMemoryChecking, IsCutOffChecking};
 ghost use Rattle.ae_driver.specs.Words.{AskToProve, AskToCheck, AskForNeither};
@@ -52,7 +53,10 @@ pub enum Status {
 /// - `Done` comes only where the source was read to its end, its text has at most `INPUT_LIMIT` bytes and a problem that is
 ///   answered so far (no axiom, and each goal a chain of equations between constants), and one part was written for each goal:
 ///   `Valid` with the text of a proof that derives the goal in that problem, with its axioms, or `I don't know` with the text of
-///   a saturated state in which the goal is false; then no proof derives it.
+///   a saturated state in which the goal is false; then no proof derives it. What was written passes the check: behind the text,
+///   with a line break where it doesn't end with one, and a line of exactly `%%`, it is an output for the same problem, and each
+///   goal's line is `accepted` or `number` where its part is a proof, and `unchecked` where it isn't. No line of the text may
+///   itself be `%%`; and where all of it has more than `INPUT_LIMIT` bytes, it is too long to be checked in one run.
 /// - `Refused` comes only where the line of the first reason was written: the source had more bytes left than
 ///   `INPUT_LIMIT`, the text has a fault of its tokens, its tokens have a fault of syntax, its tree has a fault of typing, or
 ///   its problem isn't answered yet.
@@ -80,6 +84,7 @@ pub fn run<S: Source, K: Sink>(
     sink: &mut K,
 ) -> Status
     ensures done { AskToProve (map string_bytes words.now) → result ≡ Done → IsDone (S.left source.old) (K.written sink.old) (K.written sink.new) }
+    ensures passes { AskToProve (map string_bytes words.now) → result ≡ Done → IsDoneAndPasses (S.left source.old) (K.written sink.old) (K.written sink.new) }
     ensures done_checking { AskToCheck (map string_bytes words.now) → result ≡ Done → IsDoneChecking (S.left source.old) (K.written sink.old) (K.written sink.new) }
     ensures end { result ≡ Done → IsAtEnd (S.left source.new) }
     ensures complete { AskToProve (map string_bytes words.now) → IsOffered (S.left source.old) → ¬ (Rose (S.faults source.old) (S.faults source.new)) → ¬ (Rose (K.faults sink.old) (K.faults sink.new)) → (result ≡ Done) ⊎ (result ≡ Memory) }
@@ -138,6 +143,7 @@ fn task_of(alloc: Global, words: &[String]) -> Result<Task, AllocError>
 // Reads a text, and answers its goals.
 fn prove<S: Source, K: Sink>(alloc: Global, source: &mut S, sink: &mut K) -> Status
     ensures done { result ≡ Done → IsDone (S.left source.old) (K.written sink.old) (K.written sink.new) }
+    ensures passes { result ≡ Done → IsDoneAndPasses (S.left source.old) (K.written sink.old) (K.written sink.new) }
     ensures end { result ≡ Done → IsAtEnd (S.left source.new) }
     ensures complete { IsOffered (S.left source.old) → ¬ (Rose (S.faults source.old) (S.faults source.new)) → ¬ (Rose (K.faults sink.old) (K.faults sink.new)) → (result ≡ Done) ⊎ (result ≡ Memory) }
     ensures refused { result ≡ Refused → IsRefusedText (S.left source.old) (K.written sink.old) (K.written sink.new) ⊎ IsRefusedByLength (S.left source.old) (K.written sink.old) (K.written sink.new) }

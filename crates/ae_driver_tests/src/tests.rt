@@ -296,6 +296,9 @@ fn words_of_the_command_line(rt: HostRuntime) -> Result<(), Fail> {
     let both = ["--check", "--demo", "8"];
     let (status, line) = with_words(alloc, both.as_slice(), TRANSITIVITY)?;
     assert!(rt; status == Status::Usage && line.as_slice() == USAGE);
+    let demo = ["--demo", "8"];
+    let (status, line) = with_words(alloc, demo.as_slice(), TRANSITIVITY)?;
+    assert!(rt; status == Status::Usage && line.as_slice() == USAGE);
     let help = ["--help"];
     let (status, line) = with_words(alloc, help.as_slice(), TRANSITIVITY)?;
     assert!(rt; status == Status::Usage && line.as_slice() == USAGE);
@@ -425,7 +428,7 @@ const UNCHECKED: [(&[u8], &[u8]); 13] = [
 ];
 
 // Texts, and what is said of what is printed for them.
-const PRINTED: [(&[u8], &[u8]); 4] = [
+const PRINTED: [(&[u8], &[u8]); 6] = [
     (
         b"type t\nlogic a, b, c, d, e : t\ngoal g : a = b -> b = c -> a = c\n",
         b"goal g accepted\n",
@@ -439,6 +442,11 @@ const PRINTED: [(&[u8], &[u8]); 4] = [
         b"goal g1 unchecked\ngoal g2 accepted\ngoal g3 unchecked\n",
     ),
     (b"type t\nlogic a, b : t\n", b""),
+    (b"type t\nlogic a : t\ngoal g : a = a", b"goal g accepted\n"),
+    (
+        b"type t\nlogic a : t\ngoal g : a = a\r",
+        b"goal g accepted\n",
+    ),
 ];
 
 const CHECK: [&str; 1] = ["--check"];
@@ -458,10 +466,13 @@ fn first_other_check(
     Ok(None)
 }
 
-// A text, the line that parts, and what is printed for the text.
-fn with_its_answer(alloc: Global, text: &[u8]) -> Result<Vec<u8>, AllocError> {
-    let (_, printed) = answer(alloc, text, 4000, WHOLE, WHOLE)?;
+// A text as whole lines, the line that parts, and what is printed for the text.
+fn with_its_answer(alloc: Global, text: &[u8], room: usize) -> Result<Vec<u8>, AllocError> {
+    let (_, printed) = answer(alloc, text, room, WHOLE, WHOLE)?;
     let mut input = Vec::from_slice(alloc, text)?;
+    if !text.ends_with(b"\n") {
+        input.push(b'\n')?;
+    }
     input.extend_from_slice(b"%%\n")?;
     input.extend_from_slice(printed.as_slice())?;
     Ok(input)
@@ -470,13 +481,39 @@ fn with_its_answer(alloc: Global, text: &[u8]) -> Result<Vec<u8>, AllocError> {
 // The first of these texts of whose answer a check doesn't say so.
 fn first_other_print(alloc: Global, cases: &[(&[u8], &[u8])]) -> Result<Option<usize>, AllocError> {
     for (i, case) in cases.iter().enumerate() {
-        let input = with_its_answer(alloc, case.0)?;
+        let input = with_its_answer(alloc, case.0, 4000)?;
         let (status, written) = with_words(alloc, CHECK.as_slice(), input.as_slice())?;
         if status != Status::Done || written.as_slice() != case.1 {
             return Ok(Some(i));
         }
     }
     Ok(None)
+}
+
+// How a check of this input ends, and what it writes.
+fn check(alloc: Global, input: &[u8], room: usize) -> Result<(Status, Vec<u8>), AllocError> {
+    let mut words = Vec::new(alloc);
+    words.push(String::from_str(alloc, "--check")?)?;
+    answer_words(alloc, words.as_slice(), input, room, WHOLE, WHOLE)
+}
+
+// Whether each of so many goals of one text is accepted.
+fn are_accepted(alloc: Global, count: usize) -> Result<bool, AllocError> {
+    let mut text = Vec::from_slice(alloc, b"type t\nlogic a : t\n")?;
+    let mut lines = Vec::new(alloc);
+    for _ in 0..count {
+        text.extend_from_slice(b"goal g : a = a\n")?;
+        lines.extend_from_slice(b"goal g accepted\n")?;
+    }
+    let input = with_its_answer(alloc, text.as_slice(), 1 << 21)?;
+    let (status, written) = check(alloc, input.as_slice(), 1 << 21)?;
+    Ok(status == Status::Done && written.as_slice() == lines.as_slice())
+}
+
+#[test]
+fn ten_thousand_goals(rt: HostRuntime) -> Result<(), Fail> {
+    assert!(rt; are_accepted(rt.alloc(), 10000)?);
+    Ok(())
 }
 
 #[test]

@@ -1,5 +1,5 @@
 -- How each function below `run` ends.
-use Rattle.std.specs.Prelude.{◌≡◌, ◌⊎◌, ℕ, ◌≤◌, List, [], length, take, IfSome}
+use Rattle.std.specs.Prelude.{◌≡◌, ◌⊎◌, ℕ, zero, suc, ◌≤◌, List, [], ◌++◌, length, take, IfSome}
 use Rattle.std.specs.List.{AllByRecursion}
 use Rattle.ae_chains.specs.Parts.{IsPart, AreParts}
 use Rattle.ae_cli.specs.Words.{Text}
@@ -8,6 +8,7 @@ use Rattle.ae_elab.specs.Names.{IsName, names_in_file}
 use Rattle.ae_fault_lines.specs.Lines.{fault_place}
 use Rattle.ae_io.specs.Moves.{Written, Gets, GetsPrefix}
 use Rattle.ae_parts.specs.declared.parts.Part.{Part}
+use Rattle.ae_printed.specs.ReadBack.{IsReadBack, proof_in}
 use Rattle.ae_report.specs.Lines.{refused_at}
 use Rattle.ae_verdicts.specs.Verdicts.{IsVerdict, verdict_line}
 use Rattle.ae_verdicts.specs.declared.lines.Verdict.{Verdict}
@@ -20,8 +21,9 @@ use Rattle.ae_driver.specs.declared.reasons.Reason.{Reason}
 use Rattle.ae_driver.specs.declared.reasons.Reason.TheVariants.{Plain, Untyped}
 use Rattle.ae_driver.specs.declared.texts.NotRead.{NotRead}
 use Rattle.ae_driver.specs.declared.texts.NotRead.TheVariants as not_read
-use Rattle.ae_driver.specs.Checking.{AreVerdicts, IsChecked, IsCheckingBegun, IsRefusedInput, proof_in}
+use Rattle.ae_driver.specs.Checking.{AreVerdicts, IsChecked, IsCheckingBegun, IsRefusedInput}
 use Rattle.ae_driver.specs.Output.{IsRefused, IsLegalOutput, IsBegun}
+use Rattle.ae_driver.specs.Passing.{PassFor}
 use Rattle.ae_driver.specs.Problems.{HasNoProblem, IsReasonLine}
 use Rattle.ae_driver.specs.Words.{AskToProve, AskToCheck, AskForNeither}
 
@@ -38,15 +40,21 @@ PlacesStand text (Untyped file e) = AllByRecursion (IsName text) (names_in_file 
 
 -- how the goal at a place is answered
 abbrev pub PartEnds : Problem → ℕ → Written → Written → Status → Type 0
-PartEnds p k old new status.Done = (part : List ℕ) × IsPart p k part × Gets old new part
+PartEnds p k old new status.Done = (part : List ℕ) × IsPart p k part × IsReadBack p k part × Gets old new part
 PartEnds p k old new status.WriteFault = (part : List ℕ) × IsPart p k part × GetsPrefix old new part
 PartEnds p k old new status.Memory = Unit {0}
 PartEnds p k old new _ = ⊥
+
+-- the bytes of the first goals are parts that are read back
+abbrev pub AreReadBack : Problem → ℕ → List ℕ → Type 0
+AreReadBack p zero bytes = bytes ≡ []
+AreReadBack p (suc n) bytes = (front : List ℕ) × (part : List ℕ) × (bytes ≡ front ++ part) × AreReadBack p n front × IsReadBack p n part
 
 -- the sink got the parts of so many goals
 pub record HasParts (p : Problem) (count : ℕ) (old new : Written) : Type 0 where
   pub bytes : List ℕ
   pub parts : AreParts p 0 count bytes
+  pub read_back : AreReadBack p count bytes
   pub written : Gets old new bytes
 
 -- the sink got a front of the parts of so many goals, and not all of it
@@ -75,7 +83,7 @@ IsOfText text bytes = IsBegun text bytes ⊎ ((why : Reason) × IsRefused text w
 
 -- how a text that was read is answered
 abbrev pub TextEnds : List ℕ → Written → Written → Status → Type 0
-TextEnds text old new status.Done = (bytes : List ℕ) × IsLegalOutput text bytes × Gets old new bytes
+TextEnds text old new status.Done = (bytes : List ℕ) × IsLegalOutput text bytes × PassFor text bytes × Gets old new bytes
 TextEnds text old new status.Refused = (why : Reason) × IsRefused text why × RefusalEnds text why old new status.Refused
 TextEnds text old new status.WriteFault = (bytes : List ℕ) × IsOfText text bytes × GetsPrefix old new bytes
 TextEnds text old new status.Memory = (bytes : List ℕ) × ((bytes ≡ []) ⊎ IsBegun text bytes) × Gets old new bytes

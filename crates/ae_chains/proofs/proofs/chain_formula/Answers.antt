@@ -25,7 +25,7 @@ loop-place-preserved c =
       within = omega (arith, c.loop-place.invariant.within);
       formula =
           c.in_ok-formula.ensures
-          ∙ ap (λ f. Or (Not (equation table (get_or es i none))) f) (c.loop-place.invariant.formula ∙ ap (λ k. chain table (drop k es) g) next)
+          ∙ ap (λ f. Or (Not (equation table (get_or es i none))) f) (c.in_ok-rest.ensures ∙ c.loop-place.invariant.formula ∙ ap (λ k. chain table (drop k es) g) next)
           ∙ sym (chain_step table es g none i lt);
     }
 

@@ -16,7 +16,8 @@ loop-i-preserved c =
     let table = c.args.table.now in
     let i = c.loop-i.i in
     let text = line_text c.args.signature.now in
-    let formula = c.in_ok-rest.ensures ∙ ap (λ l. chain table l g) (take_rest es i) in
-    ap (λ z. z ++ flat_map text (defs table (drop (i + 1) es) g)) (c.in_ok-put_definition-2.ensures ∙ ap (λ z. z ++ text (Def OR_FROM_RIGHT c.in_ok-rest.rest)) c.in_ok-put_definition.ensures)
-    ∙ two_texts table c.args.signature.now es g i c.in_ok-rest.rest c.loop-i.out.items c.loop-i-test.true formula
+    let rest = c.get-formula.result.now in
+    let formula = c.get-formula.ensures ∙ c.in_ok-rest.ensures ∙ c.in_ok-chain_formula.ensures ∙ ap (λ l. chain table l g) (take_rest es i) in
+    ap (λ z. z ++ flat_map text (defs table (drop (i + 1) es) g)) (c.in_ok-put_definition-2.ensures ∙ ap (λ z. z ++ text (Def OR_FROM_RIGHT rest)) c.in_ok-put_definition.ensures)
+    ∙ two_texts table c.args.signature.now es g i rest c.loop-i.out.items c.loop-i-test.true formula
     ∙ c.loop-i.invariant

@@ -6,6 +6,7 @@ pub returns-in-Ok-write_all-clause-ends : goal.returns-in-Ok-write_all-clause-en
 returns-in-Ok-write_all-clause-ends g c = (
   c.in-Ok.part.items,
   c.in-Ok.ensures.part,
+  c.in-Ok.ensures.read_back,
   subst (λ xs. Gets (g.K.Sink.written c.args.sink.now) (g.K.Sink.written c.write_all.new.sink) xs) c.as_slice.ensures.value c.in-Ok-write_all.ensures.whole,
 )
 

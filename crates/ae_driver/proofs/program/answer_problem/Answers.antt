@@ -2,8 +2,9 @@ use Rattle.std.proofs.lemmas.Option.{MatchOption-at_none, MatchOption-at_some}
 use Rattle.ae_report.specs.declared.refusal.Refusal.TheVariants as refusal
 use Rattle.ae_driver.specs.declared.reasons.Reason.TheVariants.{Plain}
 use Rattle.ae_driver.specs.Output.{by_form}
-use Rattle.ae_driver.proofs.Answered.{refusal_ends, text_ends}
+use Rattle.ae_driver.proofs.Answered.{refusal_ends}
 use Rattle.ae_driver.proofs.OneProblem.{lawful}
+use Rattle.ae_driver.proofs.Passing.{text_ends}
 use Rattle.ae_driver.proofs.program.answer_problem.Goals as goal
 
 pub answer_goals-requires : goal.answer_goals-requires

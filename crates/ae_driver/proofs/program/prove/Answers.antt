@@ -2,8 +2,17 @@ use Rattle.std.proofs.Common.{Err, inr, ap, subst, []}
 use Rattle.ae_driver.specs.Inner.Endings.{TextEnds, RefusalEnds}
 use Rattle.ae_report.specs.declared.refusal.Refusal.TheVariants as refusal
 use Rattle.ae_driver.specs.declared.reasons.Reason.TheVariants.{Plain}
-use Rattle.ae_driver.proofs.Answered.{cut_off_is, is_read, is_too_long, complete_is, not_too_long}
+use Rattle.ae_driver.proofs.Answered.{cut_off_is, is_read, is_too_long, complete_is, not_too_long, passes_is}
 use Rattle.ae_driver.proofs.program.prove.Goals as goal
+
+pub returns-in-Ok-clause-passes : goal.returns-in-Ok-clause-passes
+returns-in-Ok-clause-passes g c =
+    let left = g.S.Source.left c.args.source.now in
+    let text = c.in-Ok.text.items in
+    let a = g.K.Sink.written c.args.sink.now in
+    let e = g.K.Sink.written c.answer.new.sink in
+    λ ended. passes_is left text a e (is_read left text c.in-Ok.ensures.whole c.in-Ok.ensures.within)
+    (subst (λ s. TextEnds text a e s) ended (subst (λ t. TextEnds t a e c.answer.result) c.as_slice.ensures.value c.answer.ensures.ends))
 
 pub returns-in-Ok-clause-cut_off : goal.returns-in-Ok-clause-cut_off
 returns-in-Ok-clause-cut_off g c =

@@ -21,6 +21,9 @@ returns-in-Ok-Proofs-clause-memory_checking g c = λ check. absurd (asks_apart _
 pub returns-in-Ok-Check-clause-done : goal.returns-in-Ok-Check-clause-done
 returns-in-Ok-Check-clause-done g c = λ proofs. absurd (asks_apart _ proofs (subst (IsAsked (map string_bytes c.args.words.now)) c.in-Ok-Check.field-0-is c.in-Ok-Check.ensures))
 
+pub returns-in-Ok-Check-clause-passes : goal.returns-in-Ok-Check-clause-passes
+returns-in-Ok-Check-clause-passes g c = λ proofs. absurd (asks_apart _ proofs (subst (IsAsked (map string_bytes c.args.words.now)) c.in-Ok-Check.field-0-is c.in-Ok-Check.ensures))
+
 pub returns-in-Ok-Check-clause-complete : goal.returns-in-Ok-Check-clause-complete
 returns-in-Ok-Check-clause-complete g c = λ proofs. absurd (asks_apart _ proofs (subst (IsAsked (map string_bytes c.args.words.now)) c.in-Ok-Check.field-0-is c.in-Ok-Check.ensures))
 
