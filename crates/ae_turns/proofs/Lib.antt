@@ -1,0 +1,5 @@
+pub mod Steps
+pub mod Representatives
+pub mod DroppedRules
+pub mod Staleness
+pub mod Reducible

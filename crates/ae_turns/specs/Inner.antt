@@ -1,0 +1,2 @@
+-- Lines that drop rules.
+pub mod Drops
