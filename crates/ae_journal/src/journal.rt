@@ -4,6 +4,7 @@ ghost use Rattle.ae_journal.specs.Journals.{is_counted, counted_in};
 ghost use Rattle.ae_journal.specs.declared.journal.JournalFail.TheVariants.{Full, Memory};
 
 use crate::lines::Line;
+use ae_core::lists::List;
 use std::alloc::{AllocError, Global};
 use std::marker::Model;
 
@@ -149,6 +150,13 @@ impl Journal {
         ensures { result.now ≡ self.now.lines }
     {
         self.lines.as_slice()
+    }
+
+    /// The lines noted, without the journal. It takes no memory.
+    pub fn into_lines(self) -> List<Line>
+        ensures { result ≡ self.lines }
+    {
+        List::from_vec(self.lines)
     }
 
     /// How many of them are counted.

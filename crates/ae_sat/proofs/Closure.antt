@@ -7,7 +7,7 @@ use Rattle.ae_core.specs.declared.formulas.Formula.{Formula, True, False, Eq, Lt
 use Rattle.ae_core.specs.declared.formulas.Formula.TheVariants.{outs-True, outs-False, outs-Eq, outs-Lt, outs-Le, outs-Pred, outs-Not, outs-And, outs-Or, outs-Xor, outs-Iff, outs-All, outs-Ex}
 use Rattle.ae_core.specs.declared.formulas.Lit.{Lit}
 use Rattle.ae_explain.specs.declared.trail.Assigned.{Assigned}
-use Rattle.ae_explain.specs.Trail.{at, clause, Apart, IsLawful}
+use Rattle.ae_explain.specs.Trail.{at, clause, Apart, IsLawful, AreFalse}
 use Rattle.ae_journal.specs.Standing.{parts_by, parts_of}
 use Rattle.ae_journal.proofs.Splits.{contains_one, contains_cases, contains_here, contains_later, cut}
 use Rattle.ae_journal.proofs.RowParts.{row_part}
@@ -124,6 +124,17 @@ row_among t u lawful stands j r c l e fs parts among d m o k = elim (one_more u 
       let w = in_clause t u lawful stands j l in
       let f : Contains fs (at t j).lit.formula = among (clause u w.0) (at t j).lit (w.0, w.1, refl) w.2 in
       row_part (Contains fs) (λ h a i p. parts h a i p) (at t j).lit.formula f r c e m (subst (λ (v : Clause). Contains v m) q k)
+]
+
+-- ---- nor does what is false by the trail
+pub false_among : (t : List Assigned) (u : List Clause) → IsLawful t u → ((j : ℕ) → j < length t → (at t j).by ≡ None → (c : Clause) × IsOneOf u c × Contains c (at t j).lit)
+    → (c : Clause) → AreFalse t c → (fs : List Formula) → AllAmong fs u → AllAmong fs (u ++ c ∷ [])
+false_among t u lawful stands c false_ones fs among d m o k = elim (one_more u c d o) as (λ _. Contains fs m.formula) [
+  | inl y ↦ among d m y k
+  | inr q ↦
+      let h = false_ones m (subst (λ (v : Clause). Contains v m) q k) in
+      let w = in_clause t u lawful stands h.0 h.1 in
+      subst (λ (l : Lit). Contains fs l.formula) h.2 (among (clause u w.0) (at t h.0).lit (w.0, w.1, refl) w.2)
 ]
 
 -- ---- so many different formulas

@@ -23,5 +23,6 @@ pub mod Atoms
 pub mod Telling
 pub mod Rowing
 pub mod Closure
+mod Failing
 pub mod Propagating
 pub mod Blocks

@@ -8,14 +8,16 @@ ghost use Rattle.ae_rules.specs.Derivations.{AreAllowed, IsContradictory, clause
 ghost use Rattle.ae_core.specs.declared.problems.Problem.{Problem};
 ghost use Rattle.ae_explain.specs.Trail.{clause, AreFalse};
 ghost use Rattle.ae_journal.specs.Journals.{counted_in, live};
-ghost use Rattle.ae_theory.specs.declared.theory.Fail.TheVariants.{Steps as OutOfSteps};
+ghost use Rattle.ae_journal.specs.Licences.{IsLicensed};
+ghost use Rattle.ae_journal.specs.declared.answers.WideAt.{WideAt};
+ghost use Rattle.ae_theory.specs.declared.theory.Fail.TheVariants.{Steps as OutOfSteps, Number};
 ghost use Rattle.ae_theory.specs.declared.theory.Outcome.TheVariants.{Complete, Conflict};
 ghost use Rattle.ae_core.specs.declared.proofs.ClauseLine.{ClauseLine};
 ghost use Rattle.ae_sat.specs.declared.run.SatEnd.TheVariants.{Refuted, Open};
 ghost use Rattle.ae_sat.specs.declared.run.Found.TheVariants.{Nothing, Clause, Contradiction};
 ghost use Rattle.ae_propagation.specs.Settled.{HasTrue, IsQuiet};
 ghost use Rattle.ae_sat.specs.Standing.{HasRows};
-ghost use Rattle.ae_sat.specs.Search.{IsAlive, IsStated, IsLawfulState, NotesLegally, EndsEmpty, IsOpen, IsLearnt, Progresses, Keeps};
+ghost use Rattle.ae_sat.specs.Search.{IsAlive, IsStated, IsLawfulState, NotesLegally, EndsEmpty, IsOpen, IsLearnt, HasParts, AllAmong, Progresses, Keeps};
 ghost use Rattle.ae_journal.specs.Standing.{Setting};
 ghost use Rattle.ae_theory.specs.Names.{IsNamedBy};
 
@@ -77,9 +79,12 @@ where
         // Each noted line is legal.
         ensures legal { (setting : Setting) (bound : ℕ) (lines : List ClauseLine) → IsNamedBy setting store.now journal.old.lines → IsLawfulState setting self.old.propagation.trail self.old.propagation.clauses self.old.expanded lines journal.old.lines →
             NotesLegally setting bound journal.old.lines journal.new.lines × IsLawfulState setting self.new.propagation.trail self.new.propagation.clauses self.new.expanded lines journal.new.lines }
-        ensures complete { result ≡ Ok Complete → T.is_complete self.new.theory }
+        ensures complete { result ≡ Ok Complete → T.is_complete self.new.theory store.now }
         ensures conflict { (k : ℕ) → result ≡ Ok (Conflict k) → T.own_conflict self.new.theory k }
         ensures steps { result ≡ Err OutOfSteps → counted_in journal.new.lines ≡ journal.new.limit }
+        // A width that stops it is licensed.
+        ensures number { (wide : WideAt) → result ≡ Err (Number wide) → (setting : Setting) (lines : List ClauseLine) → IsNamedBy setting store.now journal.old.lines → IsLawfulState setting self.old.propagation.trail self.old.propagation.clauses self.old.expanded lines journal.old.lines →
+            IsLicensed setting journal.new.lines wide }
         ensures journal { Keeps journal.old journal.new }
         ensures trail { self.new.propagation.trail ≡ self.old.propagation.trail }
         ensures clauses { self.new.propagation.clauses ≡ self.old.propagation.clauses }
@@ -108,12 +113,17 @@ where
             NotesLegally setting bound journal.old.lines journal.new.lines
             × OnOk result (IsLawfulState setting self.new.propagation.trail self.new.propagation.clauses self.new.expanded lines.new.items journal.new.lines) }
         ensures steps { result ≡ Err OutOfSteps → counted_in journal.new.lines ≡ journal.new.limit }
+        // A width that stops it is licensed.
+        ensures number { (wide : WideAt) → result ≡ Err (Number wide) → (setting : Setting) → IsNamedBy setting store.now journal.old.lines → IsStated setting.problem setting.goal lines.old.items self.old.propagation.clauses self.old.places →
+            IsLawfulState setting self.old.propagation.trail self.old.propagation.clauses self.old.expanded lines.old.items journal.old.lines → IsLicensed setting journal.new.lines wide }
+        // No formula comes in but parts of those that are there.
+        ensures formulas { (fs : List Formula) → HasParts fs → AllAmong fs self.old.propagation.clauses → OnOk result (AllAmong fs self.new.propagation.clauses) }
         ensures journal { Keeps journal.old journal.new }
         ensures quiet { result ≡ Ok Nothing → IsQuiet self.new.propagation.trail self.new.propagation.clauses }
         ensures told { result ≡ Ok Nothing → self.new.handed ≡ length self.new.propagation.trail }
         ensures expanded { result ≡ Ok Nothing → self.new.expanded ≡ length self.new.propagation.trail }
         ensures rows { result ≡ Ok Nothing → HasRows self.new.propagation.trail (length self.new.propagation.trail) self.new.propagation.clauses }
-        ensures complete { result ≡ Ok Nothing → T.is_complete self.new.theory }
+        ensures complete { result ≡ Ok Nothing → T.is_complete self.new.theory store.now }
         ensures found { (k : ℕ) → result ≡ Ok (Clause k) → (k < length self.new.propagation.clauses) × AreFalse self.new.propagation.trail (clause self.new.propagation.clauses k) }
         // The theory's block is right, and its hypotheses are true.
         ensures block { (b : Block) → result ≡ Ok (Contradiction b) → IsContradictory store.now.signature b × (clause_ok store.now.signature b.deriv.hyps ≡ true) × AreFalse self.new.propagation.trail (map opposite b.deriv.hyps) }
@@ -155,6 +165,9 @@ where
             NotesLegally setting bound journal.old.lines journal.new.lines
             × OnOk result (IsLawfulState setting self.new.propagation.trail self.new.propagation.clauses self.new.expanded lines.new.items journal.new.lines) }
         ensures steps { result ≡ Err OutOfSteps → counted_in journal.new.lines ≡ journal.new.limit }
+        ensures never_wide { (wide : WideAt) → ¬ (result ≡ Err (Number wide)) }
+        // No formula comes in but parts of those that are there.
+        ensures formulas { (fs : List Formula) → HasParts fs → AllAmong fs self.old.propagation.clauses → OnOk result (AllAmong fs self.new.propagation.clauses) }
         ensures journal { Keeps journal.old journal.new }
         ensures refuted { result ≡ Ok true → EndsEmpty lines.new.items }
         ensures learnt { result ≡ Ok false → Progresses journal.old journal.new }
@@ -191,6 +204,9 @@ where
             NotesLegally setting bound journal.old.lines journal.new.lines
             × OnOk result (IsLawfulState setting self.new.propagation.trail self.new.propagation.clauses self.new.expanded lines.new.items journal.new.lines) }
         ensures steps { result ≡ Err OutOfSteps → counted_in journal.new.lines ≡ journal.new.limit }
+        ensures never_wide { (wide : WideAt) → ¬ (result ≡ Err (Number wide)) }
+        // No formula comes in but parts of those that are there.
+        ensures formulas { (fs : List Formula) → HasParts fs → AllAmong fs self.old.propagation.clauses → OnOk result (AllAmong fs self.new.propagation.clauses) }
         ensures journal { Keeps journal.old journal.new }
         ensures refuted { result ≡ Ok true → EndsEmpty lines.new.items }
         ensures learnt { result ≡ Ok false → Progresses journal.old journal.new }
@@ -233,6 +249,9 @@ where
             NotesLegally setting bound journal.old.lines journal.new.lines
             × OnOk result (IsLawfulState setting self.new.propagation.trail self.new.propagation.clauses self.new.expanded lines.new.items journal.new.lines) }
         ensures steps { result ≡ Err OutOfSteps → counted_in journal.new.lines ≡ journal.new.limit }
+        ensures never_wide { (wide : WideAt) → ¬ (result ≡ Err (Number wide)) }
+        // No formula comes in but parts of those that are there.
+        ensures formulas { (fs : List Formula) → HasParts fs → AllAmong fs self.old.propagation.clauses → OnOk result (AllAmong fs self.new.propagation.clauses) }
         ensures journal { Keeps journal.old journal.new }
         ensures refuted { result ≡ Ok true → EndsEmpty lines.new.items }
         ensures learnt { result ≡ Ok false → Progresses journal.old journal.new }
@@ -278,6 +297,9 @@ where
             NotesLegally setting bound journal.old.lines journal.new.lines
             × OnOk result (IsLawfulState setting self.new.propagation.trail self.new.propagation.clauses self.new.expanded lines.new.items journal.new.lines) }
         ensures steps { result ≡ Err OutOfSteps → counted_in journal.new.lines ≡ journal.new.limit }
+        ensures never_wide { (wide : WideAt) → ¬ (result ≡ Err (Number wide)) }
+        // No formula comes in but parts of those that are there.
+        ensures formulas { (fs : List Formula) → HasParts fs → AllAmong fs self.old.propagation.clauses → OnOk result (AllAmong fs self.new.propagation.clauses) }
         ensures journal { Keeps journal.old journal.new }
         ensures decided { OnOk result (Progresses journal.old journal.new) }
     {
@@ -314,12 +336,19 @@ where
             NotesLegally setting bound journal.old.lines journal.new.lines
             × OnOk result (IsLawfulState setting self.new.propagation.trail self.new.propagation.clauses self.new.expanded lines.new.items journal.new.lines) }
         ensures steps { result ≡ Err OutOfSteps → counted_in journal.new.lines ≡ journal.new.limit }
+        // A width that stops it is licensed.
+        ensures number { (wide : WideAt) → result ≡ Err (Number wide) → (setting : Setting) → IsNamedBy setting store.now journal.old.lines → IsStated setting.problem setting.goal lines.old.items self.old.propagation.clauses self.old.places →
+            IsLawfulState setting self.old.propagation.trail self.old.propagation.clauses self.old.expanded lines.old.items journal.old.lines → IsLicensed setting journal.new.lines wide }
+        // No formula comes in but parts of those that are there.
+        ensures formulas { (fs : List Formula) → HasParts fs → AllAmong fs self.old.propagation.clauses → OnOk result (AllAmong fs self.new.propagation.clauses) }
         ensures journal { Keeps journal.old journal.new }
         // The empty clause is the last of the lines.
         ensures refuted { result ≡ Ok Refuted → EndsEmpty lines.new.items }
         // Each clause, and each row that a true literal calls for, has a true literal.
         ensures open_clauses { result ≡ Ok Open → IsOpen self.new.propagation.trail self.new.propagation.clauses }
-        ensures complete { result ≡ Ok Open → T.is_complete self.new.theory }
+        // The theory was told all atoms of the trail, and has nothing left to do.
+        ensures told { result ≡ Ok Open → self.new.handed ≡ length self.new.propagation.trail }
+        ensures complete { result ≡ Ok Open → T.is_complete self.new.theory store.now }
     {
         loop {
             match self.propagate(store, journal, lines)? {

@@ -4,7 +4,8 @@ ghost use Rattle.ae_explain.specs.Trail.{place_in};
 ghost use Rattle.ae_journal.specs.Journals.{counted_in, live, decisions};
 ghost use Rattle.ae_journal.specs.declared.lines.Line.{Line};
 ghost use Rattle.ae_journal.specs.declared.lines.Line.TheVariants as line;
-ghost use Rattle.ae_theory.specs.declared.theory.Fail.TheVariants.{Steps as OutOfSteps};
+ghost use Rattle.ae_theory.specs.declared.theory.Fail.TheVariants.{Steps as OutOfSteps, Number};
+ghost use Rattle.ae_journal.specs.declared.answers.WideAt.{WideAt};
 ghost use Rattle.ae_explain.specs.Fronts.{IsFront};
 ghost use Rattle.ae_propagation.specs.Settled.{last_level};
 ghost use Rattle.ae_sat.specs.Standing.{IsOneOf};
@@ -39,6 +40,7 @@ pub(crate) fn note(journal: &mut Journal, line: Line) -> Result<(), Fail>
     ensures ok { OnOk result (journal.new ≡ record journal.old { lines = journal.old.lines ++ line ∷ [] }) }
     ensures err { OnErr result (journal.new ≡ journal.old) }
     ensures steps { result ≡ Err OutOfSteps → counted_in journal.old.lines ≡ journal.old.limit }
+    ensures never_wide { (wide : WideAt) → ¬ (result ≡ Err (Number wide)) }
     ensures within { counted_in journal.new.lines ≤ journal.new.limit }
 {
     let noted = journal.note(line);
@@ -96,6 +98,7 @@ where
         ensures noted { OnOk result (journal.new ≡ record journal.old { lines = journal.old.lines ++ line.Decide lit ∷ [] }) }
         ensures noted_or { (journal.new ≡ journal.old) ⊎ (journal.new ≡ record journal.old { lines = journal.old.lines ++ line.Decide lit ∷ [] }) }
         ensures steps { result ≡ Err OutOfSteps → counted_in journal.new.lines ≡ journal.new.limit }
+        ensures never_wide { (wide : WideAt) → ¬ (result ≡ Err (Number wide)) }
         ensures within { OnOk result (counted_in journal.new.lines ≤ journal.new.limit) }
         ensures theory { self.new.theory ≡ self.old.theory }
         ensures places { self.new.places ≡ self.old.places }
@@ -127,6 +130,7 @@ where
         ensures noted { OnOk result (journal.new ≡ record journal.old { lines = journal.old.lines ++ line.Back level ∷ [] }) }
         ensures noted_or { (journal.new ≡ journal.old) ⊎ (journal.new ≡ record journal.old { lines = journal.old.lines ++ line.Back level ∷ [] }) }
         ensures steps { result ≡ Err OutOfSteps → counted_in journal.new.lines ≡ journal.new.limit }
+        ensures never_wide { (wide : WideAt) → ¬ (result ≡ Err (Number wide)) }
         ensures fits { (s : Stored) → T.fits self.old.theory s → T.fits self.new.theory s }
         ensures places { self.new.places ≡ self.old.places }
         ensures told_within { OnOk result (self.new.handed ≤ length self.new.propagation.trail) }

@@ -111,7 +111,7 @@ impl Theory for Constants {
 
     ghost own_conflict = { λ o k. IsConflict o k };
 
-    ghost is_complete = { λ o. NoneClashes (standing o) };
+    ghost is_complete = { λ o s. NoneClashes (standing o) };
 
     ghost in_step = { λ o js. Unit {0} };
 

@@ -118,8 +118,8 @@ pub trait Theory: Equalities {
     /// The conflict is the object's.
     ghost own_conflict: { Self → ℕ → Type 0 };
 
-    /// Nothing is left to do.
-    ghost is_complete: { Self → Type 0 };
+    /// Nothing is left to do for the names of the store.
+    ghost is_complete: { Self → Stored → Type 0 };
 
     /// The lines that stand in a journal are in step with the object.
     ghost in_step: { Self → List Line → Type 0 };
@@ -151,7 +151,7 @@ pub trait Theory: Equalities {
         requires fits { Self.fits self.old store.now }
         requires step { in_step self.old (live journal.old.lines) }
         ensures assumed { assumed self.new ≡ assumed self.old }
-        ensures complete { result ≡ Ok Complete → is_complete self.new }
+        ensures complete { result ≡ Ok Complete → is_complete self.new store.now }
         ensures conflict { (k : ℕ) → result ≡ Ok (Conflict k) → own_conflict self.new k × AreContradictory store.now.signature (literals (assumed self.new)) }
         ensures steps { result ≡ Err OutOfSteps → counted_in journal.new.lines ≡ journal.new.limit }
         ensures noted { HasNoted journal.old journal.new }
@@ -173,7 +173,7 @@ pub trait Theory: Equalities {
     fn restore<L: Ledger>(&mut self, mark: &Self::Mark, steps: &mut Steps<L>)
         requires mark { (then : Self) × fits_mark self.old mark.now then }
         ensures assumed { (then : Self) → fits_mark self.old mark.now then → assumed self.new ≡ assumed then }
-        ensures complete { (then : Self) → fits_mark self.old mark.now then → is_complete then → is_complete self.new }
+        ensures complete { (then : Self) → fits_mark self.old mark.now then → (s : Stored) → is_complete then s → is_complete self.new s }
         ensures conflicts { (then : Self) → fits_mark self.old mark.now then → (k : ℕ) → own_conflict then k → own_conflict self.new k }
         ensures step { (then : Self) → fits_mark self.old mark.now then → (js : List Line) → in_step then js → in_step self.new js }
         ensures fits { (s : Stored) → Self.fits self.old s → Self.fits self.new s }

@@ -7,7 +7,7 @@ use Rattle.ae_journal.specs.declared.lines.Line.{Line}
 use Rattle.ae_journal.specs.declared.lines.Line.TheVariants as line
 use Rattle.ae_propagation.specs.Settled.{HasTrue}
 use Rattle.ae_propagation.specs.Settled.{last_level}
-use Rattle.ae_sat.specs.Search.{AllNamed, IsLawfulState}
+use Rattle.ae_sat.specs.Search.{AllNamed, AllAmong, IsLawfulState}
 use Rattle.ae_sat.proofs.Legality.{may_decide, decision_keeps, rows_more}
 use Rattle.ae_sat.specs.Standing.{HasRows}
 use Rattle.ae_sat.proofs.Branching.{progresses, keeps_one, keeps_either, notes_one, notes_either}
@@ -100,3 +100,6 @@ decide-requires-clause-of_clause g c =
     let s = c.args.self.now in
     let e : c.clause_at.result.now ≡ clause s.propagation.clauses c.args.number = c.clause_at.ensures in
     (c.clause_at.result.now, (c.args.number, c.requires.within, sym e), c.in_ok-lit.ensures.has)
+
+pub returns-clause-formulas : goal.returns-clause-formulas
+returns-clause-formulas g c fs parts among = subst (AllAmong fs) (sym c.in_ok-decide.ensures.clauses) among

@@ -54,3 +54,6 @@ returns-clause-allowed g c p n sig old =
     let stated : IsStated p n new u s.places =
     subst (λ (v : List ℕ). IsStated p n new u v) c.as_slice.ensures (c.in_ok-learnt.ensures.stated p n before) in
     c.take_in.ensures.allowed p n sig stated
+
+pub returns-clause-formulas : goal.returns-clause-formulas
+returns-clause-formulas g c fs parts among = c.take_in.ensures.formulas fs parts among

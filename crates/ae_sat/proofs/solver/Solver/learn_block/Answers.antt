@@ -7,7 +7,7 @@ use Rattle.ae_core.specs.declared.proofs.ClauseLine.TheVariants.{Rup, Block}
 use Rattle.ae_explain.specs.declared.trail.Assigned.{Assigned}
 use Rattle.ae_explain.specs.Trail.{clause, AreFalse, IsLawful}
 use Rattle.ae_explain.specs.Levels.{greatest_of}
-use Rattle.ae_sat.specs.Search.{IsStated, IsLearnt, IsLawfulState}
+use Rattle.ae_sat.specs.Search.{IsStated, IsLearnt, IsLawfulState, AllAmong}
 use Rattle.ae_sat.proofs.Attaching.{lawful_clause}
 use Rattle.ae_sat.proofs.Propagating.{line_state}
 use Rattle.ae_sat.proofs.Blocks.{block_stated, first_stated, state_same}
@@ -157,3 +157,9 @@ returns-clause-allowed g c p n sig old =
     let last : IsStated p n new d.propagation.clauses d.places =
     subst (λ (w : List Clause). IsStated p n new w d.places) (sym du) (subst (λ (w : List ℕ). IsStated p n new s.propagation.clauses w) (sym dp) (first_stated p n new s.propagation.clauses s.places cl (length ks) then)) in
     c.take_in.ensures.allowed p n sig last
+
+pub returns-clause-formulas : goal.returns-clause-formulas
+returns-clause-formulas g c fs parts among =
+    let s = c.args.self.now in
+    let du : c.detach.new.self.propagation.clauses ≡ s.propagation.clauses = c.detach.ensures.clauses s.propagation.clauses c.in_ok-clause.clause c.in_ok-attach.ensures.clauses in
+    c.take_in.ensures.formulas fs parts (subst (AllAmong fs) (sym du) among)

@@ -5,6 +5,8 @@ use Rattle.ae_rules.specs.Derivations.{IsContradictory, clause_ok}
 use Rattle.ae_core.specs.declared.proofs.Block.{Block}
 use Rattle.ae_explain.specs.Trail.{AreFalse}
 use Rattle.ae_sat.specs.Marked.{atoms}
+use Rattle.ae_sat.specs.Search.{AllAmong}
+use Rattle.ae_sat.proofs.Failing.{passed_on}
 use Rattle.ae_sat.proofs.Searching.{notes_none}
 use Rattle.ae_sat.proofs.Blocks.{state_same, block_false}
 use Rattle.ae_sat.proofs.solver.Solver.propagate.Goals as goal
@@ -114,3 +116,24 @@ returns-in_err-block-in-Conflict-clause-allowed g c p n sig st = (c.in_ok-k.ensu
 
 pub returns-in_ok-block-in-Conflict-clause-allowed : goal.returns-in_ok-block-in-Conflict-clause-allowed
 returns-in_ok-block-in-Conflict-clause-allowed g c p n sig st = (c.in_ok-k.ensures.continues.stated p n st).allowed
+
+pub returns-in_err-saturate-clause-number : goal.returns-in_err-saturate-clause-number
+returns-in_err-saturate-clause-number g c wide w setting sig st state =
+    let b = c.settle_rows.new.self in
+    let js = c.args.journal.now.lines in
+    let one = c.in_ok-k.ensures.continues.state setting js st state in
+    let t = c.tell_all.new.self in
+    let e = c.in_ok-tell_all.ensures in
+    let two = state_same setting b.propagation.trail t.propagation.trail b.propagation.clauses t.propagation.clauses b.expanded t.expanded c.settle_rows.new.lines.items js e.trail e.clauses e.expanded one in
+    c.saturate.ensures.number wide (passed_on c.from_residual-in_err-saturate.result c.in_err-saturate.field-0.0 c.in_err-saturate.was c.from_residual-in_err-saturate.ensures.1 w) setting c.settle_rows.new.lines.items sig two
+
+pub returns-in-Falsified-clause-formulas : goal.returns-in-Falsified-clause-formulas
+returns-in-Falsified-clause-formulas g c fs parts among = c.in_ok-k.ensures.continues.formulas fs parts among
+
+pub returns-in-Complete-clause-formulas : goal.returns-in-Complete-clause-formulas
+returns-in-Complete-clause-formulas g c fs parts among =
+    subst (AllAmong fs) (sym (c.in_ok-saturate.ensures.clauses ∙ c.in_ok-tell_all.ensures.clauses)) (c.in_ok-k.ensures.continues.formulas fs parts among)
+
+pub returns-in_ok-block-in-Conflict-clause-formulas : goal.returns-in_ok-block-in-Conflict-clause-formulas
+returns-in_ok-block-in-Conflict-clause-formulas g c fs parts among =
+    subst (AllAmong fs) (sym (c.in_ok-saturate.ensures.clauses ∙ c.in_ok-tell_all.ensures.clauses)) (c.in_ok-k.ensures.continues.formulas fs parts among)

@@ -1,4 +1,5 @@
-use Rattle.std.proofs.Common.{rules, ◌∙◌, Ok, ap}
+use Rattle.std.proofs.Common.{rules, refl, ◌∙◌, Ok, ap}
+use Rattle.ae_sat.proofs.Failing.{passed_on}
 use Rattle.ae_sat.proofs.Searching.{notes_more, keeps_more, named_still}
 use Rattle.ae_sat.proofs.solver.Solver.run.Goals as goal
 
@@ -39,6 +40,7 @@ returns-then-branch-clause-legal g c setting bound e s w =
 pub loop-k-preserved-else-branch : goal.loop-k-preserved-else-branch
 loop-k-preserved-else-branch g c = record {
   alive = c.in_ok-learn-in-Clause.ensures.alive;
+  formulas = λ fs parts among. c.in_ok-learn-in-Clause.ensures.formulas fs parts (c.in_ok-k.ensures.formulas fs parts (c.loop-k.invariant.formulas fs parts among));
   stated = λ p n e s. c.in_ok-learn-in-Clause.ensures.stated p n e (c.in_ok-k.ensures.stated p n e (c.loop-k.invariant.stated p n e s));
   legal = λ setting bound e s w.
       let st = c.loop-k.invariant.stated setting.problem setting.goal e.signature s in
@@ -65,6 +67,7 @@ returns-in-None-clause-legal g c setting bound e s w =
 pub loop-k-preserved : goal.loop-k-preserved
 loop-k-preserved g c = record {
   alive = c.in_ok-branch_on-in-Some.ensures.alive;
+  formulas = λ fs parts among. c.in_ok-branch_on-in-Some.ensures.formulas fs parts (c.in_ok-k.ensures.formulas fs parts (c.loop-k.invariant.formulas fs parts among));
   stated = λ p n e s. c.in_ok-branch_on-in-Some.ensures.stated p n e (c.in_ok-k.ensures.stated p n e (c.loop-k.invariant.stated p n e s));
   legal = λ setting bound e s w.
       let st = c.loop-k.invariant.stated setting.problem setting.goal e.signature s in
@@ -127,6 +130,7 @@ returns-then-branch-2-clause-legal g c setting bound e s w =
 pub loop-k-preserved-else-branch-2 : goal.loop-k-preserved-else-branch-2
 loop-k-preserved-else-branch-2 g c = record {
   alive = c.in_ok-learn_block-in-Contradiction.ensures.alive;
+  formulas = λ fs parts among. c.in_ok-learn_block-in-Contradiction.ensures.formulas fs parts (c.in_ok-k.ensures.formulas fs parts (c.loop-k.invariant.formulas fs parts among));
   stated = λ p n e s. c.in_ok-learn_block-in-Contradiction.ensures.stated p n e (c.in_ok-k.ensures.stated p n e (c.loop-k.invariant.stated p n e s));
   legal = λ setting bound e s w.
       let st = c.loop-k.invariant.stated setting.problem setting.goal e.signature s in
@@ -173,3 +177,27 @@ returns-then-branch-2-clause-allowed g c p n e s = c.in_ok-learn_block-in-Contra
 
 pub returns-in_err-branch_on-in-Some-clause-allowed : goal.returns-in_err-branch_on-in-Some-clause-allowed
 returns-in_err-branch_on-in-Some-clause-allowed g c p n e s = c.in_err-branch_on-in-Some.ensures.allowed p n e (c.in_ok-k.ensures.stated p n e (c.loop-k.invariant.stated p n e s))
+
+pub returns-in_err-k-clause-number : goal.returns-in_err-k-clause-number
+returns-in_err-k-clause-number g c wide w setting e s state =
+    let st = c.loop-k.invariant.stated setting.problem setting.goal e.signature s in
+    let inv = c.loop-k.invariant.legal setting 0 e s state in
+    c.in_err-k.ensures.number wide (passed_on c.from_residual.result c.in_err-k.field-0.0 refl c.from_residual.ensures.1 w) setting (named_still setting c.args.store.now c.args.journal.now.lines c.loop-k.journal.lines inv.0.added inv.0.is e) st inv.1
+
+pub returns-in_err-learn-in-Clause-clause-number : goal.returns-in_err-learn-in-Clause-clause-number
+returns-in_err-learn-in-Clause-clause-number g c wide w setting e s state = absurd (c.in_err-learn-in-Clause.ensures.never_wide wide (passed_on c.from_residual-in_err-learn-in-Clause.result c.in_err-learn-in-Clause.field-0.0 refl c.from_residual-in_err-learn-in-Clause.ensures.1 w))
+
+pub returns-in_err-learn_block-in-Contradiction-clause-number : goal.returns-in_err-learn_block-in-Contradiction-clause-number
+returns-in_err-learn_block-in-Contradiction-clause-number g c wide w setting e s state = absurd (c.in_err-learn_block-in-Contradiction.ensures.never_wide wide (passed_on c.from_residual-in_err-learn_block-in-Contradiction.result c.in_err-learn_block-in-Contradiction.field-0.0 refl c.from_residual-in_err-learn_block-in-Contradiction.ensures.1 w))
+
+pub returns-in_err-branch_on-in-Some-clause-number : goal.returns-in_err-branch_on-in-Some-clause-number
+returns-in_err-branch_on-in-Some-clause-number g c wide w setting e s state = absurd (c.in_err-branch_on-in-Some.ensures.never_wide wide (passed_on c.from_residual-in_err-branch_on-in-Some.result c.in_err-branch_on-in-Some.field-0.0 refl c.from_residual-in_err-branch_on-in-Some.ensures.1 w))
+
+pub returns-in-None-clause-formulas : goal.returns-in-None-clause-formulas
+returns-in-None-clause-formulas g c fs parts among = c.in_ok-k.ensures.formulas fs parts (c.loop-k.invariant.formulas fs parts among)
+
+pub returns-then-branch-clause-formulas : goal.returns-then-branch-clause-formulas
+returns-then-branch-clause-formulas g c fs parts among = c.in_ok-learn-in-Clause.ensures.formulas fs parts (c.in_ok-k.ensures.formulas fs parts (c.loop-k.invariant.formulas fs parts among))
+
+pub returns-then-branch-2-clause-formulas : goal.returns-then-branch-2-clause-formulas
+returns-then-branch-2-clause-formulas g c fs parts among = c.in_ok-learn_block-in-Contradiction.ensures.formulas fs parts (c.in_ok-k.ensures.formulas fs parts (c.loop-k.invariant.formulas fs parts among))

@@ -41,3 +41,13 @@ pub returns-clause-journal : goal.returns-clause-journal
 returns-clause-journal g c =
     let h = c.saturate.ensures.noted in
     record { limit = h.limit; more = omega (arith, ap counted_in h.is, counted-append c.args.journal.now.lines h.added) }
+
+pub returns-clause-number : goal.returns-clause-number
+returns-clause-number g c wide e setting lines named state =
+    let s = c.args.self.now in
+    let j = c.args.journal.now in
+    let all : g.T.Theory.assumed s.theory ≡ atoms s.propagation.trail = c.requires.alive.running.told_all ∙ ap atoms (ap (λ (k : ℕ). take k s.propagation.trail) c.requires.told ∙ take-length s.propagation.trail) in
+    let may : MayAll setting (literals (g.T.Theory.assumed s.theory)) j.lines = λ l h.
+    atoms_stand (MayStand setting j.lines) 0 s.propagation.trail (trail_may_stand setting s.propagation.trail s.propagation.clauses j.lines c.requires.alive.running.lawful c.requires.alive.running.decided state.possible) l
+    (subst (λ (w : List Tagged). Contains (literals w) l) all h) in
+    c.saturate.ensures.number wide e setting named may

@@ -4,7 +4,8 @@ use Rattle.ae_core.specs.declared.proofs.ClauseLine.TheVariants.{Rup}
 use Rattle.ae_journal.specs.Noted.{Noted}
 use Rattle.ae_journal.specs.declared.lines.Line.TheVariants as line
 use Rattle.ae_explain.specs.Fronts.{IsFront}
-use Rattle.ae_sat.specs.Search.{IsStated, AllNamed}
+use Rattle.ae_sat.specs.Search.{IsStated, AllNamed, AllAmong}
+use Rattle.ae_sat.proofs.Closure.{false_among}
 use Rattle.ae_sat.proofs.LearnSteps.{HasTop, has_top, keeps_learn, progresses_learn, stated_more, learn_notes, learn_leaves, lines_either}
 use Rattle.ae_sat.specs.Standing.{HasRows}
 use Rattle.ae_sat.proofs.Propagating.{rows_clause, rows_front, prefix_state}
@@ -169,3 +170,10 @@ returns-clause-legal g c setting bound sig old state2 =
           c.requires.learnt.1.false_ones c.requires.learnt.1.empty c.requires.learnt.1.one c.requires.learnt.1.highest h c.requires.line.2 stated.allowed
           c.requires.alive.running.stands a.propagation.trail a.propagation.clauses a.expanded c.note.new.journal.lines c.go_back.new.journal.lines front small eu (ap (λ (x : Noted). x.lines) mid) (ap (λ (x : Noted). x.lines) c.in_ok-go_back.ensures.noted),
     )
+
+pub returns-clause-formulas : goal.returns-clause-formulas
+returns-clause-formulas g c fs parts among =
+    let s = c.args.self.now in
+    let r = c.args.learnt in
+    let eu : c.attach.new.self.propagation.clauses ≡ s.propagation.clauses ++ r.clause ∷ [] = c.in_ok-attach.ensures.clauses ∙ ap (λ (v : List Clause). v ++ r.clause ∷ []) c.in_ok-go_back.ensures.clauses in
+    subst (AllAmong fs) (sym eu) (false_among s.propagation.trail s.propagation.clauses c.requires.alive.running.lawful c.requires.alive.running.stands r.clause c.requires.learnt.1.false_ones fs among)

@@ -5,7 +5,7 @@ pub returns-clause-assumed : goal.returns-clause-assumed
 returns-clause-assumed g c then h = back_assumed c.args.self.now c.self.inside.nodes c.self.inside.last c.args.mark.now c.self.view_is then h
 
 pub returns-clause-complete : goal.returns-clause-complete
-returns-clause-complete g c then h n = back_complete c.args.self.now c.self.inside.nodes c.self.inside.last c.args.mark.now c.self.view_is then h n
+returns-clause-complete g c then h s n = back_complete c.args.self.now c.self.inside.nodes c.self.inside.last c.args.mark.now c.self.view_is then h n
 
 pub returns-clause-conflicts : goal.returns-clause-conflicts
 returns-clause-conflicts g c then h k n = back_conflict c.args.self.now c.self.inside.nodes c.self.inside.last c.args.mark.now c.self.view_is then h k n
