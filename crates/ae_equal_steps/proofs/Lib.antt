@@ -1,5 +1,5 @@
-mod PatternLaws
-mod Adding
-mod PairLaws
-mod FieldSteps
-mod Alike
+pub mod PatternLaws
+pub mod Adding
+pub mod PairLaws
+pub mod FieldSteps
+pub mod Alike

@@ -55,7 +55,7 @@ module _ (sig : Signature) (nodes : List Node) (c : Contents) (store : IsStore s
   pub of_within : (s : Sort) (p : Pattern) (n : ℕ) → IsOf sig ts c s p n → n < length ts
   of_within s p n o = omega (arith, slice_get_within (held c) n o.entry o.there, are.one_each, length-map (held c) (λ (e : Entry). value_in c e.pattern))
 
-  made_of : (s : Sort) (p : Pattern) (n : ℕ) → IsOf sig ts c s p n → IsMadeOf s p n
+  pub made_of : (s : Sort) (p : Pattern) (n : ℕ) → IsOf sig ts c s p n → IsMadeOf s p n
   made_of s p n o = by_bool (is_numeric s) as_number (λ f. by_fields f (record_fields sig s) refl)
     where
       term : (t : Term) × (slice_get ts n ≡ Some t)
@@ -198,7 +198,7 @@ module _ (sig : Signature) (nodes : List Node) (c : Contents) (store : IsStore s
     pub rights : ArePlaced sorts (fields_from record_is.type record_is.sorts (named ts n) 0 (length sorts)) qs
     pub pairs : ArePairs sig ts c ps qs
 
-  placed : (s : Sort) (ss : List Sort) (f : record_fields sig s ≡ Some ss) (n : ℕ) (ps : List Pattern) → HavePatterns ts (held c) (field_terms s (named ts n) (length ss)) ps
+  pub placed : (s : Sort) (ss : List Sort) (f : record_fields sig s ≡ Some ss) (n : ℕ) (ps : List Pattern) → HavePatterns ts (held c) (field_terms s (named ts n) (length ss)) ps
       → ArePlaced ss (fields_from (is_record sig s ss f).type (is_record sig s ss f).sorts (named ts n) 0 (length ss)) ps
   placed s ss f n ps h =
       let r = is_record sig s ss f in

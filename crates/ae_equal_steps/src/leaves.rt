@@ -20,8 +20,9 @@ use ae_value_steps::{state_chained, state_itself, state_turned};
 use ae_value_table::Values;
 use std::alloc::AllocError;
 
-/// The number of a step that equates a name with its leaf: the one that says it, and a new one where the name is its own leaf.
-fn leading(
+/// The number of a step that equates a name with its leaf: the one that says it, and a new one where the name is its own leaf. It rests on the steps that
+/// say values.
+pub fn leaf_step(
     values: &Values,
     store: &Store,
     justs: &mut Justs,
@@ -58,8 +59,8 @@ pub(crate) fn equal_leaves(
     ensures fits { Fits store.now.signature (terms (shapes store.now.nodes)) justs.new }
 {
     let leaf = values.leaf(right);
-    let first = leading(values, store, justs, left)?;
-    let second = leading(values, store, justs, right)?;
+    let first = leaf_step(values, store, justs, left)?;
+    let second = leaf_step(values, store, justs, right)?;
     let back = state_turned(store, justs, leaf, right, second)?;
     state_chained(store, justs, left, right, first, back)
 }

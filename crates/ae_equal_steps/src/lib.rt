@@ -1,4 +1,4 @@
-//! The step that two names of one sort and one value are equal.
+//! Steps by the values of names: that two names of one sort and one value are equal, what the leaf of a name is, and what its number.
 #![tactic(auto)]
 
 mod equal;
@@ -9,3 +9,5 @@ mod records;
 mod said;
 
 pub use equal::equal_step;
+pub use leaves::leaf_step;
+pub use numbers::number_step;

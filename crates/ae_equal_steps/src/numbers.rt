@@ -23,8 +23,9 @@ use ae_value_steps::{Valued, state_equal, state_own};
 use ae_value_table::Values;
 use std::alloc::{AllocError, Global};
 
-/// The number of a step that states the number of a name: the one that says it, and a new one where the name is its own number.
-fn stating(
+/// The number of a step that states the number of a name: the one that says it, and a new one where the name is its own number. It rests on the steps
+/// that say values.
+pub fn number_step(
     alloc: Global,
     values: &Values,
     store: &Store,
@@ -76,8 +77,8 @@ pub(crate) fn equal_numbers(
     let real = is_real(values, left);
     let first_number = values.number(left)?;
     let second_number = values.number(right)?;
-    let first = stating(alloc, values, store, justs, left, &first_number, real)?;
-    let second = stating(alloc, values, store, justs, right, &second_number, real)?;
+    let first = number_step(alloc, values, store, justs, left, &first_number, real)?;
+    let second = number_step(alloc, values, store, justs, right, &second_number, real)?;
     let of_left = Valued {
         name: left,
         value: &first_number,

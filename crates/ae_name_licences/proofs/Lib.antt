@@ -1,4 +1,4 @@
-mod Now
-mod Solved
-mod Legal
-mod Widths
+pub mod Now
+pub mod Solved
+pub mod Legal
+pub mod Widths

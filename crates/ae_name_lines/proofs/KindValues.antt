@@ -58,12 +58,12 @@ none_is : (o : Option Val) → is_none o ≡ true → o ≡ None
 none_is None e = refl
 none_is (Some v) e = false_true e
 
-none_means : (h : Head) (us : List Term) (f : Term → Val) → is_none (linear h (map {A = Term × Bool} (λ a. (a.0, nothing)) (map (λ u. (u, is_opaque u)) us))) ≡ true → linear h (map (λ u. (u, f u)) us) ≡ None
+pub none_means : (h : Head) (us : List Term) (f : Term → Val) → is_none (linear h (map {A = Term × Bool} (λ a. (a.0, nothing)) (map (λ u. (u, is_opaque u)) us))) ≡ true → linear h (map (λ u. (u, f u)) us) ≡ None
 none_means h us f e =
     none_alike (λ u. nothing) f h us
     (ap (linear h) (sym (map_map (λ u. (u, is_opaque u)) (λ (a : Term × Bool). (a.0, nothing)) us)) ∙ none_is (linear h (map {A = Term × Bool} (λ a. (a.0, nothing)) (map (λ u. (u, is_opaque u)) us))) e)
 
-nothing_stated : (h : Head) (ss : List Sort) (us : List Term) (f : Term → Val) → is_free h ≡ true → is_opaque (Apply h ss us) ≡ true → linear h (map (λ u. (u, f u)) us) ≡ None
+pub nothing_stated : (h : Head) (ss : List Sort) (us : List Term) (f : Term → Val) → is_free h ≡ true → is_opaque (Apply h ss us) ≡ true → linear h (map (λ u. (u, f u)) us) ≡ None
 nothing_stated (head.Build k) ss us f e o = false_true e
 nothing_stated (head.Field k i) ss us f e o = false_true e
 nothing_stated (head.Symbol k) ss us f e o = refl

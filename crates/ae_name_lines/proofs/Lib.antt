@@ -1,13 +1,13 @@
-mod Values
+pub mod Values
 pub mod Solving
 pub mod MoreNames
-mod Representing
-mod Stores
+pub mod Representing
+pub mod Stores
 pub mod Spelled
 pub mod Written
-mod Linear
-mod Computed
+pub mod Linear
+pub mod Computed
 pub mod Putting
-mod Deep
-mod NewNames
-mod KindValues
+pub mod Deep
+pub mod NewNames
+pub mod KindValues

@@ -129,7 +129,7 @@ none_stated : (h : Head) (us : List Term) (f : Term → Val) → linear h (map (
 none_stated h us f n =
     ap (λ (ps : List (Term × Val)). is_none (linear h ps)) (map_map (λ u. (u, is_opaque u)) (λ (a : Term × Bool). (a.0, nothing)) us) ∙ ap is_none (none_alike f (λ u. nothing) h us n)
 
-opaque_application : (h : Head) (ss : List Sort) (us : List Term) (f : Term → Val) → is_free h ≡ true → linear h (map (λ u. (u, f u)) us) ≡ None → is_opaque (Apply h ss us) ≡ true
+pub opaque_application : (h : Head) (ss : List Sort) (us : List Term) (f : Term → Val) → is_free h ≡ true → linear h (map (λ u. (u, f u)) us) ≡ None → is_opaque (Apply h ss us) ≡ true
 opaque_application (head.Build k) ss us f e n = false_true e
 opaque_application (head.Field k i) ss us f e n = false_true e
 opaque_application (head.Symbol k) ss us f e n = opaque_layer (head.Symbol k) ss us
@@ -140,7 +140,7 @@ opaque_application (head.Int o) ss us f e n = opaque_layer (head.Int o) ss us �
 opaque_application (head.Real o) ss us f e n = opaque_layer (head.Real o) ss us ∙ none_stated (head.Real o) us f n
 
 -- ---- the sort of predicates' applications isn't numeric
-bool_is_no_number : is_numeric BoolSort ≡ false
+pub bool_is_no_number : is_numeric BoolSort ≡ false
 bool_is_no_number =
     ap (λ c. c || same_sort BoolSort Real) (decided_not (Sort_discrete BoolSort Int) (λ e. let z : ◌≡◌ {A = Sort-F Sort} sort_layer.Bool sort_layer.Int = sym outs-Bool ∙ ap out-Sort e ∙ outs-Int in cc z))
     ∙ decided_not (Sort_discrete BoolSort Real) (λ e. let z : ◌≡◌ {A = Sort-F Sort} sort_layer.Bool sort_layer.Real = sym outs-Bool ∙ ap out-Sort e ∙ outs-Real in cc z)

@@ -97,7 +97,7 @@ module _ (o new then : Holding) (m : Mark) (h : FitsMark o m then) (b : IsBack o
   long : then.values.taken ≤ length (all_terms then)
   long = omega (arith, (h.right).within, ((h.right).entries).within)
 
-  terms_are : terms_now new ≡ terms_now then
+  pub terms_are : terms_now new ≡ terms_now then
   terms_are = ap (λ k. take k (all_terms new)) (b.values).taken ∙ take_kept then.values.taken (all_terms then) (all_terms new) keeps long
 
   rules_are : ◌≡◌ {A = ℕ → Option RuleEntry} (rules_now new) (rules_now then)

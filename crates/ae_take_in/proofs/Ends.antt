@@ -100,6 +100,7 @@ module _ (c d : Contents) (same : IsAs d c) (sig : Signature) (ts : List Term) w
     kept = λ k l. (
         let p = h.kept k (subst (λ (t : ℕ). k < t) (sym same.taken) l) in
         (p.0 ∙ numbers_same c d (same_as c d same) k, p.1 ∙ leaves_same c d (same_as c d same) k));
+    free = λ k l. h.free k (subst (λ (t : ℕ). t ≤ k) (sym same.taken) l);
     wide = h.wide;
   }
 

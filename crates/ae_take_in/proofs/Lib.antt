@@ -1,20 +1,20 @@
-mod Resting
-mod Rules
-mod Widths
-mod Steps
-mod Numbers
-mod Firsts
-mod Fronts
-mod OneEntry
-mod Nexts
-mod NextNumbers
-mod Leaves
-mod Covers
-mod NameSorts
-mod Rows
-mod Passing
-mod Puts
-mod Taken
-mod Takings
-mod Kept
-mod Ends
+pub mod Resting
+pub mod Rules
+pub mod Widths
+pub mod Steps
+pub mod Numbers
+pub mod Firsts
+pub mod Fronts
+pub mod OneEntry
+pub mod Nexts
+pub mod NextNumbers
+pub mod Leaves
+pub mod Covers
+pub mod NameSorts
+pub mod Rows
+pub mod Passing
+pub mod Puts
+pub mod Taken
+pub mod Takings
+pub mod Kept
+pub mod Ends

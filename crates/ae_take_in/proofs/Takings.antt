@@ -1,23 +1,29 @@
 -- Names taken in one after another.
-use Rattle.std.specs.Prelude.{ℕ, suc, ◌<◌, ◌≤◌, ◌≡◌, ◌⊎◌, List, [], slice_get, Some}
+use Rattle.std.specs.Prelude.{ℕ, suc, ◌<◌, ◌≤◌, ◌≡◌, ◌⊎◌, List, [], length, slice_get, Some}
 use Rattle.std.proofs.Common.{refl, sym, ◌∙◌, subst, arith, inl, inr}
+use Rattle.std.proofs.lemmas.Bool.{cases_lt}
 use native.Mathlib.Decide.{ℕ_discrete}
 use Rattle.ae_core.specs.declared.terms.Term.{Term}
 use Rattle.ae_core.specs.declared.problems.Signature.{Signature}
 use Rattle.ae_store.specs.Parts.{IsIn}
+use Rattle.ae_store.specs.Shapes.{shapes}
+use Rattle.ae_store.specs.Stores.{IsStore}
+use Rattle.ae_store.specs.Terms.{terms}
+use Rattle.ae_store.specs.declared.nodes.Node.{Node}
 use Rattle.ae_store.proofs.EnterLaws.{front_same}
 use Rattle.ae_store.proofs.PartLaws.{in_none}
 use Rattle.ae_just.specs.Needed.{RestsOn}
 use Rattle.ae_just.specs.Steps.{Fits}
 use Rattle.ae_just.specs.declared.steps.Rule.TheVariants as rule
 use Rattle.ae_just.specs.declared.steps.Step.{Step}
-use Rattle.ae_value_table.specs.Table.{Contents, number_at, leaf_at}
+use Rattle.ae_value_table.specs.Table.{Contents, own, number_at, leaf_at}
 use Rattle.ae_value_fitting.specs.Fitting.{AreSaid}
 use Rattle.ae_value_fitting.specs.Sources.{SaysValue, IsUnderValues, RestsOnValues, AreFromValues}
 use Rattle.ae_entering.specs.Firsts.{AreFirst}
 use Rattle.ae_take_in.specs.Inner.Next.{AreBelow}
 use Rattle.ae_take_in.specs.Inner.Taking.{IsOwnIfFree, IsTakenNext, AreTakenTo}
 use Rattle.ae_take_in.proofs.Fronts.{HaveSame, below_same, said_same, says_same}
+use Rattle.ae_take_in.proofs.Nexts.{own_number, own_leaf}
 use Rattle.ae_take_in.proofs.Puts.{sources_still}
 
 -- what rests on steps that say values, where these rest on earlier ones
@@ -68,3 +74,12 @@ module _ (sig : Signature) (ts : List Term) where
         kept = a.kept;
         free = a.free;
       }
+
+-- names that nothing computes and that come down to no other are their own: those that were taken in, and all that come behind
+pub free_all : (sig : Signature) (nodes : List Node) (store : IsStore sig nodes) (n : ℕ) → n < length nodes → (js ks : List Step) (old c : Contents) (from : ℕ) → AreTakenTo sig (terms (shapes nodes)) js ks old c from n
+    → (k : ℕ) → from ≤ k → IsOwnIfFree (terms (shapes nodes)) c k
+free_all sig nodes store n inside js ks old c from a k f none st = by_place (cases_lt k n)
+  where
+    by_place : (k < n) ⊎ (n ≤ k) → (number_at c k ≡ own k) × (leaf_at c k ≡ k)
+    by_place (inl l) = a.free k f l none st
+    by_place (inr l) = (own_number sig nodes store n inside c a.below k l, own_leaf sig nodes store n inside c a.below k l)

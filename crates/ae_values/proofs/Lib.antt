@@ -10,3 +10,4 @@ mod LeafPuts
 mod Leadable
 mod AfterLead
 mod Occurring
+mod Entries

@@ -95,6 +95,7 @@ fn put_all(
     ensures said { OnOk result (AreSaid store.now.signature (terms (shapes store.now.nodes)) justs.new values.new) }
     ensures sources { OnOk result (AreFromValues justs.old justs.new values.old values.new (just ∷ [])) }
     ensures names { OnOk result (held values.new ≡ held values.old) }
+    ensures others { values.new ≡ record values.old { rows = values.new.rows; leaves = values.new.leaves; justs = values.new.justs } }
     ensures front { IsFront justs.old justs.new }
     ensures fits { Fits store.now.signature (terms (shapes store.now.nodes)) justs.new }
     ensures lasts { Lasts values.old values.new }
@@ -127,6 +128,7 @@ fn put_counted<L: Ledger>(
     ensures said { OnOk result (AreSaid store.now.signature (terms (shapes store.now.nodes)) justs.new values.new) }
     ensures sources { OnOk result (AreFromValues justs.old justs.new values.old values.new (just ∷ [])) }
     ensures names { OnOk result (held values.new ≡ held values.old) }
+    ensures others { values.new ≡ record values.old { rows = values.new.rows; leaves = values.new.leaves; justs = values.new.justs } }
     ensures err { OnErr result (IsAs values.new values.old) }
     ensures front { IsFront justs.old justs.new }
     ensures fits { Fits store.now.signature (terms (shapes store.now.nodes)) justs.new }
@@ -168,6 +170,7 @@ pub fn put_leaf(
     ensures said { AreSaid store.now.signature (terms (shapes store.now.nodes)) justs.new values.new }
     ensures sources { AreFromValues justs.old justs.new values.old values.new (just ∷ []) }
     ensures names { held values.new ≡ held values.old }
+    ensures others { values.new ≡ record values.old { rows = values.new.rows; leaves = values.new.leaves; justs = values.new.justs } }
     ensures front { IsFront justs.old justs.new }
     ensures fits { Fits store.now.signature (terms (shapes store.now.nodes)) justs.new }
     ensures lasts { Lasts values.old values.new }

@@ -119,6 +119,7 @@ fn put_all(
     ensures said { OnOk result (AreSaid store.now.signature (terms (shapes store.now.nodes)) justs.new values.new) }
     ensures sources { OnOk result (AreFromValues justs.old justs.new values.old values.new (put.now.step ∷ [])) }
     ensures names { OnOk result (held values.new ≡ held values.old) }
+    ensures others { values.new ≡ record values.old { rows = values.new.rows; leaves = values.new.leaves; justs = values.new.justs } }
     ensures wide { IfErr result (λ fail. IfWide fail (λ wide. IsFirstWide (λ n. row_at values.old.rows n) put.now.name put.now.value.now wide)) }
     ensures front { IsFront justs.old justs.new }
     ensures fits { Fits store.now.signature (terms (shapes store.now.nodes)) justs.new }
@@ -154,6 +155,7 @@ fn put_counted<L: Ledger>(
     ensures said { OnOk result (AreSaid store.now.signature (terms (shapes store.now.nodes)) justs.new values.new) }
     ensures sources { OnOk result (AreFromValues justs.old justs.new values.old values.new (put.now.step ∷ [])) }
     ensures names { OnOk result (held values.new ≡ held values.old) }
+    ensures others { values.new ≡ record values.old { rows = values.new.rows; leaves = values.new.leaves; justs = values.new.justs } }
     ensures err { OnErr result (IsAs values.new values.old) }
     ensures wide { IfErr result (λ fail. IfWide fail (λ wide. IsFirstWide (λ n. row_at values.old.rows n) put.now.name put.now.value.now wide)) }
     ensures front { IsFront justs.old justs.new }
@@ -201,6 +203,7 @@ pub fn put_number(
     ensures said { AreSaid store.now.signature (terms (shapes store.now.nodes)) justs.new values.new }
     ensures sources { AreFromValues justs.old justs.new values.old values.new (just ∷ []) }
     ensures names { held values.new ≡ held values.old }
+    ensures others { values.new ≡ record values.old { rows = values.new.rows; leaves = values.new.leaves; justs = values.new.justs } }
     ensures wide { IfErr result (λ refused. IfNumber refused (λ width. IsPutWide values.old name number width)) }
     ensures front { IsFront justs.old justs.new }
     ensures fits { Fits store.now.signature (terms (shapes store.now.nodes)) justs.new }

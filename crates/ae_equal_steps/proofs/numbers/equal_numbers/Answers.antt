@@ -20,14 +20,14 @@ is_real-real-requires c =
     let s = c.requires.same in
     slice_get_within v.entries c.args.left s.entry (get_front v.entries v.taken c.args.left s.entry s.there).0
 
-pub stating-requires-clause-fits : goal.stating-requires-clause-fits
-stating-requires-clause-fits c = c.requires.held.fits
+pub number_step-requires-clause-fits : goal.number_step-requires-clause-fits
+number_step-requires-clause-fits c = c.requires.held.fits
 
-pub stating-requires-clause-said : goal.stating-requires-clause-said
-stating-requires-clause-said c = c.requires.held.said
+pub number_step-requires-clause-said : goal.number_step-requires-clause-said
+number_step-requires-clause-said c = c.requires.held.said
 
-pub stating-requires-clause-written : goal.stating-requires-clause-written
-stating-requires-clause-written c =
+pub number_step-requires-clause-written : goal.number_step-requires-clause-written
+number_step-requires-clause-written c =
     let v = c.args.values.now in
     let h = c.requires.held in
     let s = c.requires.same in
@@ -35,14 +35,14 @@ stating-requires-clause-written c =
     subst (λ (f : Lin). IsWritten c.args.store.now.signature (terms (shapes c.args.store.now.nodes)) c.is_real-real.result c.args.left f) (sym c.in_ok-first_number.ensures.number)
     (subst (λ (r : Bool). IsWritten c.args.store.now.signature (terms (shapes c.args.store.now.nodes)) r c.args.left (number_at v c.args.left)) (sym kind) (written c.args.store.now.signature (terms (shapes c.args.store.now.nodes)) v h.patterns h.values s.real c.args.left s.left_within s.left))
 
-pub stating-requires-clause-number : goal.stating-requires-clause-number
-stating-requires-clause-number c = c.in_ok-first_number.ensures.number
+pub number_step-requires-clause-number : goal.number_step-requires-clause-number
+number_step-requires-clause-number c = c.in_ok-first_number.ensures.number
 
-pub stating-requires-2-clause-said : goal.stating-requires-2-clause-said
-stating-requires-2-clause-said c = said_kept c.args.store.now.signature (terms (shapes c.args.store.now.nodes)) c.args.justs.now c.stating.new.justs c.stating.ensures.front c.args.values.now c.requires.held.said
+pub number_step-requires-2-clause-said : goal.number_step-requires-2-clause-said
+number_step-requires-2-clause-said c = said_kept c.args.store.now.signature (terms (shapes c.args.store.now.nodes)) c.args.justs.now c.number_step.new.justs c.number_step.ensures.front c.args.values.now c.requires.held.said
 
-pub stating-requires-2-clause-written : goal.stating-requires-2-clause-written
-stating-requires-2-clause-written c =
+pub number_step-requires-2-clause-written : goal.number_step-requires-2-clause-written
+number_step-requires-2-clause-written c =
     let v = c.args.values.now in
     let h = c.requires.held in
     let s = c.requires.same in
@@ -50,14 +50,14 @@ stating-requires-2-clause-written c =
     subst (λ (f : Lin). IsWritten c.args.store.now.signature (terms (shapes c.args.store.now.nodes)) c.is_real-real.result c.args.right f) (sym c.in_ok-second_number.ensures.number)
     (subst (λ (r : Bool). IsWritten c.args.store.now.signature (terms (shapes c.args.store.now.nodes)) r c.args.right (number_at v c.args.right)) (sym kind) (written c.args.store.now.signature (terms (shapes c.args.store.now.nodes)) v h.patterns h.values s.real c.args.right s.right_within s.right))
 
-pub stating-requires-2-clause-number : goal.stating-requires-2-clause-number
-stating-requires-2-clause-number c = c.in_ok-second_number.ensures.number
+pub number_step-requires-2-clause-number : goal.number_step-requires-2-clause-number
+number_step-requires-2-clause-number c = c.in_ok-second_number.ensures.number
 
 pub returns-in_err-second-clause-front : goal.returns-in_err-second-clause-front
-returns-in_err-second-clause-front c = front_then c.args.justs.now c.stating.new.justs c.stating-2.new.justs c.stating.ensures.front c.stating-2.ensures.front
+returns-in_err-second-clause-front c = front_then c.args.justs.now c.number_step.new.justs c.number_step-2.new.justs c.number_step.ensures.front c.number_step-2.ensures.front
 
 pub state_equal-requires-clause-left : goal.state_equal-requires-clause-left
-state_equal-requires-clause-left c = stated_kept c.args.store.now.signature (terms (shapes c.args.store.now.nodes)) c.stating.new.justs c.stating-2.new.justs c.stating-2.ensures.front c.is_real-real.result c.args.left c.in_ok-first_number.first_number c.in_ok-first.first c.in_ok-first.ensures.stated
+state_equal-requires-clause-left c = stated_kept c.args.store.now.signature (terms (shapes c.args.store.now.nodes)) c.number_step.new.justs c.number_step-2.new.justs c.number_step-2.ensures.front c.is_real-real.result c.args.left c.in_ok-first_number.first_number c.in_ok-first.first c.in_ok-first.ensures.stated
 
 pub state_equal-requires-clause-right : goal.state_equal-requires-clause-right
 state_equal-requires-clause-right c = c.in_ok-second.ensures.stated
@@ -67,19 +67,19 @@ state_equal-requires-clause-same c = c.in_ok-first_number.ensures.number ∙ c.r
 
 pub returns-clause-states : goal.returns-clause-states
 returns-clause-states c =
-    equal_added c.stating-2.new.justs c.state_equal.new.justs c.args.left c.args.right (c.in_ok-first.first ∷ c.in_ok-second.second ∷ []) c.state_equal.result c.state_equal.ensures.added
+    equal_added c.number_step-2.new.justs c.state_equal.new.justs c.args.left c.args.right (c.in_ok-first.first ∷ c.in_ok-second.second ∷ []) c.state_equal.result c.state_equal.ensures.added
 
 pub returns-clause-rests : goal.returns-clause-rests
 returns-clause-rests c =
     let first = c.in_ok-first.first in
     let second = c.in_ok-second.second in
-    rests_on c.stating-2.new.justs c.state_equal.new.justs (side.Name c.args.left) (side.Name c.args.right) (first ∷ second ∷ []) c.args.store.now.signature (terms (shapes c.args.store.now.nodes)) c.args.justs.now c.args.values.now c.state_equal.result
+    rests_on c.number_step-2.new.justs c.state_equal.new.justs (side.Name c.args.left) (side.Name c.args.right) (first ∷ second ∷ []) c.args.store.now.signature (terms (shapes c.args.store.now.nodes)) c.args.justs.now c.args.values.now c.state_equal.result
     c.state_equal.ensures.added c.state_equal.ensures.fits
-    (two_rest c.args.store.now.signature (terms (shapes c.args.store.now.nodes)) c.args.justs.now c.stating.new.justs c.stating-2.new.justs c.stating.ensures.front c.stating-2.ensures.front c.stating.ensures.fits c.stating-2.ensures.fits c.args.values.now c.requires.held.said first
-    second (slice_get_within c.stating.new.justs first _ c.in_ok-first.ensures.stated.stated.there) c.in_ok-first.ensures.rests c.in_ok-second.ensures.rests)
+    (two_rest c.args.store.now.signature (terms (shapes c.args.store.now.nodes)) c.args.justs.now c.number_step.new.justs c.number_step-2.new.justs c.number_step.ensures.front c.number_step-2.ensures.front c.number_step.ensures.fits c.number_step-2.ensures.fits c.args.values.now c.requires.held.said first
+    second (slice_get_within c.number_step.new.justs first _ c.in_ok-first.ensures.stated.stated.there) c.in_ok-first.ensures.rests c.in_ok-second.ensures.rests)
 
 pub returns-clause-front : goal.returns-clause-front
 returns-clause-front c =
-    front_then c.args.justs.now c.stating-2.new.justs c.state_equal.new.justs (front_then c.args.justs.now c.stating.new.justs c.stating-2.new.justs c.stating.ensures.front c.stating-2.ensures.front)
-    (front_added c.stating-2.new.justs c.state_equal.new.justs (side.Name c.args.left) (side.Name c.args.right) (c.in_ok-first.first ∷ c.in_ok-second.second ∷ []) c.state_equal.result c.state_equal.ensures.added
+    front_then c.args.justs.now c.number_step-2.new.justs c.state_equal.new.justs (front_then c.args.justs.now c.number_step.new.justs c.number_step-2.new.justs c.number_step.ensures.front c.number_step-2.ensures.front)
+    (front_added c.number_step-2.new.justs c.state_equal.new.justs (side.Name c.args.left) (side.Name c.args.right) (c.in_ok-first.first ∷ c.in_ok-second.second ∷ []) c.state_equal.result c.state_equal.ensures.added
     c.state_equal.ensures.err)

@@ -6,7 +6,7 @@ use Rattle.ae_store.proofs.EnterLaws.{front_same, front_then}
 use Rattle.ae_strips.proofs.FieldTerms.{length_is}
 use Rattle.ae_value_table.specs.Table.{Contents, number_at, leaf_at}
 use Rattle.ae_take_in.specs.Inner.Taking.{AreTakenTo}
-use Rattle.ae_take_in.proofs.Takings.{none_taken, more_taken, held_taken}
+use Rattle.ae_take_in.proofs.Takings.{none_taken, more_taken, held_taken, free_all}
 use Rattle.ae_take_in.proofs.Passing.{wide_passed}
 use Rattle.ae_take_in.proofs.taking.take_all.Goals as goal
 
@@ -90,6 +90,7 @@ returns-in_err-take_next-clause-wide c =
       leaf = leaf_at c.loop-name.values;
       first = i.taken.first;
       kept = i.taken.kept;
+      free = free_all s.signature s.nodes c.len-end.ensures.store at inside c.args.justs.now c.loop-name.justs c.args.values.now c.loop-name.values c.args.values.now.taken i.taken;
       wide = h;
     }) c.in_err-take_next.ensures.wide
 

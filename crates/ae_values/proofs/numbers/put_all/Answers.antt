@@ -5,6 +5,7 @@ use Rattle.ae_num.specs.declared.forms.Lin.{Lin}
 use Rattle.ae_linear.specs.Rows.{row_at, IsFree, ArePut, FitsAt}
 use Rattle.ae_values.proofs.AfterPut.{all_restatable, all_say, says, is_put, said_after, sources_after}
 use Rattle.ae_values.proofs.Puttable.{free, absent, stated}
+use Rattle.ae_values.proofs.Entries.{rows_keep, justs_keep, keeps_then}
 use Rattle.ae_values.proofs.numbers.put_all.Goals as goal
 
 pub put_row-requires-clause-value : goal.put_row-requires-clause-value
@@ -75,3 +76,24 @@ returns-in_err-restate_all-clause-lasts c = λ shared then h. c.restate_all.ensu
 
 pub returns-clause-lasts : goal.returns-clause-lasts
 returns-clause-lasts c = λ shared then h. c.restate_all.ensures.lasts shared then (c.put_just.ensures.lasts shared then (c.put_row.ensures.lasts shared then h))
+
+pub returns-in_err-put_row-clause-others : goal.returns-in_err-put_row-clause-others
+returns-in_err-put_row-clause-others c = rows_keep c.args.values.now c.put_row.new.self c.put_row.ensures.others
+
+pub returns-in_err-put_just-clause-others : goal.returns-in_err-put_just-clause-others
+returns-in_err-put_just-clause-others c =
+    keeps_then c.args.values.now c.put_row.new.self c.put_just.new.self (rows_keep c.args.values.now c.put_row.new.self c.put_row.ensures.others) (justs_keep c.put_row.new.self c.put_just.new.self c.put_just.ensures.others)
+
+pub returns-in_err-restate_all-clause-others : goal.returns-in_err-restate_all-clause-others
+returns-in_err-restate_all-clause-others c =
+    let v = c.args.values.now in
+    let r = c.put_row.new.self in
+    let j = c.put_just.new.self in
+    keeps_then v j c.restate_all.new.values (keeps_then v r j (rows_keep v r c.put_row.ensures.others) (justs_keep r j c.put_just.ensures.others)) (justs_keep j c.restate_all.new.values c.restate_all.ensures.others)
+
+pub returns-clause-others : goal.returns-clause-others
+returns-clause-others c =
+    let v = c.args.values.now in
+    let r = c.put_row.new.self in
+    let j = c.put_just.new.self in
+    keeps_then v j c.restate_all.new.values (keeps_then v r j (rows_keep v r c.put_row.ensures.others) (justs_keep r j c.put_just.ensures.others)) (justs_keep j c.restate_all.new.values c.restate_all.ensures.others)

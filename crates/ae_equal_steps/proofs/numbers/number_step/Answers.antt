@@ -6,7 +6,7 @@ use Rattle.ae_store.proofs.PartLaws.{in_none}
 use Rattle.ae_state_steps.specs.ValueSteps.{name_side, value_side}
 use Rattle.ae_value_fitting.specs.Sources.{by_number}
 use Rattle.ae_equal_steps.proofs.Adding.{own_number, stated_added, rests_on, front_added, row_stated, says_rests}
-use Rattle.ae_equal_steps.proofs.numbers.stating.Goals as goal
+use Rattle.ae_equal_steps.proofs.numbers.number_step.Goals as goal
 
 pub state_own-requires-clause-own : goal.state_own-requires-clause-own
 state_own-requires-clause-own c = own_number c.args.values.now c.args.name c.args.number.now c.requires.number (sym c.in-None.ensures.row)

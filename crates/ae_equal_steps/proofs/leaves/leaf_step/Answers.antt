@@ -7,7 +7,7 @@ use Rattle.ae_just.specs.declared.steps.Side.TheVariants as side
 use Rattle.ae_state_steps.specs.ValueSteps.{StatesEqual}
 use Rattle.ae_value_fitting.specs.Sources.{by_leaf}
 use Rattle.ae_equal_steps.proofs.Adding.{leaf_there, leaf_stated, equal_added, rests_on, front_added, says_rests}
-use Rattle.ae_equal_steps.proofs.leaves.leading.Goals as goal
+use Rattle.ae_equal_steps.proofs.leaves.leaf_step.Goals as goal
 
 pub returns-then-leaf-name-clause-states : goal.returns-then-leaf-name-clause-states
 returns-then-leaf-name-clause-states c =
