@@ -2,6 +2,8 @@
 #![tactic(auto)]
 
 mod dropping;
+mod found;
 pub mod laws;
 
 pub use dropping::{collapse, release};
+pub use found::Found;

@@ -1,0 +1,4 @@
+pub mod EqualTo
+pub mod Taken
+pub mod MoreSteps
+pub mod LineNames

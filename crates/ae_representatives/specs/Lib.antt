@@ -1,0 +1,2 @@
+-- Names with their representatives, and steps that equate the two (Equal).
+pub mod Equal
