@@ -1,0 +1,4 @@
+mod TakenIn
+mod Stepping
+mod Learning
+mod Taking

@@ -1,0 +1,5 @@
+mod Operations
+pub mod OpaqueNames
+mod Negations
+mod LineNumbers
+mod Licences

@@ -1,0 +1,5 @@
+mod Names
+mod Grounded
+mod Lefts
+mod OtherRights
+mod Changed

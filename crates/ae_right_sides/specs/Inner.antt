@@ -1,0 +1,2 @@
+-- Rules with other right sides.
+pub mod OtherRights
