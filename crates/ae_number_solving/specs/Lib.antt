@@ -1,0 +1,2 @@
+-- Inner is what the functions inside promise one another.
+pub mod Inner

@@ -1,0 +1,4 @@
+mod RecordParts
+mod PlainLeaves
+mod Joining
+mod TakenUp
