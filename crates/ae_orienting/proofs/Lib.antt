@@ -1,0 +1,7 @@
+mod NameSteps
+mod Frames
+mod Forgetting
+mod Reduced
+mod Entering
+mod Apart
+mod Taking

@@ -1,0 +1,2 @@
+-- What the oldest equation that waits is reduced to.
+pub mod Reduced

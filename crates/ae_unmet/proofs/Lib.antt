@@ -1,0 +1,12 @@
+pub mod TakenNames
+pub mod Growth
+pub mod OneValue
+pub mod SaidPlaces
+pub mod FoundUnmet
+pub mod SortedTerms
+pub mod AtomArguments
+pub mod AssumedSteps
+pub mod OwnConflicts
+pub mod Fractions
+pub mod NamedLiterals
+pub mod TakingUp
