@@ -1,0 +1,15 @@
+mod OwnDescents
+mod AllJoined
+mod Composed
+mod OverlapNames
+mod FirstPlaces
+mod JoinedSorts
+mod JoinedNames
+mod ArgumentSteps
+mod Coupled
+mod Grounds
+mod Pushed
+mod CoupledLeads
+mod Taking
+mod Going
+mod InOrder

@@ -1,0 +1,24 @@
+use Rattle.ae_sweeps.proofs.Bridges.{from_none}
+use Rattle.ae_turns.proofs.Steps.{staying_leads}
+use Rattle.ae_gaps.proofs.gaps.take_up_gap.Goals as goal
+
+pub returns-in_err-opening-clause-leads : goal.returns-in_err-opening-clause-leads
+returns-in_err-opening-clause-leads c = staying_leads c.args.store.now c.args.held.now c.args.journal.now (c.requires.taken).fits
+
+pub returns-in_default-clause-leads : goal.returns-in_default-clause-leads
+returns-in_default-clause-leads c = staying_leads c.args.store.now c.args.held.now c.args.journal.now (c.requires.taken).fits
+
+pub returns-in_default-clause-swept : goal.returns-in_default-clause-swept
+returns-in_default-clause-swept c = λ e. from_none c.in_ok-opening.field-0 c.in_default.not-Some c.in_ok-opening.ensures.swept
+
+pub take_up_opening-requires-clause-open : goal.take_up_opening-requires-clause-open
+take_up_opening-requires-clause-open c = rw c.in-Some.is at c.in_ok-opening.ensures.open
+
+pub returns-clause-stays : goal.returns-clause-stays
+returns-clause-stays c = λ e. absurd (c.take_up_opening.ensures.never e)
+
+pub returns-clause-lines : goal.returns-clause-lines
+returns-clause-lines c = λ e. absurd (c.take_up_opening.ensures.never e)
+
+pub returns-clause-swept : goal.returns-clause-swept
+returns-clause-swept c = λ e. absurd (c.take_up_opening.ensures.never e)
