@@ -1,0 +1,6 @@
+//! The rewriting state: completion modulo linear arithmetic and records, as a theory.
+#![tactic(auto)]
+
+mod state;
+
+pub use state::State;

@@ -1,0 +1,5 @@
+mod Sequels
+mod OtherRules
+mod Completion
+mod Keeping
+mod Constants

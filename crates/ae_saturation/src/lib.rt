@@ -1,0 +1,8 @@
+//! Saturation of what is held: names are taken in, and turn after turn something is taken up, until nothing is left to do.
+#![tactic(auto)]
+
+mod saturating;
+mod turning;
+mod upkeep;
+
+pub use saturating::saturate;
