@@ -1,0 +1,5 @@
+mod FollowingBy
+mod PlainSides
+mod StatedNumbers
+mod Consequences
+mod SameValues

@@ -1,0 +1,2 @@
+-- Exact says which names are the same.
+pub mod Exact
