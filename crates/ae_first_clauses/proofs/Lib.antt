@@ -1,0 +1,5 @@
+pub mod Concluding
+pub mod Unmarked
+pub mod Begun
+pub mod States
+pub mod Subformulas

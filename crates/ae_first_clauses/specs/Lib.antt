@@ -1,0 +1,3 @@
+-- What a search for a goal begins with.
+pub mod First
+pub mod Inner

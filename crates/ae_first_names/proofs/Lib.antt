@@ -1,0 +1,4 @@
+pub mod Lists
+pub mod Stripped
+pub mod Reaching
+pub mod FirstNames

@@ -1,0 +1,2 @@
+-- What the names of a search are.
+pub mod Reached

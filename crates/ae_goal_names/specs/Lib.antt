@@ -1,0 +1,2 @@
+-- Names for the terms that a search begins with.
+pub mod Named

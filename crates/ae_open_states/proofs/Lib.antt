@@ -1,0 +1,4 @@
+pub mod Trails
+pub mod Formulas
+pub mod Constants
+pub mod Saturated

@@ -1,0 +1,4 @@
+-- What a search shows that has nothing left to do. Read in this order: what it begins with and what holds at its end (Finished); the state that it shows
+-- (Shown).
+pub mod Finished
+pub mod Shown

@@ -1,0 +1,2 @@
+-- Which goals are answered so far.
+pub mod Reach

@@ -1,0 +1,4 @@
+pub mod ReachedSorts
+pub mod ReachedTerms
+pub mod ReachedFormulas
+pub mod ReachedGoals

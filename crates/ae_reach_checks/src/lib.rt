@@ -1,0 +1,9 @@
+//! Whether a goal is in the reach.
+#![tactic(auto)]
+
+mod formulas;
+mod goals;
+mod sorts;
+mod terms;
+
+pub use goals::is_in_reach;

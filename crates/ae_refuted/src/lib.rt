@@ -1,0 +1,6 @@
+//! The proof that a refuted search ends with.
+#![tactic(auto)]
+
+mod refuting;
+
+pub use refuting::refutation;

@@ -1,0 +1,2 @@
+-- What a search starts with.
+pub mod Started

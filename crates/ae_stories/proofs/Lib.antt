@@ -1,0 +1,4 @@
+pub mod Plain
+pub mod Instances
+pub mod Legal
+pub mod Names

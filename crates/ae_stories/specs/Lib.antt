@@ -1,0 +1,2 @@
+-- The story of a search that was stopped.
+pub mod Told
