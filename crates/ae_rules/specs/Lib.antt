@@ -1,7 +1,7 @@
 -- The calculus. To be read in this order: linear forms of terms; the fourteen derived lines of a block, and what follows from hypotheses;
 -- clauses, the sixteen rows of connectives, and unit propagation; the clauses that put sorts and terms; the six endings, the nine lines of a
 -- proof, and a derivation. Then, for the laws: values of terms and truth of formulas, combinations of equations. Matches of triggers stand
--- by themselves.
+-- by themselves, as do terms built of given ones (Built).
 pub mod Linear
 pub mod Lines
 pub mod Clauses
@@ -11,3 +11,4 @@ pub mod Derivations
 pub mod Valuations
 pub mod Combinations
 pub mod Matches
+pub mod Built

@@ -1,11 +1,12 @@
 -- The lines of a way.
 use Rattle.std.proofs.Common.{◌≡◌, ℕ, ◌+◌, ◌-◌, Bool, true, false, cond, List, [], ◌∷◌, ◌++◌, length, map, slice_get, Some, Result, Ok, Err, OnOk, ◌∙◌, ap, subst, sym, refl, arith, length-append}
 use Rattle.std.specs.Prelude.{slice_index_or}
-use Rattle.std.specs.List.{Contains}
+use Rattle.std.specs.List.{AllByRecursion, Contains}
 use Rattle.std.proofs.lemmas.Bool.{and_from}
 use Rattle.std.proofs.lemmas.Option.{same_Some}
 use Rattle.std.proofs.lemmas.Result.{on_ok_weaker}
 use Rattle.std.proofs.lemmas.List.{length-map}
+use Rattle.ae_base.proofs.AllOf.{all_push}
 use Rattle.ae_base.proofs.ListFacts.{get_append, get_map, get_read, get_seam}
 use Rattle.ae_core.specs.Sorts.{sort_of, formula_ok}
 use Rattle.ae_core.specs.declared.terms.Sort.{Sort}
@@ -18,6 +19,8 @@ use Rattle.ae_core.specs.declared.formulas.Lit.{Lit}
 use Rattle.ae_core.specs.declared.problems.Signature.{Signature}
 use Rattle.ae_core.specs.declared.proofs.EqLine.{EqLine}
 use Rattle.ae_core.specs.declared.proofs.EqLine.TheVariants.{EqHyp, EqRefl, EqSym, EqTrans}
+use Rattle.ae_journal.proofs.Splits.{contains_at}
+use Rattle.ae_rules.specs.Built.{IsBuiltEquation, of_name}
 use Rattle.ae_rules.specs.Lines.{AllAllowed, Allowed, Given, Stated, equal, fact_ok, states}
 use Rattle.ae_core.specs.declared.proofs.Ending.TheVariants.{Neq}
 use Rattle.ae_rules.specs.Derivations.{IsContradictory, clause_ok}
@@ -34,7 +37,23 @@ use Rattle.ae_theory.specs.declared.chains.Hop.{Hop}
 use Rattle.ae_theory.proofs.Following.{sorted_pair}
 use Rattle.ae_theory.proofs.Conflicts.{equation_sorted}
 
-module _ (sig : Signature) (hyps : List Lit) where
+module _ (sig : Signature) (ts : List Term) where
+  hyp_built : (s t : Term) (i : ℕ) → Contains ts s → Contains ts t → IsBuiltEquation sig ts (EqHyp s t i)
+  hyp_built s t i a b = record { equation = refl; left = of_name s a; right = of_name t b; factors = tt }
+
+  sym_built : (s t : Term) (i : ℕ) → Contains ts s → Contains ts t → IsBuiltEquation sig ts (EqSym s t i)
+  sym_built s t i a b = record { equation = refl; left = of_name s a; right = of_name t b; factors = tt }
+
+  trans_built : (s t : Term) (i k : ℕ) → Contains ts s → Contains ts t → IsBuiltEquation sig ts (EqTrans s t i k)
+  trans_built s t i k a b = record { equation = refl; left = of_name s a; right = of_name t b; factors = tt }
+
+  refl_built : (s : Term) → Contains ts s → IsBuiltEquation sig ts (EqRefl s s)
+  refl_built s a = record { equation = refl; left = of_name s a; right = of_name s a; factors = tt }
+
+  built_push : (ls : List EqLine) (l : EqLine) → AllByRecursion (IsBuiltEquation sig ts) ls → IsBuiltEquation sig ts l → AllByRecursion (IsBuiltEquation sig ts) (ls ++ l ∷ [])
+  built_push ls l a b = all_push (IsBuiltEquation sig ts) ls l a b
+
+module _ (sig : Signature) (ts : List Term) (hyps : List Lit) where
   abbrev AllOk : List EqLine → Type 0
   AllOk ls = AllAllowed sig (fact_ok sig) hyps [] ls
 
@@ -44,13 +63,13 @@ module _ (sig : Signature) (hyps : List Lit) where
   last_at : (ls : List EqLine) (l : EqLine) → Stated (ls ++ l ∷ []) (length (ls ++ l ∷ []) - 1) (states l)
   last_at ls l = subst (λ k. Stated (ls ++ l ∷ []) k (states l)) (omega (arith, length-append ls (l ∷ []))) (stated_last ls l)
 
-  pub shows_start : (s : Term) (sort : Sort) → sort_of sig s ≡ Some sort → Shows sig hyps (EqRefl s s ∷ []) s s
-  shows_start s sort p = record { all = ((sorted_pair sig s s sort p p, refl), tt); some = omega arith; last = refl }
+  pub shows_start : (s : Term) (sort : Sort) → sort_of sig s ≡ Some sort → Contains ts s → Shows sig ts hyps (EqRefl s s ∷ []) s s
+  shows_start s sort p at = record { all = ((sorted_pair sig s s sort p p, refl), tt); some = omega arith; last = refl; built = (refl_built sig ts s at, tt) }
 
   -- one equation more, straight on or turned
   pub shows_on : (ls : List EqLine) (start s t : Term) (sort : Sort) (i : ℕ) → Given hyps i true (Eq s t) → sort_of sig start ≡ Some sort → sort_of sig s ≡ Some sort → sort_of sig t ≡ Some sort
-      → Shows sig hyps ls start s → Shows sig hyps ((ls ++ EqHyp s t i ∷ []) ++ EqTrans start t (length ls - 1) (length ls) ∷ []) start t
-  shows_on ls start s t sort i g a b c h =
+      → Contains ts start → Contains ts s → Contains ts t → Shows sig ts hyps ls start s → Shows sig ts hyps ((ls ++ EqHyp s t i ∷ []) ++ EqTrans start t (length ls - 1) (length ls) ∷ []) start t
+  shows_on ls start s t sort i g a b c x y z h =
       let one = ls ++ EqHyp s t i ∷ [] in
       let l : EqLine = EqTrans start t (length ls - 1) (length ls) in
       let first : Stated one (length ls - 1) (equal start s) = stated_before ls (EqHyp s t i ∷ []) (length ls - 1) (equal start s) h.last in
@@ -59,11 +78,12 @@ module _ (sig : Signature) (hyps : List Lit) where
         all = ok_push one l (ok_push ls (EqHyp s t i) h.all (sorted_pair sig s t sort b c) g) (sorted_pair sig start t sort a c) (s, first, next);
         some = omega (arith, length-append one (l ∷ []));
         last = last_at one l;
+        built = built_push sig ts one l (built_push sig ts ls (EqHyp s t i) h.built (hyp_built sig ts s t i y z)) (trans_built sig ts start t (length ls - 1) (length ls) x z);
       }
 
   pub shows_turned : (ls : List EqLine) (start s t : Term) (sort : Sort) (i : ℕ) → Given hyps i true (Eq s t) → sort_of sig start ≡ Some sort → sort_of sig s ≡ Some sort → sort_of sig t ≡ Some sort
-      → Shows sig hyps ls start t → Shows sig hyps (((ls ++ EqHyp s t i ∷ []) ++ EqSym t s (length ls) ∷ []) ++ EqTrans start s (length ls - 1) (length ls + 1) ∷ []) start s
-  shows_turned ls start s t sort i g a b c h =
+      → Contains ts start → Contains ts s → Contains ts t → Shows sig ts hyps ls start t → Shows sig ts hyps (((ls ++ EqHyp s t i ∷ []) ++ EqSym t s (length ls) ∷ []) ++ EqTrans start s (length ls - 1) (length ls + 1) ∷ []) start s
+  shows_turned ls start s t sort i g a b c x y z h =
       let one = ls ++ EqHyp s t i ∷ [] in
       let two = one ++ EqSym t s (length ls) ∷ [] in
       let l : EqLine = EqTrans start s (length ls - 1) (length ls + 1) in
@@ -75,6 +95,9 @@ module _ (sig : Signature) (hyps : List Lit) where
         all = ok_push two l (ok_push one (EqSym t s (length ls)) (ok_push ls (EqHyp s t i) h.all (sorted_pair sig s t sort b c) g) (sorted_pair sig t s sort c b) hyp) (sorted_pair sig start s sort a b) (t, first, next);
         some = omega (arith, length-append two (l ∷ []));
         last = last_at two l;
+        built =
+            built_push sig ts two l (built_push sig ts one (EqSym t s (length ls)) (built_push sig ts ls (EqHyp s t i) h.built (hyp_built sig ts s t i y z)) (sym_built sig ts t s (length ls) z y))
+            (trans_built sig ts start s (length ls - 1) (length ls + 1) x y);
       }
 
 -- the sides of an equation
@@ -112,20 +135,20 @@ on_turned r old mid mid2 new a a1 a2 a3 b b1 b2 s s1 hyp n k m m2 en ek ea ea2 e
 pub pushes_on : {A E : Type 0} (r : Result A E) (lit : Lit) (a b : Term) (hyp : ℕ) (start : Term) (old new : List EqLine) → lit.formula ≡ Eq a b
     → OnOk r (new ≡ (old ++ EqHyp a b hyp ∷ []) ++ EqTrans start b (length old - 1) (length old) ∷ []) → OnOk r (Pushes lit false hyp start old new)
 pushes_on (Err e) lit a b hyp start old new f ok = tt
-pushes_on (Ok x) lit a b hyp start old new f ok = λ sig hyps sort s t is given c d e h.
+pushes_on (Ok u) lit a b hyp start old new f ok = λ sig ts hyps sort s t is given c d e x y z h.
     let same : Eq a b ≡ Eq s t = sym f ∙ ap (λ (w : Lit). w.formula) is in
-    subst (λ (w : List EqLine). Shows sig hyps w start t) (sym (ok ∙ (λ i. (old ++ EqHyp (same_left a b s t same i) (same_right a b s t same i) hyp ∷ []) ++ EqTrans start (same_right a b s t same i) (length old - 1) (length old) ∷ [])))
-    (shows_on sig hyps old start s t sort hyp given c d e h)
+    subst (λ (w : List EqLine). Shows sig ts hyps w start t) (sym (ok ∙ (λ i. (old ++ EqHyp (same_left a b s t same i) (same_right a b s t same i) hyp ∷ []) ++ EqTrans start (same_right a b s t same i) (length old - 1) (length old) ∷ [])))
+    (shows_on sig ts hyps old start s t sort hyp given c d e x y z h)
 
 pub pushes_turned : {A E : Type 0} (r : Result A E) (lit : Lit) (a b : Term) (hyp : ℕ) (start : Term) (old new : List EqLine) → lit.formula ≡ Eq a b
     → OnOk r (new ≡ ((old ++ EqHyp a b hyp ∷ []) ++ EqSym b a (length old) ∷ []) ++ EqTrans start a (length old - 1) (length old + 1) ∷ []) → OnOk r (Pushes lit true hyp start old new)
 pushes_turned (Err e) lit a b hyp start old new f ok = tt
-pushes_turned (Ok x) lit a b hyp start old new f ok = λ sig hyps sort s t is given c d e h.
+pushes_turned (Ok u) lit a b hyp start old new f ok = λ sig ts hyps sort s t is given c d e x y z h.
     let same : Eq a b ≡ Eq s t = sym f ∙ ap (λ (w : Lit). w.formula) is in
     let l = same_left a b s t same in
     let r = same_right a b s t same in
-    subst (λ (w : List EqLine). Shows sig hyps w start s) (sym (ok ∙ (λ i. ((old ++ EqHyp (l i) (r i) hyp ∷ []) ++ EqSym (r i) (l i) (length old) ∷ []) ++ EqTrans start (l i) (length old - 1) (length old + 1) ∷ [])))
-    (shows_turned sig hyps old start s t sort hyp given c d e h)
+    subst (λ (w : List EqLine). Shows sig ts hyps w start s) (sym (ok ∙ (λ i. ((old ++ EqHyp (l i) (r i) hyp ∷ []) ++ EqSym (r i) (l i) (length old) ∷ []) ++ EqTrans start (l i) (length old - 1) (length old + 1) ∷ [])))
+    (shows_turned sig ts hyps old start s t sort hyp given c d e x y z h)
 
 -- ---- on the way: the lines equate the start with the term of a name, from which the rest leads to n
 pub record IsAfoot (s : Stored) (nodes xs : List Node) (hyps : List Lit) (lines : List EqLine) (start : Term) (sort : Sort) (n : ℕ) (rest : List Hop) : Type 0 where
@@ -133,7 +156,7 @@ pub record IsAfoot (s : Stored) (nodes xs : List Node) (hyps : List Lit) (lines 
   pub end : Term
   pub there : slice_get (terms_in s) at ≡ Some end
   pub sorted : sort_of s.signature end ≡ Some sort
-  pub shows : Shows s.signature hyps lines start end
+  pub shows : Shows s.signature (terms_in s) hyps lines start end
   pub left : IsPath nodes xs at n rest
 
 abbrev pub Walks : Stored → List Node → List Hop → List Lit → ℕ → Term → List EqLine → List Hop → Type 0
@@ -142,7 +165,7 @@ Walks s nodes hops hyps from start lines rest =
 
 pub walk_start : (s : Stored) (nodes : List Node) (hops : List Hop) (hyps : List Lit) (from : ℕ) (start : Term) → slice_get (terms_in s) from ≡ Some start → Walks s nodes hops hyps from start (EqRefl start start ∷ []) hops
 walk_start s nodes hops hyps from start e xs n sort path given sorted =
-    record { at = from; end = start; there = e; sorted = sorted; shows = shows_start s.signature hyps start sort sorted; left = path }
+    record { at = from; end = start; there = e; sorted = sorted; shows = shows_start s.signature (terms_in s) hyps start sort sorted (contains_at (terms_in s) from start e); left = path }
 
 module _ (s : Stored) (x : Lit) (l r : ℕ) (e : IsEquation s true x l r) where
   near_at : (b : Bool) → slice_get (terms_in s) (cond b r l) ≡ Some (cond b e.right e.left)
@@ -161,9 +184,9 @@ module _ (s : Stored) (x : Lit) (l r : ℕ) (e : IsEquation s true x l r) where
   near_sorted true = e.right_sorted
   near_sorted false = e.left_sorted
 
-pub walk_step : (s : Stored) (nodes : List Node) (hops : List Hop) (hyps : List Lit) (from i : ℕ) (start : Term) (old new : List EqLine) (h : Hop) (rest : List Hop) → AllFit s nodes → slice_get hops i ≡ Some h
+pub walk_step : (s : Stored) (nodes : List Node) (hops : List Hop) (hyps : List Lit) (from i : ℕ) (start : Term) (old new : List EqLine) (h : Hop) (rest : List Hop) → AllFit s nodes → slice_get (terms_in s) from ≡ Some start → slice_get hops i ≡ Some h
     → Pushes (lit_of nodes h) h.turned i start old new → Walks s nodes hops hyps from start old (h ∷ rest) → Walks s nodes hops hyps from start new rest
-walk_step s nodes hops hyps from i start old new h rest fit at push w xs n sort path given sorted =
+walk_step s nodes hops hyps from i start old new h rest fit here at push w xs n sort path given sorted =
     let a = w xs n sort path given sorted in
     let hop = (a.left).1 in
     let lit : lit_of nodes h ≡ hop.node.lit = ap (λ (w : Node). w.lit) (get_read nodes h.node hop.node no_node hop.at).0 in
@@ -178,18 +201,20 @@ walk_step s nodes hops hyps from i start old new h rest fit at push w xs n sort 
       end = cond h.turned e.left e.right;
       there = ap (slice_get (terms_in s)) hop.end ∙ far_at s hop.node.lit hop.left hop.right e h.turned;
       sorted = far;
-      shows = push s.signature hyps sort e.left e.right (lit ∙ e.is) (given i h at ∙ ap Some (lit ∙ e.is)) sorted (e.left_sorted ∙ ap Some same) (e.right_sorted ∙ ap Some same) (subst (Shows s.signature hyps old start) met a.shows);
+      shows =
+          push s.signature (terms_in s) hyps sort e.left e.right (lit ∙ e.is) (given i h at ∙ ap Some (lit ∙ e.is)) sorted (e.left_sorted ∙ ap Some same) (e.right_sorted ∙ ap Some same)
+          (contains_at (terms_in s) from start here) (contains_at (terms_in s) hop.left e.left e.left_at) (contains_at (terms_in s) hop.right e.right e.right_at) (subst (Shows s.signature (terms_in s) hyps old start) met a.shows);
       left = (a.left).2;
     }
 
 pub walk_end : (s : Stored) (nodes : List Node) (hops : List Hop) (hyps : List Lit) (from : ℕ) (start : Term) (lines : List EqLine) → slice_get (terms_in s) from ≡ Some start → Walks s nodes hops hyps from start lines []
     → (xs : List Node) (n : ℕ) (sort : Sort) (a b : Term) → IsPath nodes xs from n hops → AreHypotheses nodes hops hyps → slice_get (terms_in s) from ≡ Some a → sort_of s.signature a ≡ Some sort → slice_get (terms_in s) n ≡ Some b
-    → Shows s.signature hyps lines a b
+    → Shows s.signature (terms_in s) hyps lines a b
 walk_end s nodes hops hyps from start lines at w xs n sort a b path given p sorted q =
     let same : start ≡ a = same_Some _ _ (sym at ∙ p) in
     let f = w xs n sort path given (ap (sort_of s.signature) same ∙ sorted) in
     let end : f.end ≡ b = same_Some _ _ (sym f.there ∙ (ap (slice_get (terms_in s)) f.left ∙ q)) in
-    subst (λ (w : Term). Shows s.signature hyps lines w b) same (subst (Shows s.signature hyps lines start) end f.shows)
+    subst (λ (w : Term). Shows s.signature (terms_in s) hyps lines w b) same (subst (Shows s.signature (terms_in s) hyps lines start) end f.shows)
 
 -- ---- the block
 pub hypotheses_are : (nodes : List Node) (hops : List Hop) (l : Lit) → AreHypotheses nodes hops (map (lit_of nodes) hops ++ l ∷ [])
@@ -211,12 +236,13 @@ block_sorted s nodes xs m n (h ∷ hops) l fit p o =
 pub block_shows : (s : Stored) (nodes xs : List Node) (m n number : ℕ) (hops : List Hop) (x : Node) (lines : List EqLine) → AllFit s nodes → slice_get nodes number ≡ Some x → Contains xs x → x.edge ≡ Apart m n → IsPath nodes xs m n hops
     → ((sort : Sort) (a b : Term) → AreHypotheses nodes hops (map (lit_of nodes) hops ++ lit_of nodes (record { node = number; turned = false }) ∷ []) → slice_get (terms_in s) m ≡ Some a → sort_of s.signature a ≡ Some sort
     → slice_get (terms_in s) n ≡ Some b
-    → Shows s.signature (map (lit_of nodes) hops ++ lit_of nodes (record { node = number; turned = false }) ∷ []) lines a b)
+    → Shows s.signature (terms_in s) (map (lit_of nodes) hops ++ lit_of nodes (record { node = number; turned = false }) ∷ []) lines a b)
     → IsContradictory s.signature (record {
       deriv = record { hyps = map (lit_of nodes) hops ++ lit_of nodes (record { node = number; turned = false }) ∷ []; lines = lines };
       ending = Neq (length lines - 1) (length hops);
     }) × (clause_ok s.signature (map (lit_of nodes) hops ++ lit_of nodes (record { node = number; turned = false }) ∷ []) ≡ true)
     × IsBlockOf (map tagged xs) (map (lit_of nodes) hops ++ lit_of nodes (record { node = number; turned = false }) ∷ []) (map (tag_of nodes) hops ++ tag_of nodes (record { node = number; turned = false }) ∷ [])
+    × AllByRecursion (IsBuiltEquation s.signature (terms_in s)) lines
 block_shows s nodes xs m n number hops x lines fit at stands edge path shows =
     let e : IsEquation s false x.lit m n = subst (IsEdgeOf s x.lit) edge (fit number x at) in
     let read : slice_index_or nodes number no_node ≡ x = (get_read nodes number x no_node at).0 in
@@ -228,4 +254,5 @@ block_shows s nodes xs m n number hops x lines fit at stands edge path shows =
       block_sorted s nodes xs m n hops own fit path (ap (λ (w : Lit). formula_ok s.signature w.formula) last ∙ equation_sorted s false x.lit m n e),
       subst (λ (w : Lit). IsBlockOf (map tagged xs) (map (lit_of nodes) hops ++ w ∷ []) (map (tag_of nodes) hops ++ tag_of nodes (record { node = number; turned = false }) ∷ [])) (sym last)
           (subst (λ w. IsBlockOf (map tagged xs) (map (lit_of nodes) hops ++ x.lit ∷ []) (map (tag_of nodes) hops ++ w ∷ [])) (sym tag) (block_tags nodes xs m n hops x path stands)),
+      sh.built,
     )

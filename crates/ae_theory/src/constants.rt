@@ -115,6 +115,9 @@ impl Theory for Constants {
 
     ghost in_step = { λ o js. Unit {0} };
 
+    // It notes nothing.
+    ghost may_note = { λ o s n. Unit {0} };
+
     fn assume(
         &mut self,
         alloc: Global,

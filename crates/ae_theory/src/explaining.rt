@@ -2,6 +2,7 @@
 ghost use Rattle.std.specs.Prelude.{◌≡◌, ◌<◌, ◌≤◌, ◌+◌, ◌-◌, ◌++◌, ◌∷◌, [], ℕ, List, true, false, cond, length, map, slice_get, Some, IfOk, OnOk};
 ghost use Rattle.std.specs.List.{AllByRecursion, Contains};
 ghost use Rattle.ae_theory.specs.declared.nodes.Edge.TheVariants.{Apart};
+ghost use Rattle.ae_rules.specs.Built.{IsBuiltEquation};
 ghost use Rattle.ae_rules.specs.Derivations.{IsContradictory, clause_ok};
 ghost use Rattle.ae_theory.specs.Paths.{list_at};
 ghost use Rattle.ae_theory.specs.Names.{terms_in};
@@ -229,7 +230,7 @@ fn lines_of(
     ensures some { IfOk result (λ ls. 0 < length ls) }
     ensures shows { IfOk result (λ ls. (xs : List Node) (n : ℕ) (sort : Sort) (s t : Term) → IsPath nodes.now xs from n hops.now → AreHypotheses nodes.now hops.now hyps.now →
         slice_get (terms_in store.now) from ≡ Some s → sort_of store.now.signature s ≡ Some sort → slice_get (terms_in store.now) n ≡ Some t →
-        Shows store.now.signature hyps.now ls s t) }
+        Shows store.now.signature (terms_in store.now) hyps.now ls s t) }
 {
     let start = store.term(from)?;
     let mut lines = first_line(alloc, &start)?;
@@ -266,7 +267,8 @@ fn block_of(
     requires from { from < length store.now.nodes }
     requires within { AllByRecursion (λ h. h.node < length nodes.now) hops.now }
     ensures { IfOk result (λ e. (xs : List Node) (x : Node) (n : ℕ) → slice_get nodes.now number ≡ Some x → Contains xs x → x.edge ≡ Apart from n → IsPath nodes.now xs from n hops.now →
-        IsContradictory store.now.signature e.block × (clause_ok store.now.signature e.block.deriv.hyps ≡ true) × IsBlockOf (map tagged xs) e.block.deriv.hyps e.tags) }
+        IsContradictory store.now.signature e.block × (clause_ok store.now.signature e.block.deriv.hyps ≡ true) × IsBlockOf (map tagged xs) e.block.deriv.hyps e.tags
+        × AllByRecursion (IsBuiltEquation store.now.signature (terms_in store.now)) e.block.deriv.lines) }
 {
     let hyps = all_hypotheses(alloc, nodes, hops, number)?;
     let tags = all_tags(alloc, nodes, hops, number)?;
@@ -299,6 +301,7 @@ pub fn explained(
     ensures contradictory { IfOk result (λ e. IsContradictory store.now.signature e.block) }
     ensures sorted { IfOk result (λ e. clause_ok store.now.signature e.block.deriv.hyps ≡ true) }
     ensures tags { IfOk result (λ e. IsBlockOf (map tagged (list_at nodes.now last)) e.block.deriv.hyps e.tags) }
+    ensures built { IfOk result (λ e. AllByRecursion (IsBuiltEquation store.now.signature (terms_in store.now)) e.block.deriv.lines) }
 {
     let (left, right) = ends(nodes[number].edge);
     let mut hops = List::new(alloc);

@@ -1,6 +1,6 @@
 //! The traits.
 ghost use Rattle.std.specs.Prelude.{◌≡◌, ◌↔◌, ◌≤◌, ◌<◌, ◌+◌, ◌∷◌, ◌++◌, [], ℕ, Bool, true, List, length, IsTrue, IfOk, OnOk, OnErr, Ok, Err};
-ghost use Rattle.std.specs.List.{Contains};
+ghost use Rattle.std.specs.List.{AllByRecursion, Contains};
 ghost use Rattle.ae_rules.specs.Derivations.{AreContradictory, IsContradictory, clause_ok};
 ghost use Rattle.ae_journal.specs.declared.lines.Line.{Line};
 ghost use Rattle.ae_journal.specs.Journals.{live, counted_in};
@@ -11,7 +11,8 @@ ghost use Rattle.ae_journal.specs.declared.answers.WideAt.{WideAt};
 ghost use Rattle.ae_theory.specs.declared.theory.Outcome.TheVariants.{Complete, Conflict};
 ghost use Rattle.ae_theory.specs.declared.theory.Fail.TheVariants.{Steps as OutOfSteps, Number};
 ghost use Rattle.ae_theory.specs.Tagged.{Tagged};
-ghost use Rattle.ae_theory.specs.Names.{AreNamed, Extends, HaveOneSort, IsNamedBy, IsOrdered};
+ghost use Rattle.ae_rules.specs.Built.{IsBuiltEquation};
+ghost use Rattle.ae_theory.specs.Names.{AreNamed, Extends, HaveOneSort, IsNamedBy, IsOrdered, terms_in};
 ghost use Rattle.ae_theory.specs.Noting.{HasNoted, IsBlockOf, literals, MayAll, NotesLegal, is_silent};
 
 use ae_core::formulas::Lit;
@@ -124,6 +125,9 @@ pub trait Theory: Equalities {
     /// The lines that stand in a journal are in step with the object.
     ghost in_step: { Self → List Line → Type 0 };
 
+    /// For the names of the store at most so many more lines are noted. Nothing is promised where that holds for no number.
+    ghost may_note: { Self → Stored → ℕ → Type 0 };
+
     /// Assumes a literal.
     fn assume(
         &mut self,
@@ -139,7 +143,8 @@ pub trait Theory: Equalities {
         ensures fits { Self.fits self.new store.now }
         ensures marks { (m : Self.Mark) (then : Self) → fits_mark self.old m then → fits_mark self.new m then }
         ensures conflicts { (k : ℕ) → own_conflict self.old k → own_conflict self.new k }
-        ensures step { (js : List Line) → in_step self.old js → in_step self.new js };
+        ensures step { (js : List Line) → in_step self.old js → in_step self.new js }
+        ensures budget { (n : ℕ) → may_note self.old store.now n → may_note self.new store.now n };
 
     /// Takes up what is pending until nothing is left, or the assumed literals turn out to be contradictory.
     fn saturate(
@@ -162,7 +167,13 @@ pub trait Theory: Equalities {
         ensures step { OnOk result (in_step self.new (live journal.new.lines)) }
         ensures fits { Self.fits self.new store.now }
         ensures marks { (m : Self.Mark) (then : Self) → fits_mark self.old m then → fits_mark self.new m then }
-        ensures conflicts { (k : ℕ) → own_conflict self.old k → own_conflict self.new k };
+        ensures conflicts { (k : ℕ) → own_conflict self.old k → own_conflict self.new k }
+        // It notes no more lines than it may.
+        ensures budget { (n : ℕ) → may_note self.old store.now n → counted_in journal.new.lines ≤ counted_in journal.old.lines + n }
+        // Without a refusal each line that it notes is one less of those that it may note.
+        ensures budget_left { OnOk result ((n : ℕ) → may_note self.old store.now n → (m : ℕ) × may_note self.new store.now m × (counted_in journal.new.lines + m ≤ counted_in journal.old.lines + n)) }
+        // Where it asks for one line more it has noted fewer than it may.
+        ensures budget_steps { result ≡ Err OutOfSteps → (n : ℕ) → may_note self.old store.now n → counted_in journal.new.lines < counted_in journal.old.lines + n };
 
     /// A mark of the present state. It takes no memory.
     fn mark<L: Ledger>(&self, steps: &mut Steps<L>) -> Self::Mark
@@ -191,7 +202,8 @@ pub trait Theory: Equalities {
         requires own { own_conflict self.now conflict }
         ensures contradictory { IfOk result (λ e. IsContradictory store.now.signature e.block) }
         ensures sorted { IfOk result (λ e. clause_ok store.now.signature e.block.deriv.hyps ≡ true) }
-        ensures tags { IfOk result (λ e. IsBlockOf (assumed self.now) e.block.deriv.hyps e.tags) };
+        ensures tags { IfOk result (λ e. IsBlockOf (assumed self.now) e.block.deriv.hyps e.tags) }
+        ensures built { IfOk result (λ e. AllByRecursion (IsBuiltEquation store.now.signature (terms_in store.now)) e.block.deriv.lines) };
 
     /// A line that isn't one of a theory changes nothing.
     ghost silent: { (o : Self) (js : List Line) (j : Line) → is_silent j ≡ true → in_step o js → in_step o (js ++ j ∷ []) };

@@ -1,7 +1,8 @@
 -- Paths of equations from one name to another, and the lines that they give.
 use Rattle.std.specs.Prelude.{ℕ, ◌<◌, ◌-◌, true, false, Bool, cond, List, [], ◌∷◌, ◌++◌, ◌≡◌, length, slice_get, slice_index_or, Some}
-use Rattle.std.specs.List.{Contains}
+use Rattle.std.specs.List.{AllByRecursion, Contains}
 use Rattle.ae_core.specs.Sorts.{sort_of}
+use Rattle.ae_rules.specs.Built.{IsBuiltEquation}
 use Rattle.ae_rules.specs.Lines.{AllAllowed, Given, Stated, equal, fact_ok}
 use Rattle.ae_core.specs.declared.terms.Sort.{Sort}
 use Rattle.ae_core.specs.declared.terms.Term.{Term}
@@ -35,11 +36,12 @@ pub record AddsPath (nodes xs : List Node) (m n : ℕ) (old new : List Hop) : Ty
   pub is : new ≡ old ++ more
   pub path : IsPath nodes xs m n more
 
--- allowed lines, the last of which equates s and t
-pub record Shows (sig : Signature) (hyps : List Lit) (lines : List EqLine) (s t : Term) : Type 0 where
+-- allowed lines, equations of terms that are built of the names, the last of which equates s and t
+pub record Shows (sig : Signature) (ts : List Term) (hyps : List Lit) (lines : List EqLine) (s t : Term) : Type 0 where
   pub all : AllAllowed sig (fact_ok sig) hyps [] lines
   pub some : 0 < length lines
   pub last : Stated lines (length lines - 1) (equal s t)
+  pub built : AllByRecursion (IsBuiltEquation sig ts) lines
 
 abbrev pub no_node : Node
 no_node = record { lit = record { positive = false; formula = False }; tag = 0; edge = Other; from = 0; to = 0; parent = 0 }
@@ -58,5 +60,5 @@ AreHypotheses nodes hops hyps = (i : ℕ) (h : Hop) → slice_get hops i ≡ Som
 -- what adding the lines of a hop gives
 abbrev pub Pushes : Lit → Bool → ℕ → Term → List EqLine → List EqLine → Type 0
 Pushes lit turned hyp start old new =
-    (sig : Signature) (hyps : List Lit) (sort : Sort) (s t : Term) → lit ≡ record { positive = true; formula = Eq s t } → Given hyps hyp true (Eq s t) → sort_of sig start ≡ Some sort
-    → sort_of sig s ≡ Some sort → sort_of sig t ≡ Some sort → Shows sig hyps old start (cond turned t s) → Shows sig hyps new start (cond turned s t)
+    (sig : Signature) (ts : List Term) (hyps : List Lit) (sort : Sort) (s t : Term) → lit ≡ record { positive = true; formula = Eq s t } → Given hyps hyp true (Eq s t) → sort_of sig start ≡ Some sort
+    → sort_of sig s ≡ Some sort → sort_of sig t ≡ Some sort → Contains ts start → Contains ts s → Contains ts t → Shows sig ts hyps old start (cond turned t s) → Shows sig ts hyps new start (cond turned s t)

@@ -50,3 +50,11 @@ returns-clause-tags c =
     let a = apart_from nodes c.args.last c.args.number _ c.ends-left.result.0 c.ends-left.result.1 c.requires.own c.ends-left.ensures in
     let path = adds_all nodes xs c.ends-left.result.0 c.ends-left.result.1 c.new-hops.result c.push_path.new.hops c.in_ok-push_path.ensures c.new-hops.ensures in
     IfOk-weaker c.block_of.result _ _ (λ e h. (h xs a.node c.ends-left.result.1 a.at a.stands a.edge (subst (IsPath nodes xs c.ends-left.result.0 c.ends-left.result.1) (sym c.as_slice.ensures) path)).2) c.block_of.ensures
+
+pub returns-clause-built : goal.returns-clause-built
+returns-clause-built c =
+    let nodes = c.args.nodes.now in
+    let xs = list_at nodes c.args.last in
+    let a = apart_from nodes c.args.last c.args.number _ c.ends-left.result.0 c.ends-left.result.1 c.requires.own c.ends-left.ensures in
+    let path = adds_all nodes xs c.ends-left.result.0 c.ends-left.result.1 c.new-hops.result c.push_path.new.hops c.in_ok-push_path.ensures c.new-hops.ensures in
+    IfOk-weaker c.block_of.result _ _ (λ e h. (h xs a.node c.ends-left.result.1 a.at a.stands a.edge (subst (IsPath nodes xs c.ends-left.result.0 c.ends-left.result.1) (sym c.as_slice.ensures) path)).3) c.block_of.ensures

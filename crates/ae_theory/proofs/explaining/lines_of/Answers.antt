@@ -25,7 +25,7 @@ loop-hyp-preserved c =
     let read = get_read hops i h h c.hop_at-hop.ensures in
     let rest : drop i hops ≡ h ∷ drop (i + 1) hops = drop_more hops i h read.1 ∙ ap (λ (w : Hop). w ∷ drop (i + 1) hops) read.0 in (
       c.in_ok-push_hop.ensures.some,
-      walk_step s nodes hops c.args.hyps.now c.args.from i c.loop-hyp.start-1 c.loop-hyp.lines c.push_hop.new.lines h (drop (i + 1) hops) c.requires.fits c.hop_at-hop.ensures
+      walk_step s nodes hops c.args.hyps.now c.args.from i c.loop-hyp.start-1 c.loop-hyp.lines c.push_hop.new.lines h (drop (i + 1) hops) c.requires.fits c.loop-hyp.invariant.2 c.hop_at-hop.ensures
           (subst (λ (w : Lit). Pushes w h.turned i c.loop-hyp.start-1 c.loop-hyp.lines c.push_hop.new.lines) c.lit_at-lit.ensures c.in_ok-push_hop.ensures.shows)
           (subst (Walks s nodes hops c.args.hyps.now c.args.from c.loop-hyp.start-1 c.loop-hyp.lines) rest c.loop-hyp.invariant.1),
       c.loop-hyp.invariant.2,

@@ -1,4 +1,4 @@
-use Rattle.std.proofs.Common.{◌≡◌, List, subst}
+use Rattle.std.proofs.Common.{◌≡◌, List, arith, subst}
 use Rattle.std.proofs.lemmas.Option.{MatchOption-at_none, MatchOption-at_some}
 use Rattle.ae_theory.specs.Paths.{Paths, list_at, standing}
 use Rattle.ae_theory.specs.Classes.{IsConflict, NoneClashes, extends_itself}
@@ -29,3 +29,9 @@ returns-clause-conflict c k e =
 
 pub returns-clause-legal : goal.returns-clause-legal
 returns-clause-legal c x bound named may added e = none_added x bound c.args._journal.now.lines added e
+
+pub returns-clause-budget : goal.returns-clause-budget
+returns-clause-budget c n may = omega arith
+
+pub returns-clause-budget_left : goal.returns-clause-budget_left
+returns-clause-budget_left c n may = (n, tt, omega arith)
