@@ -1,17 +1,22 @@
 -- Derivations from assumed literals, one behind the other.
-use Rattle.std.specs.Prelude.{ℕ, zero, suc, ◌+◌, ◌<◌, true, List, [], ◌∷◌, ◌++◌, ◌≡◌, length, take, slice_get, Some}
-use Rattle.std.proofs.Common.{refl, sym, ap, ◌∙◌, subst, arith}
-use Rattle.std.proofs.lemmas.Bool.{and_from}
+use Rattle.std.specs.Prelude.{ℕ, zero, suc, ◌+◌, ◌-◌, ◌<◌, true, List, [], ◌∷◌, ◌++◌, ◌≡◌, length, take, slice_get, Option, Some}
+use Rattle.std.specs.List.{AllByRecursion}
+use Rattle.std.proofs.Common.{refl, sym, ap, ◌∙◌, subst, arith, inl, inr}
+use Rattle.std.proofs.lemmas.Bool.{and_from, cases_lt}
 use Rattle.std.proofs.lemmas.List.{take_more}
 use Rattle.std.proofs.lemmas.List.Folds.{list_all-append}
-use Rattle.std.proofs.lemmas.Option.{slice_get_within, get_or_from_slice_get}
+use Rattle.std.proofs.lemmas.Option.{slice_get_within, get_or_from_slice_get, same_Some}
+use Rattle.ae_base.specs.Options.{◌>>=◌}
+use Rattle.ae_base.proofs.AllOf.{all_at, all_from_places, all_weaker}
+use Rattle.ae_base.proofs.ListFacts.{value_at}
 use Rattle.ae_core.specs.Sorts.{formula_ok}
 use Rattle.ae_core.specs.declared.terms.Term.{Term}
 use Rattle.ae_core.specs.declared.formulas.Lit.{Lit}
 use Rattle.ae_core.specs.declared.problems.Signature.{Signature}
 use Rattle.ae_core.specs.declared.proofs.EqLine.{EqLine}
+use Rattle.ae_rules.specs.Built.{HasFactorsWithin, IsBuilt, IsBuiltEquation}
 use Rattle.ae_rules.specs.Derivations.{clause_ok}
-use Rattle.ae_rules.specs.Lines.{Fact, equal, Stated, Equated, AllAllowed, fact_ok}
+use Rattle.ae_rules.specs.Lines.{Fact, equal, states, Stated, Equated, AllAllowed, fact_ok}
 use Rattle.ae_just.specs.declared.steps.Step.{Step}
 use Rattle.ae_theory.specs.Tagged.{Tagged}
 use Rattle.ae_theory.specs.Noting.{IsBlockOf}
@@ -27,25 +32,61 @@ block_append held [] ms (n ∷ ns) os a b = absurd a
 block_append held (l ∷ ls) ms [] os a b = absurd a
 block_append held (l ∷ ls) ms (n ∷ ns) os a b = (a.0, block_append held ls ms ns os a.1 b)
 
+-- ---- terms that are built of the names
+stated_at : (xs : List EqLine) (i : ℕ) (x : EqLine) → slice_get xs i ≡ Some x → Stated xs i (states x)
+stated_at xs i x e = ap (λ (o : Option EqLine). o >>= λ y. Some (states y)) e
+
+-- a line that states what another does, which is built
+built_as : (sig : Signature) (ts : List Term) (zs : List EqLine) (i : ℕ) (z x : EqLine) → AllByRecursion HasFactorsWithin zs → slice_get zs i ≡ Some z → Stated zs i (states x) → IsBuiltEquation sig ts x → IsBuiltEquation sig ts z
+built_as sig ts zs i z x f e s b =
+    let is : states z ≡ states x = same_Some (states z) (states x) (sym (stated_at zs i z e) ∙ s) in
+    record {
+      equation = ap (λ (f : Fact). f.relation) is ∙ b.equation;
+      left = subst (λ (f : Fact). IsBuilt sig ts f.left) (sym is) b.left;
+      right = subst (λ (f : Fact). IsBuilt sig ts f.right) (sym is) b.right;
+      factors = all_at HasFactorsWithin zs i z f e;
+    }
+
+built_joined : (sig : Signature) (ts : List Term) (xs ys zs : List EqLine) → length zs ≡ length xs + length ys → ((k : ℕ) (f : Fact) → Stated xs k f → Stated zs k f) → ((k : ℕ) (f : Fact) → Stated ys k f → Stated zs (length xs + k) f)
+    → AllByRecursion HasFactorsWithin zs → AllByRecursion (IsBuiltEquation sig ts) xs → AllByRecursion (IsBuiltEquation sig ts) ys → AllByRecursion (IsBuiltEquation sig ts) zs
+built_joined sig ts xs ys zs long before after f a b = all_from_places (IsBuiltEquation sig ts) zs line
+  where
+    line : (i : ℕ) (z : EqLine) → slice_get zs i ≡ Some z → IsBuiltEquation sig ts z
+    line i z e = elim (cases_lt i (length xs)) [
+      | inl l ↦ let x = value_at xs i l in built_as sig ts zs i z x.0 f e (before i (states x.0) (stated_at xs i x.0 x.1)) (all_at (IsBuiltEquation sig ts) xs i x.0 a x.1)
+      | inr l ↦
+          let j = i - length xs in
+          let w = slice_get_within zs i z e in
+          let y = value_at ys j (omega (arith, long, l, w)) in
+          let here : length xs + j ≡ i = omega (arith, l) in
+          built_as sig ts zs i z y.0 f e (subst (λ (k : ℕ). Stated zs k (states y.0)) here (after j (states y.0) (stated_at ys j y.0 y.1))) (all_at (IsBuiltEquation sig ts) ys j y.0 b y.1)
+    ]
+
+built_factors : (sig : Signature) (ts : List Term) (xs : List EqLine) → AllByRecursion (IsBuiltEquation sig ts) xs → AllByRecursion HasFactorsWithin xs
+built_factors sig ts xs a = all_weaker (IsBuiltEquation sig ts) HasFactorsWithin (λ l b. b.factors) xs a
+
 -- both are from assumed literals
-pub joined_from : (sig : Signature) (held : List (ℕ × Assumed)) (first second both : Derived) → IsFrom sig held first → IsFrom sig held second → IsJoined first second both → IsFrom sig held both
-joined_from sig held first second both a b j =
+pub joined_from : (sig : Signature) (ts : List Term) (held : List (ℕ × Assumed)) (first second both : Derived) → IsFrom sig ts held first → IsFrom sig ts held second → IsJoined first second both → IsFrom sig ts held both
+joined_from sig ts held first second both a b j =
     let x = first.deriv.hyps in
     let y = second.deriv.hyps in
     record {
       allowed = j.allowed sig a.allowed b.allowed;
       sorted = ap (clause_ok sig) j.hyps ∙ list_all-append (λ (l : Lit). formula_ok sig l.formula) x y ∙ and_from (clause_ok sig x) (clause_ok sig y) a.sorted b.sorted;
       tags = subst (λ ls. IsBlockOf (tagged held) ls both.tags) (sym j.hyps) (subst (λ ns. IsBlockOf (tagged held) (x ++ y) ns) (sym j.tags) (block_append (tagged held) x y first.tags second.tags a.tags b.tags));
+      built = built_joined sig ts first.deriv.lines second.deriv.lines both.deriv.lines j.long j.before j.after
+          (j.factors (built_factors sig ts first.deriv.lines a.built) (built_factors sig ts second.deriv.lines b.built)) a.built b.built;
     }
 
 -- a literal alone
-pub alone_from : (sig : Signature) (held : List (ℕ × Assumed)) (place : ℕ) (lit : Lit) (tag : ℕ) (d : Derived) → IsAssumedAt held place lit tag → formula_ok sig lit.formula ≡ true → d.deriv.hyps ≡ lit ∷ [] → d.tags ≡ tag ∷ []
-    → d.deriv.lines ≡ [] → IsFrom sig held d
-alone_from sig held place lit tag d a o hyps tags lines =
+pub alone_from : (sig : Signature) (ts : List Term) (held : List (ℕ × Assumed)) (place : ℕ) (lit : Lit) (tag : ℕ) (d : Derived) → IsAssumedAt held place lit tag → formula_ok sig lit.formula ≡ true → d.deriv.hyps ≡ lit ∷ [] → d.tags ≡ tag ∷ []
+    → d.deriv.lines ≡ [] → IsFrom sig ts held d
+alone_from sig ts held place lit tag d a o hyps tags lines =
     record {
       allowed = subst (λ ls. AllAllowed sig (fact_ok sig) d.deriv.hyps [] ls) (sym lines) tt;
       sorted = ap (clause_ok sig) hyps ∙ and_from (formula_ok sig lit.formula) true o refl;
       tags = subst (λ ls. IsBlockOf (tagged held) ls d.tags) (sym hyps) (subst (λ ns. IsBlockOf (tagged held) (lit ∷ []) ns) (sym tags) (assumed_contains held place lit tag a, tt));
+      built = subst (AllByRecursion (IsBuiltEquation sig ts)) (sym lines) tt;
     }
 
 -- ---- what lines equate

@@ -34,10 +34,10 @@ module _ (sig : Signature) (ts : List Term) (steps : List Step) (held : List (�
       → first.deriv.lines ≡ [] → ((lit : Lit) (tag : ℕ) → IsAssumedAt held negative lit tag → second.deriv.hyps ≡ lit ∷ []) → ((lit : Lit) (tag : ℕ) → IsAssumedAt held negative lit tag → second.tags ≡ tag ∷ []) → second.deriv.lines ≡ []
       → IsJoined first second both → places ≡ [] → AreGathered sig ts steps held positive negative ids 0 (record { derived = both; places = places })
   none_gathered first second both places fh ft fl sh st sl j e =
-      let one : IsFrom sig held first = alone_from sig held positive holding own.tag first own.holds own.sorted (fh holding own.tag own.holds) (ft holding own.tag own.holds) fl in
-      let two : IsFrom sig held second = alone_from sig held negative failing own.other_tag second own.fails own.others_sorted (sh failing own.other_tag own.fails) (st failing own.other_tag own.fails) sl in
+      let one : IsFrom sig ts held first = alone_from sig ts held positive holding own.tag first own.holds own.sorted (fh holding own.tag own.holds) (ft holding own.tag own.holds) fl in
+      let two : IsFrom sig ts held second = alone_from sig ts held negative failing own.other_tag second own.fails own.others_sorted (sh failing own.other_tag own.fails) (st failing own.other_tag own.fails) sl in
       record {
-        from = joined_from sig held first second both one two j;
+        from = joined_from sig ts held first second both one two j;
         holds = λ lit tag a. ap (λ ls. slice_get ls 0) (j.hyps ∙ ap (λ ls. ls ++ second.deriv.hyps) (fh lit tag a));
         fails = λ lit tag a. ap (λ ls. slice_get ls 1) (j.hyps ∙ ap (λ ls. ls ++ second.deriv.hyps) (fh holding own.tag own.holds) ∙ ap (λ ls. holding ∷ ls) (sh lit tag a));
         equated = λ us vs s.
@@ -46,12 +46,12 @@ module _ (sig : Signature) (ts : List Term) (steps : List Step) (held : List (�
       }
 
   -- the lines of one step more
-  pub one_gathered : (at id : ℕ) (g : Gathered) (next both : Derived) (place : ℕ) (places : List ℕ) → slice_get ids at ≡ Some id → AreGathered sig ts steps held positive negative ids at g → IsFrom sig held next
+  pub one_gathered : (at id : ℕ) (g : Gathered) (next both : Derived) (place : ℕ) (places : List ℕ) → slice_get ids at ≡ Some id → AreGathered sig ts steps held positive negative ids at g → IsFrom sig ts held next
       → ((s : Step) → slice_get steps id ≡ Some s → EndsWith next.deriv.lines (fact_of ts s)) → IsJoined g.derived next both → place ≡ length both.deriv.lines - 1 → places ≡ g.places ++ place ∷ []
       → AreGathered sig ts steps held positive negative ids (at + 1) (record { derived = both; places = places })
   one_gathered at id g next both place places e a b ends j p q =
       record {
-        from = joined_from sig held g.derived next both a.from b j;
+        from = joined_from sig ts held g.derived next both a.from b j;
         holds = λ lit tag h. ap (λ ls. slice_get ls 0) j.hyps ∙ get_append (g.derived).deriv.hyps next.deriv.hyps 0 lit (a.holds lit tag h);
         fails = λ lit tag h. ap (λ ls. slice_get ls 1) j.hyps ∙ get_append (g.derived).deriv.hyps next.deriv.hyps 1 lit (a.fails lit tag h);
         equated = λ us vs s. equated us vs s;

@@ -1,5 +1,7 @@
 //! The blocks of conflicts.
 ghost use Rattle.std.specs.Prelude.{◌≡◌, ◌<◌, ℕ, true, List, length, IfOk};
+ghost use Rattle.std.specs.List.{AllByRecursion};
+ghost use Rattle.ae_rules.specs.Built.{IsBuiltEquation};
 ghost use Rattle.ae_rules.specs.Derivations.{IsContradictory, clause_ok};
 ghost use Rattle.ae_store.specs.Shapes.{shapes};
 ghost use Rattle.ae_store.specs.Terms.{terms};
@@ -44,7 +46,7 @@ fn denied(
 ) -> Result<Explained, AllocError>
     requires fits { Fits store.now.signature (terms (shapes store.now.nodes)) justs.now }
     requires own { IsDenied (terms (shapes store.now.nodes)) justs.now (present assumed.now) literal step }
-    ensures { IfOk result (λ e. IsExplained store.now.signature (present assumed.now) e) }
+    ensures { IfOk result (λ e. IsExplained store.now.signature (terms (shapes store.now.nodes)) (present assumed.now) e) }
 {
     let first = derived(store, justs, step)?;
     let line = first.deriv.lines.len() - 1;
@@ -66,7 +68,7 @@ fn opposed(
 ) -> Result<Explained, AllocError>
     requires fits { Fits store.now.signature (terms (shapes store.now.nodes)) justs.now }
     requires own { AreOpposed store.now.signature (terms (shapes store.now.nodes)) justs.now (present assumed.now) positive negative steps.now }
-    ensures { IfOk result (λ e. IsExplained store.now.signature (present assumed.now) e) }
+    ensures { IfOk result (λ e. IsExplained store.now.signature (terms (shapes store.now.nodes)) (present assumed.now) e) }
 {
     let gathered = gather_all(alloc, store, justs, assumed, positive, negative, steps)?;
     let Gathered { derived, places } = gathered;
@@ -84,7 +86,7 @@ fn opposed(
 fn mixed(store: &Store, justs: &Justs, step: usize) -> Result<Explained, AllocError>
     requires step { step < length justs.now }
     requires fits { Fits store.now.signature (terms (shapes store.now.nodes)) justs.now }
-    ensures { IfOk result (λ e. (held : List (ℕ × AssumedView)) → AreMixed store.now.signature (terms (shapes store.now.nodes)) justs.now held step → IsExplained store.now.signature held e) }
+    ensures { IfOk result (λ e. (held : List (ℕ × AssumedView)) → AreMixed store.now.signature (terms (shapes store.now.nodes)) justs.now held step → IsExplained store.now.signature (terms (shapes store.now.nodes)) held e) }
 {
     let all = derived(store, justs, step)?;
     let line = all.deriv.lines.len() - 1;
@@ -95,7 +97,7 @@ fn mixed(store: &Store, justs: &Justs, step: usize) -> Result<Explained, AllocEr
 fn constant(store: &Store, justs: &Justs, step: usize) -> Result<Explained, AllocError>
     requires step { step < length justs.now }
     requires fits { Fits store.now.signature (terms (shapes store.now.nodes)) justs.now }
-    ensures { IfOk result (λ e. (held : List (ℕ × AssumedView)) → IsConstant store.now.signature (terms (shapes store.now.nodes)) justs.now held step → IsExplained store.now.signature held e) }
+    ensures { IfOk result (λ e. (held : List (ℕ × AssumedView)) → IsConstant store.now.signature (terms (shapes store.now.nodes)) justs.now held step → IsExplained store.now.signature (terms (shapes store.now.nodes)) held e) }
 {
     let all = derived(store, justs, step)?;
     let line = all.deriv.lines.len() - 1;
@@ -106,7 +108,7 @@ fn constant(store: &Store, justs: &Justs, step: usize) -> Result<Explained, Allo
 fn unsolvable(store: &Store, justs: &Justs, step: usize) -> Result<Explained, AllocError>
     requires step { step < length justs.now }
     requires fits { Fits store.now.signature (terms (shapes store.now.nodes)) justs.now }
-    ensures { IfOk result (λ e. (held : List (ℕ × AssumedView)) → IsUnsolvable store.now.signature (terms (shapes store.now.nodes)) justs.now held step → IsExplained store.now.signature held e) }
+    ensures { IfOk result (λ e. (held : List (ℕ × AssumedView)) → IsUnsolvable store.now.signature (terms (shapes store.now.nodes)) justs.now held step → IsExplained store.now.signature (terms (shapes store.now.nodes)) held e) }
 {
     let all = derived(store, justs, step)?;
     let line = all.deriv.lines.len() - 1;
@@ -123,7 +125,7 @@ fn explained_by(
 ) -> Result<Explained, AllocError>
     requires fits { Fits store.now.signature (terms (shapes store.now.nodes)) justs.now }
     requires own { IsConflict store.now.signature (terms (shapes store.now.nodes)) justs.now (present assumed.now) conflict.now }
-    ensures { IfOk result (λ e. IsExplained store.now.signature (present assumed.now) e) }
+    ensures { IfOk result (λ e. IsExplained store.now.signature (terms (shapes store.now.nodes)) (present assumed.now) e) }
 {
     match conflict {
         Conflict::Differ { literal, step } => {
@@ -149,7 +151,7 @@ fn explained_by(
 }
 
 /// Why the assumed literals of a conflict can't hold together: a block whose hypotheses they are, and their tags. It has the lines of the conflict's
-/// steps, and looks at no other steps than those that these rest on.
+/// steps, which are equations of terms built of the names, and looks at no other steps than those that these rest on.
 pub fn explained(
     alloc: Global,
     store: &Store,
@@ -162,6 +164,7 @@ pub fn explained(
     ensures contradictory { IfOk result (λ e. IsContradictory store.now.signature e.block) }
     ensures sorted { IfOk result (λ e. clause_ok store.now.signature e.block.deriv.hyps ≡ true) }
     ensures tags { IfOk result (λ e. IsBlockOf (tagged (present assumed.now)) e.block.deriv.hyps e.tags) }
+    ensures built { IfOk result (λ e. AllByRecursion (IsBuiltEquation store.now.signature (terms (shapes store.now.nodes))) e.block.deriv.lines) }
 {
     explained_by(alloc, store, justs, assumed, conflict)
 }

@@ -1,6 +1,8 @@
 //! The derivation of what a step states.
 ghost use Rattle.std.specs.Prelude.{◌≡◌, ◌<◌, ◌++◌, [], ◌∷◌, ℕ, true, List, length, map, slice_get, Some, IfOk};
 ghost use Rattle.ae_core.specs.declared.formulas.Lit.{Lit as LitView};
+ghost use Rattle.std.specs.List.{AllByRecursion};
+ghost use Rattle.ae_rules.specs.Built.{IsBuiltEquation};
 ghost use Rattle.ae_rules.specs.Derivations.{clause_ok};
 ghost use Rattle.ae_rules.specs.Lines.{AllAllowed, fact_ok};
 ghost use Rattle.ae_store.specs.Shapes.{shapes};
@@ -31,6 +33,7 @@ pub fn derived(store: &Store, justs: &Justs, step: usize) -> Result<Derived, All
     requires fits { Fits store.now.signature (terms (shapes store.now.nodes)) justs.now }
     ensures allowed { IfOk result (λ d. AllAllowed store.now.signature (fact_ok store.now.signature) d.deriv.hyps [] d.deriv.lines) }
     ensures sorted { IfOk result (λ d. clause_ok store.now.signature d.deriv.hyps ≡ true) }
+    ensures built { IfOk result (λ d. AllByRecursion (IsBuiltEquation store.now.signature (terms (shapes store.now.nodes))) d.deriv.lines) }
     ensures some { IfOk result (λ d. 0 < length d.deriv.lines) }
     ensures stated { IfOk result (λ d. (s : Step) → slice_get justs.now step ≡ Some s → EndsWith d.deriv.lines (fact_of (terms (shapes store.now.nodes)) s)) }
     ensures tags { IfOk result (λ d. (held : List (ℕ × AssumedView)) → RestsOnAssumed (terms (shapes store.now.nodes)) justs.now held step → IsBlockOf (tagged held) d.deriv.hyps d.tags) }

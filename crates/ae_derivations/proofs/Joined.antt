@@ -1,16 +1,21 @@
--- Lines stay allowed with more hypotheses and lines before them.
-use Rattle.std.specs.Prelude.{ℕ, zero, suc, ◌+◌, Bool, List, [], ◌∷◌, ◌++◌, ◌≡◌, map, length, slice_get, Some}
+-- Lines stay allowed with more hypotheses and lines before them, and keep their factors.
+use Rattle.std.specs.Prelude.{ℕ, zero, suc, ◌+◌, Bool, true, List, [], ◌∷◌, ◌++◌, ◌≡◌, map, length, slice_get, Some}
+use Rattle.std.specs.List.{AllByRecursion}
 use Rattle.std.proofs.Common.{refl, sym, ap, ◌∙◌, subst, inl, inr, append_assoc}
 use Rattle.std.proofs.lemmas.List.{append-nil, map-append}
 use Rattle.ae_base.specs.Options.{◌>>=◌}
+use Rattle.ae_base.proofs.AllOf.{all_append as all_behind, all_of_map, all_weaker}
 use Rattle.ae_base.proofs.ListFacts.{get_append, get_after}
+use Rattle.ae_core.specs.Sorts.{within}
 use Rattle.ae_core.specs.declared.formulas.Lit.{Lit}
 use Rattle.ae_core.specs.declared.problems.Signature.{Signature}
 use Rattle.ae_core.specs.declared.proofs.EqLine.{EqLine}
+use Rattle.ae_core.specs.declared.proofs.Scaled.{Scaled}
 use Rattle.ae_core.specs.declared.proofs.EqLine.TheVariants.{EqHyp, EqRefl, EqSym, EqTrans, EqCong, EqAc, EqLin, EqField, EqFields, LeHyp, LtHyp, LeSum, LtSum, LeRound}
+use Rattle.ae_rules.specs.Built.{HasFactorsWithin}
 use Rattle.ae_rules.specs.Lines.{Fact, equal, states, Stated, Allowed, AllAllowed}
 use Rattle.ae_rules.proofs.Written.{StandsIn, equated_in, combined_in, all_append}
-use Rattle.ae_derivations.specs.Inner.Moved.{moved}
+use Rattle.ae_derivations.specs.Inner.Moved.{moved, part_moved}
 
 pub states_moved : (n m : ℕ) (l : EqLine) → states (moved n m l) ≡ states l
 states_moved n m (EqHyp s t i) = refl
@@ -96,3 +101,28 @@ pub all_joined : (sig : Signature) (ok : Fact → Bool) (ph hyps : List Lit) (pr
 all_joined sig ok ph hyps pre xs a b =
     all_append sig ok (ph ++ hyps) [] pre (map (moved (length pre) (length ph)) xs) (all_more sig ok ph hyps [] pre a)
     (subst (λ z. AllAllowed sig ok (ph ++ hyps) z (map (moved (length pre) (length ph)) xs)) (append-nil pre) (all_past sig ok ph hyps pre [] xs b))
+
+-- ---- factors
+parts_moved : (n : ℕ) (ps : List Scaled) → AllByRecursion (λ p. within p.factor ≡ true) ps → AllByRecursion (λ p. within p.factor ≡ true) (map (part_moved n) ps)
+parts_moved n ps a = all_of_map (λ (p : Scaled). within p.factor ≡ true) (part_moved n) ps a
+
+factors_moved : (n m : ℕ) (l : EqLine) → HasFactorsWithin l → HasFactorsWithin (moved n m l)
+factors_moved n m (EqHyp s t i) f = tt
+factors_moved n m (EqRefl s t) f = tt
+factors_moved n m (EqSym s t k) f = tt
+factors_moved n m (EqTrans s t j k) f = tt
+factors_moved n m (EqCong s t ks) f = tt
+factors_moved n m (EqAc s t) f = tt
+factors_moved n m (EqLin s t d ps) f = (f.0, parts_moved n ps f.1)
+factors_moved n m (EqField s t) f = tt
+factors_moved n m (EqFields s t ks) f = tt
+factors_moved n m (LeHyp s t i) f = tt
+factors_moved n m (LtHyp s t i) f = tt
+factors_moved n m (LeSum s t d ps) f = (f.0, parts_moved n ps f.1)
+factors_moved n m (LtSum s t d ps) f = (f.0, parts_moved n ps f.1)
+factors_moved n m (LeRound s t k) f = tt
+
+pub factors_joined : (n m : ℕ) (pre xs : List EqLine) → AllByRecursion HasFactorsWithin pre → AllByRecursion HasFactorsWithin xs → AllByRecursion HasFactorsWithin (pre ++ map (moved n m) xs)
+factors_joined n m pre xs a b =
+    all_behind HasFactorsWithin pre (map (moved n m) xs) a
+    (all_of_map HasFactorsWithin (moved n m) xs (all_weaker HasFactorsWithin (λ l. HasFactorsWithin (moved n m l)) (factors_moved n m) xs b))

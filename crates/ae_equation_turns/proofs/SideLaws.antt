@@ -29,7 +29,7 @@ use Rattle.ae_equation_turns.proofs.OrderLaws.{same_rising, all_reduced}
 pub names_spelled : (sig : Signature) (ts : List Term) (u : AcSymbol) (names own : List ℕ) → AreNamesOf sig ts u (names ++ own) → AreNamesOf sig ts u (names ++ rising own)
 names_spelled sig ts u names own a =
     let P = IsOfSort sig ts a.sort in
-    record { sort = a.sort; symbol = a.symbol; sorted = all_append P names (rising own) (all_front P names own a.sorted) (all_same P (rising own) own (same_rising own) (all_back P names own a.sorted)) }
+    record { sort = a.sort; symbol = a.symbol; of_names = a.of_names; sorted = all_append P names (rising own) (all_front P names own a.sorted) (all_same P (rising own) own (same_rising own) (all_back P names own a.sorted)) }
 
 -- the second of two lists, and once more in rising order
 pub names_twice : (sig : Signature) (ts : List Term) (u : AcSymbol) (names own xs ys : List ℕ) → xs ≡ own → ys ≡ rising own → AreNamesOf sig ts u (names ++ own) → AreNamesOf sig ts u (xs ++ ys)
@@ -37,10 +37,10 @@ names_twice sig ts u names own xs ys e f a =
     let P = IsOfSort sig ts a.sort in
     let second = all_back P names own a.sorted in
     subst (λ (zs : List ℕ). AreNamesOf sig ts u (zs ++ ys)) (sym e)
-    (subst (λ (zs : List ℕ). AreNamesOf sig ts u (own ++ zs)) (sym f) (record { sort = a.sort; symbol = a.symbol; sorted = all_append P own (rising own) second (all_same P (rising own) own (same_rising own) second) }))
+    (subst (λ (zs : List ℕ). AreNamesOf sig ts u (own ++ zs)) (sym f) (record { sort = a.sort; symbol = a.symbol; of_names = a.of_names; sorted = all_append P own (rising own) second (all_same P (rising own) own (same_rising own) second) }))
 
 pub names_back : (sig : Signature) (ts : List Term) (u : AcSymbol) (names own : List ℕ) → AreNamesOf sig ts u (names ++ own) → AreNamesOf sig ts u own
-names_back sig ts u names own a = record { sort = a.sort; symbol = a.symbol; sorted = all_back (IsOfSort sig ts a.sort) names own a.sorted }
+names_back sig ts u names own a = record { sort = a.sort; symbol = a.symbol; of_names = a.of_names; sorted = all_back (IsOfSort sig ts a.sort) names own a.sorted }
 
 -- lists that are the same
 pub same_spelled : (xs ys own : List ℕ) → xs ≡ own → ys ≡ rising own → IsSame xs ys
@@ -62,14 +62,14 @@ pub names_joined : (sig : Signature) (ts : List Term) (u : AcSymbol) (left names
 names_joined sig ts u left names other l a b =
     let P = IsOfSort sig ts b.sort in
     let e = one_sort sig ts names a.sort b.sort l (all_back (IsOfSort sig ts a.sort) left names a.sorted) (all_front P names other b.sorted) in
-    record { sort = b.sort; symbol = b.symbol; sorted = all_append P left other (subst (λ (s : Sort). AllByRecursion (IsOfSort sig ts s) left) e (all_front (IsOfSort sig ts a.sort) left names a.sorted)) (all_back P names other b.sorted) }
+    record { sort = b.sort; symbol = b.symbol; of_names = b.of_names; sorted = all_append P left other (subst (λ (s : Sort). AllByRecursion (IsOfSort sig ts s) left) e (all_front (IsOfSort sig ts a.sort) left names a.sorted)) (all_back P names other b.sorted) }
 
 -- the two sides after each was changed
 pub names_across : (sig : Signature) (ts : List Term) (u : AcSymbol) (left right now then : List ℕ) → 0 < length left → 0 < length right → AreNamesOf sig ts u (left ++ right) → AreNamesOf sig ts u (left ++ now)
     → AreNamesOf sig ts u (right ++ then) → AreNamesOf sig ts u (now ++ then)
 names_across sig ts u left right now then l m a b c =
     let P = IsOfSort sig ts b.sort in
-    let turned : AreNamesOf sig ts u (now ++ left) = record { sort = b.sort; symbol = b.symbol; sorted = all_append P now left (all_back P left now b.sorted) (all_front P left now b.sorted) } in
+    let turned : AreNamesOf sig ts u (now ++ left) = record { sort = b.sort; symbol = b.symbol; of_names = b.of_names; sorted = all_append P now left (all_back P left now b.sorted) (all_front P left now b.sorted) } in
     names_joined sig ts u now left then l turned (names_joined sig ts u left right then m a c)
 
 module _ (sig : Signature) (ts : List Term) (steps : List Step) (kept : ℕ → Option Kept) (next : ℕ) (u : AcSymbol) (rules : AreRules kept next) (said : AreSaid sig ts steps kept) where
@@ -88,7 +88,7 @@ module _ (sig : Signature) (ts : List Term) (steps : List Step) (kept : ℕ → 
   pub names_reduced : (names own : List ℕ) {now : List ℕ} → AreNamesOf sig ts u (names ++ own) → ReducesTo (IsRuleOf kept u) own now → AreNamesOf sig ts u (names ++ now)
   names_reduced names own {now} a f =
       let P = IsOfSort sig ts a.sort in
-      record { sort = a.sort; symbol = a.symbol; sorted = all_append P names now (all_front P names own a.sorted) (all_reduced P (IsRuleOf kept u) (right_sorted a.sort) f (all_back P names own a.sorted)) }
+      record { sort = a.sort; symbol = a.symbol; of_names = a.of_names; sorted = all_append P names now (all_front P names own a.sorted) (all_reduced P (IsRuleOf kept u) (right_sorted a.sort) f (all_back P names own a.sorted)) }
 
 -- ---- own representatives
 module _ (reps : List ℕ) (kept : ℕ → Option Kept) (u : AcSymbol) where

@@ -6,8 +6,9 @@ use Rattle.std.proofs.lemmas.Bool.{cases_lt, eqb-true, eq-eqb}
 use Rattle.std.proofs.lemmas.List.{length-map, length-take-le, take_more}
 use Rattle.std.proofs.lemmas.Option.{slice_get_within, slice_get_read, slice_get-get_or}
 use Rattle.ae_base.specs.Options.{or_else, ◌>>=◌}
-use Rattle.ae_base.proofs.AllOf.{all_at, all_from_places}
+use Rattle.ae_base.proofs.AllOf.{all_at, all_from_places, all_push}
 use Rattle.ae_base.proofs.ListFacts.{get_seam, value_at}
+use Rattle.ae_rules.specs.Built.{HasFactorsWithin}
 use Rattle.ae_rules.specs.Lines.{Fact, states, Stated, Allowed, AllAllowed, fact_ok}
 use Rattle.ae_rules.proofs.Written.{all_append}
 use Rattle.ae_core.specs.declared.terms.Term.{Term}
@@ -25,11 +26,11 @@ use Rattle.ae_just.specs.declared.steps.Step.{Step}
 use Rattle.ae_just.specs.declared.steps.Rule.{Rule}
 use Rattle.ae_just.specs.declared.steps.Rule.TheVariants as rule
 use Rattle.ae_just.specs.Sides.{side_term}
-use Rattle.ae_just.specs.Steps.{fact_of, literal, assumed, tag_of, line_of, own_line, premises, IsAllowedStep, AreAllowed, Fits}
+use Rattle.ae_just.specs.Steps.{fact_of, literal, assumed, tag_of, line_of, own_line, premises, renamed_rule, IsAllowedStep, AreAllowed, Fits}
 use Rattle.ae_just.specs.Needed.{itself, premise, AreNeeded, literals, tags, Derives}
 use Rattle.ae_just.specs.Inner.Pending.{RestOnEarlier}
 use Rattle.ae_just.specs.Inner.Emitting.{place, IsEmitted}
-use Rattle.ae_just.proofs.LineLaws.{Carries, rule_carried, premises_within, states_line, own_stated}
+use Rattle.ae_just.proofs.LineLaws.{Carries, rule_carried, rule_factors, line_factors, premises_within, states_line, own_stated}
 use Rattle.ae_just.proofs.NeededLaws.{last_needed}
 
 -- steps that are allowed rest on earlier ones
@@ -156,7 +157,7 @@ get_take (x ∷ xs) (suc i) (suc k) h = get_take xs i k (omega (arith, h))
 -- ---- one line more
 module _ (sig : Signature) (ts : List Term) (steps : List Step) (id : ℕ) (ks : List ℕ) (fits : Fits sig ts steps) (needed : AreNeeded steps id ks) where
   pub emitted_none : IsEmitted sig ts steps ks (literals ts steps ks) 0 [] 0
-  emitted_none = record { long = refl; count_is = refl; allowed = tt; stated = λ j k s l e at. absurd (omega (arith, l)) }
+  emitted_none = record { long = refl; count_is = refl; allowed = tt; factors = tt; stated = λ j k s l e at. absurd (omega (arith, l)) }
 
   module _ (i k c : ℕ) (lines : List EqLine) (s : Step) (is : slice_get ks i ≡ Some k) (at : slice_get steps k ≡ Some s) (a : IsEmitted sig ts steps ks (literals ts steps ks) i lines c) where
     -- a premise has an earlier line
@@ -192,6 +193,9 @@ module _ (sig : Signature) (ts : List Term) (steps : List Step) (id : ℕ) (ks :
         (fits.allowed.each k s at).allowed
         (λ tag r. ap (slice_get (literals ts steps ks)) a.count_is ∙ literal_at ts steps ks i k s tag is at r)
 
+    next_factors : HasFactorsWithin (line_of ts (place ks) c s)
+    next_factors = line_factors c (side_term ts s.left) (side_term ts s.right) (renamed_rule (place ks) s.rule) (rule_factors (place ks) s.rule (fits.factors.each k s at))
+
     front_is : take (i + 1) ks ≡ take i ks ++ k ∷ []
     front_is =
         let l : i < length ks = slice_get_within ks i k is in
@@ -207,6 +211,7 @@ module _ (sig : Signature) (ts : List Term) (steps : List Step) (id : ℕ) (ks :
           count_is = (λ n. a.count_is n + sym (assumed_length (literal ts s) s.rule) n) ∙ sym (length-append (literals ts steps (take i ks)) (assumed (literal ts s) s.rule))
               ∙ ap length (sym (literals_pushed ts steps (take i ks) k s at)) ∙ ap (λ xs. length (literals ts steps xs)) (sym front_is);
           allowed = all_append sig (fact_ok sig) (literals ts steps ks) [] lines (l ∷ []) a.allowed ((ap (fact_ok sig) says ∙ (fits.allowed.each k s at).sorted, next_allowed), tt);
+          factors = all_push HasFactorsWithin lines l a.factors next_factors;
           stated = λ j n t d e q. stated j n t d e q;
         }
       where
@@ -280,6 +285,7 @@ derivation sig ts steps id ks d c fits low needed hyps a =
       are_needed = needed;
       hyps = hyps;
       allowed = subst (λ hs. AllAllowed sig (fact_ok sig) hs [] d.lines) (sym hyps) a.allowed;
+      factors = a.factors;
       one_each = a.long;
       stated = λ j n t x y. a.stated j n t (slice_get_within ks j n x) x y;
       step = s.0;

@@ -1,8 +1,9 @@
 -- Steps that fit a store fit it when it has grown.
 use Rattle.std.specs.Prelude.{ℕ, zero, suc, ◌<◌, Bool, List, [], ◌∷◌, ◌≡◌, map, take, length}
 use Rattle.std.specs.List.{AllByRecursion}
-use Rattle.std.proofs.Common.{refl, sym, ap, ◌∙◌, subst}
+use Rattle.std.proofs.Common.{refl, sym, ap, ◌∙◌, subst, inl, inr}
 use Rattle.std.proofs.lemmas.Option.{slice_get_within}
+use Rattle.ae_rules.specs.Built.{HasIntegers, HasUnplain}
 use Rattle.ae_rules.specs.Lines.{fact_ok}
 use Rattle.ae_base.specs.Options.{or_else}
 use Rattle.ae_core.specs.declared.terms.Sort.{Sort}
@@ -17,7 +18,7 @@ use Rattle.ae_just.specs.declared.steps.Side.{Side}
 use Rattle.ae_just.specs.declared.steps.Side.TheVariants as side
 use Rattle.ae_just.specs.declared.steps.Step.{Step}
 use Rattle.ae_just.specs.Sides.{side_term, product, numeric, joined, whole, sum_from, many_from, IsWithin, ArePartsWithin}
-use Rattle.ae_just.specs.Steps.{fact_of, own_line, line_by, RuleAllowed, IsStepWithin, AreWithin, Fits}
+use Rattle.ae_just.specs.Steps.{fact_of, own_line, line_by, RuleAllowed, IsStepWithin, AreWithin, IsSymbolOfNames, IsOfNames, Fits}
 
 module _ (old new : List Term) (keeps : Keeps old new) where
   name_kept : (a : ℕ) → a < length old → named new a ≡ named old a
@@ -58,6 +59,21 @@ module _ (old new : List Term) (keeps : Keeps old new) where
   side_wider (side.Sum ps c real) h = parts_wider ps h
   side_wider (side.Many u ns) h = names_wider ns h
 
+  -- ---- what is said of sides
+  pub integers_kept : (sig : Signature) → HasIntegers sig old → HasIntegers sig new
+  integers_kept sig h = (h.0, h.1, keeps h.0 h.1 h.2, h.3)
+
+  pub unplain_kept : HasUnplain old → HasUnplain new
+  unplain_kept h = (h.0, h.1, keeps h.0 h.1 h.2, h.3)
+
+  pub symbol_kept : (sig : Signature) (u : Head) → IsSymbolOfNames sig old u → IsSymbolOfNames sig new u
+  symbol_kept sig u h = elim h [ inl d ↦ inl d | inr n ↦ inr (unplain_kept n) ]
+
+  of_names_kept : (sig : Signature) (s : Side) → IsOfNames sig old s → IsOfNames sig new s
+  of_names_kept sig (side.Name n) h = tt
+  of_names_kept sig (side.Sum ps c real) h = elim h [ inl e ↦ inl e | inr i ↦ inr (integers_kept sig i) ]
+  of_names_kept sig (side.Many u ns) h = symbol_kept sig u.head h
+
   line_kept : (s : Step) → IsStepWithin (length old) s → own_line new s ≡ own_line old s
   line_kept s h = λ i. line_by 0 (side_kept s.left h.0 i) (side_kept s.right h.1 i) s.rule
 
@@ -81,4 +97,6 @@ module _ (old new : List Term) (keeps : Keeps old new) where
           };
     };
     within = record { each = λ i s e. let w = f.within.each i s e in (side_wider s.left w.0, side_wider s.right w.1) };
+    built = record { each = λ i s e. let b = f.built.each i s e in (of_names_kept sig s.left b.0, of_names_kept sig s.right b.1) };
+    factors = f.factors;
   }

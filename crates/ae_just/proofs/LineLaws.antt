@@ -1,7 +1,10 @@
 -- A rule stays allowed where the steps that it rests on have other numbers.
-use Rattle.std.specs.Prelude.{ℕ, ℤ, zero, suc, ◌<◌, List, [], ◌∷◌, ◌≡◌, map, length, slice_get, Option, Some, None}
+use Rattle.std.specs.Prelude.{ℕ, ℤ, zero, suc, true, ◌<◌, List, [], ◌∷◌, ◌≡◌, map, length, slice_get, Option, Some, None}
 use Rattle.std.specs.List.{AllByRecursion}
 use Rattle.std.proofs.Common.{refl, sym, ◌∙◌, arith}
+use Rattle.ae_base.proofs.AllOf.{all_of_map}
+use Rattle.ae_core.specs.Sorts.{within}
+use Rattle.ae_rules.specs.Built.{HasFactorsWithin}
 use Rattle.ae_rules.specs.Lines.{Fact, equal, states, Stated, Equated, Combined, Allowed}
 use Rattle.ae_core.specs.declared.terms.Term.{Term}
 use Rattle.ae_core.specs.declared.formulas.Lit.{Lit}
@@ -12,7 +15,7 @@ use Rattle.ae_just.specs.declared.steps.Step.{Step}
 use Rattle.ae_just.specs.declared.steps.Rule.{Rule}
 use Rattle.ae_just.specs.declared.steps.Rule.TheVariants as rule
 use Rattle.ae_just.specs.Sides.{side_term}
-use Rattle.ae_just.specs.Steps.{fact_of, renamed, renamed_rule, line_by, own_line, premises, RuleAllowed}
+use Rattle.ae_just.specs.Steps.{AreRuleFactorsWithin, fact_of, renamed, renamed_rule, line_by, own_line, premises, RuleAllowed}
 
 -- what a step of number k states is stated by the line of number v k
 abbrev pub Carries : List EqLine → List EqLine → (ℕ → ℕ) → ℕ → Type 0
@@ -85,6 +88,29 @@ states_line v h l r rule.Ac = refl
 states_line v h l r (rule.Lin d ps) = refl
 states_line v h l r rule.Field = refl
 states_line v h l r (rule.Fields ks) = refl
+
+-- and their factors are those of the rules
+pub rule_factors : (v : ℕ → ℕ) (u : Rule) → AreRuleFactorsWithin u → AreRuleFactorsWithin (renamed_rule v u)
+rule_factors v (rule.Hyp tag) f = tt
+rule_factors v rule.Refl f = tt
+rule_factors v (rule.Sym k) f = tt
+rule_factors v (rule.Trans j k) f = tt
+rule_factors v (rule.Cong ks) f = tt
+rule_factors v rule.Ac f = tt
+rule_factors v (rule.Lin d ps) f = (f.0, all_of_map (λ (p : Scaled). within p.factor ≡ true) (renamed v) ps f.1)
+rule_factors v rule.Field f = tt
+rule_factors v (rule.Fields ks) f = tt
+
+pub line_factors : (h : ℕ) (l r : Term) (u : Rule) → AreRuleFactorsWithin u → HasFactorsWithin (line_by h l r u)
+line_factors h l r (rule.Hyp tag) f = tt
+line_factors h l r rule.Refl f = tt
+line_factors h l r (rule.Sym k) f = tt
+line_factors h l r (rule.Trans j k) f = tt
+line_factors h l r (rule.Cong ks) f = tt
+line_factors h l r rule.Ac f = tt
+line_factors h l r (rule.Lin d ps) f = f
+line_factors h l r rule.Field f = tt
+line_factors h l r (rule.Fields ks) f = tt
 
 states_own : (l r : Term) (u : Rule) → states (line_by 0 l r u) ≡ equal l r
 states_own l r (rule.Hyp tag) = refl

@@ -23,7 +23,7 @@ use Rattle.ae_just.specs.declared.steps.Side.{Side}
 use Rattle.ae_just.specs.declared.steps.Side.TheVariants as side
 use Rattle.ae_just.specs.declared.steps.Step.{Step}
 use Rattle.ae_just.specs.Sides.{side_term, product, numeric, joined, whole, sum_from, many_from, IsWithin, ArePartsWithin}
-use Rattle.ae_just.specs.Steps.{IsAllowedStep, IsStepWithin, Fits}
+use Rattle.ae_just.specs.Steps.{AreRuleFactorsWithin, IsAllowedStep, IsStepOfNames, IsStepWithin, Fits}
 
 module _ (sig : Signature) (ts : List Term) where
   Known : Term → Type 0
@@ -38,6 +38,11 @@ module _ (sig : Signature) (ts : List Term) where
     | inl l ↦ l
     | inr l ↦ absurd (bound_unknown 0 (subst Known (ap (λ o. or_else o (Bound 0)) (slice_get_past ts a l)) k))
   ]
+
+  -- a name with a sort is one of the store
+  pub sorted_within : (a : ℕ) (s : Sort) → sort_of sig (named ts a) ≡ Some s → a < length ts
+  unfolding Known
+  sorted_within a s e = name_known a (s, e)
 
   joined_known : (h : Head) (ss : List Sort) (t u : Term) → Known (joined h ss t u) → Known t × Known u
   unfolding Known
@@ -81,8 +86,10 @@ module _ (sig : Signature) (ts : List Term) where
       (side_known s.left (l.0, l.1), side_known s.right (l.0, sym w.1 ∙ l.1))
 
 -- ---- one step more
-pub fits_push : (sig : Signature) (ts : List Term) (steps steps' : List Step) (s : Step) → Fits sig ts steps → IsAllowedStep sig ts steps s → steps' ≡ steps ++ s ∷ [] → Fits sig ts steps'
-fits_push sig ts steps steps' s f a p = subst (Fits sig ts) (sym p) (record { allowed = record { each = each }; within = record { each = inside } })
+pub fits_push : (sig : Signature) (ts : List Term) (steps steps' : List Step) (s : Step) → Fits sig ts steps → IsAllowedStep sig ts steps s → IsStepOfNames sig ts s → AreRuleFactorsWithin s.rule → steps' ≡ steps ++ s ∷ []
+    → Fits sig ts steps'
+fits_push sig ts steps steps' s f a b g p =
+    subst (Fits sig ts) (sym p) (record { allowed = record { each = each }; within = record { each = inside }; built = record { each = built }; factors = record { each = kept } })
   where
     each : (i : ℕ) (t : Step) → slice_get (steps ++ s ∷ []) i ≡ Some t → IsAllowedStep sig ts (take i (steps ++ s ∷ [])) t
     each i t e = elim (get_pushed steps s i t e) [
@@ -96,3 +103,9 @@ fits_push sig ts steps steps' s f a p = subst (Fits sig ts) (sym p) (record { al
 
     inside : (i : ℕ) (t : Step) → slice_get (steps ++ s ∷ []) i ≡ Some t → IsStepWithin (length ts) t
     inside i t e = elim (get_pushed steps s i t e) [ inl q ↦ f.within.each i t q | inr q ↦ subst (IsStepWithin (length ts)) q.1 (step_within sig ts steps s a) ]
+
+    built : (i : ℕ) (t : Step) → slice_get (steps ++ s ∷ []) i ≡ Some t → IsStepOfNames sig ts t
+    built i t e = elim (get_pushed steps s i t e) [ inl q ↦ f.built.each i t q | inr q ↦ subst (IsStepOfNames sig ts) q.1 b ]
+
+    kept : (i : ℕ) (t : Step) → slice_get (steps ++ s ∷ []) i ≡ Some t → AreRuleFactorsWithin t.rule
+    kept i t e = elim (get_pushed steps s i t e) [ inl q ↦ f.factors.each i t q | inr q ↦ subst (λ (z : Step). AreRuleFactorsWithin z.rule) q.1 g ]

@@ -1,11 +1,13 @@
 -- The steps that a step rests on, and the lines that derive its equation from their assumptions.
 use Rattle.std.specs.Prelude.{ℕ, ◌<◌, List, [], ◌∷◌, ◌++◌, ◌≡◌, length, slice_get, Some}
+use Rattle.std.specs.List.{AllByRecursion}
 use Rattle.ae_base.specs.Options.{or_else, ◌>>=◌}
 use Rattle.ae_core.specs.declared.terms.Term.{Term}
 use Rattle.ae_core.specs.declared.formulas.Lit.{Lit}
 use Rattle.ae_core.specs.declared.problems.Signature.{Signature}
 use Rattle.ae_core.specs.declared.proofs.Deriv.{Deriv}
 use Rattle.ae_core.specs.declared.proofs.EqLine.{EqLine}
+use Rattle.ae_rules.specs.Built.{HasFactorsWithin}
 use Rattle.ae_rules.specs.Lines.{states, Stated, AllAllowed, fact_ok}
 use Rattle.ae_store.specs.Parts.{IsIn}
 use Rattle.ae_just.specs.declared.steps.Step.{Step}
@@ -42,12 +44,13 @@ pub record AreTags (steps : List Step) (id : ℕ) (found : List ℕ) : Type 0 wh
   pub tags_are : found ≡ tags steps needed
 
 -- lines that derive the equation of a step from the literals that it rests on: one allowed line for each step that it rests on, in their order,
--- which states that step's equation; the last states its own
+-- which states that step's equation, with factors within their limits; the last states its own
 pub record Derives (sig : Signature) (ts : List Term) (steps : List Step) (id : ℕ) (d : Deriv) : Type 0 where
   pub needed : List ℕ
   pub are_needed : AreNeeded steps id needed
   pub hyps : d.hyps ≡ literals ts steps needed
   pub allowed : AllAllowed sig (fact_ok sig) d.hyps [] d.lines
+  pub factors : AllByRecursion HasFactorsWithin d.lines
   pub one_each : length d.lines ≡ length needed
   pub stated : (i k : ℕ) (s : Step) → slice_get needed i ≡ Some k → slice_get steps k ≡ Some s → Stated d.lines i (fact_of ts s)
   pub step : Step

@@ -1,6 +1,9 @@
 -- The lines of steps, and when a step is allowed.
-use Rattle.std.specs.Prelude.{ℕ, true, List, [], ◌∷◌, ◌≡◌, map, take, length, slice_get, Some}
-use Rattle.ae_rules.specs.Lines.{Fact, equal, Allowed, fact_ok}
+use Rattle.std.specs.Prelude.{ℕ, true, List, [], ◌∷◌, ◌≡◌, ◌⊎◌, map, take, length, slice_get, Some}
+use Rattle.ae_rules.specs.Lines.{Fact, equal, Allowed, IsAc, fact_ok}
+use Rattle.ae_rules.specs.Built.{HasIntegers, HasUnplain, AreFactorsWithin}
+use Rattle.ae_core.specs.declared.terms.Head.{Head}
+use Rattle.ae_core.specs.declared.terms.Head.TheVariants as head
 use Rattle.ae_core.specs.declared.terms.Term.{Term}
 use Rattle.ae_core.specs.declared.formulas.Formula.{Eq}
 use Rattle.ae_core.specs.declared.formulas.Lit.{Lit}
@@ -8,6 +11,8 @@ use Rattle.ae_core.specs.declared.problems.Signature.{Signature}
 use Rattle.ae_core.specs.declared.proofs.Scaled.{Scaled}
 use Rattle.ae_core.specs.declared.proofs.EqLine.{EqLine}
 use Rattle.ae_core.specs.declared.proofs.EqLine.TheVariants.{EqHyp, EqRefl, EqSym, EqTrans, EqCong, EqAc, EqLin, EqField, EqFields}
+use Rattle.ae_just.specs.declared.steps.Side.{Side}
+use Rattle.ae_just.specs.declared.steps.Side.TheVariants as side
 use Rattle.ae_just.specs.declared.steps.Step.{Step}
 use Rattle.ae_just.specs.declared.steps.Rule.{Rule}
 use Rattle.ae_just.specs.declared.steps.Rule.TheVariants as rule
@@ -95,7 +100,38 @@ IsStepWithin n s = IsWithin n s.left × IsWithin n s.right
 pub record AreWithin (n : ℕ) (steps : List Step) : Type 0 where
   pub each : (i : ℕ) (s : Step) → slice_get steps i ≡ Some s → IsStepWithin n s
 
--- the steps fit the terms: each is allowed after those before it, and has names of the store alone
+-- a declared AC symbol, no product
+abbrev pub IsDeclaredAc : Signature → Head → Type 0
+IsDeclaredAc sig h = (k : ℕ) × (h ≡ head.Symbol k) × IsAc sig (head.Symbol k)
+
+-- the symbol of a multiset is declared, or one of the terms isn't plain
+abbrev pub IsSymbolOfNames : Signature → List Term → Head → Type 0
+IsSymbolOfNames sig ts h = IsDeclaredAc sig h ⊎ HasUnplain ts
+
+-- a side has integers only where a name is one, and the factors of a product only where a name isn't plain
+abbrev pub IsOfNames : Signature → List Term → Side → Type 0
+IsOfNames sig ts (side.Name n) = Unit {0}
+IsOfNames sig ts (side.Sum ps c real) = (real ≡ true) ⊎ HasIntegers sig ts
+IsOfNames sig ts (side.Many u ns) = IsSymbolOfNames sig ts u.head
+
+abbrev pub IsStepOfNames : Signature → List Term → Step → Type 0
+IsStepOfNames sig ts s = IsOfNames sig ts s.left × IsOfNames sig ts s.right
+
+pub record AreOfNames (sig : Signature) (ts : List Term) (steps : List Step) : Type 0 where
+  pub each : (i : ℕ) (s : Step) → slice_get steps i ≡ Some s → IsStepOfNames sig ts s
+
+-- each factor of a combination has 127 bits beside its sign
+abbrev pub AreRuleFactorsWithin : Rule → Type 0
+AreRuleFactorsWithin (rule.Lin d ps) = AreFactorsWithin d ps
+AreRuleFactorsWithin _ = Unit {0}
+
+pub record AreFactorsKept (steps : List Step) : Type 0 where
+  pub each : (i : ℕ) (s : Step) → slice_get steps i ≡ Some s → AreRuleFactorsWithin s.rule
+
+-- the steps fit the terms: each is allowed after those before it, and has names of the store alone, of which its sides are made, and factors within
+-- their limits
 pub record Fits (sig : Signature) (ts : List Term) (steps : List Step) : Type 0 where
   pub allowed : AreAllowed sig ts steps
   pub within : AreWithin (length ts) steps
+  pub built : AreOfNames sig ts steps
+  pub factors : AreFactorsKept steps

@@ -6,7 +6,7 @@ ghost use Rattle.ae_core.specs.declared.formulas.Lit.{Lit};
 ghost use Rattle.ae_store.specs.Shapes.{shapes};
 ghost use Rattle.ae_store.specs.Terms.{terms};
 ghost use Rattle.ae_just.specs.Steps as spec;
-ghost use Rattle.ae_just.specs.Steps.{IsAllowedStep, AreAllowed, AreWithin, IsStepWithin, tag_of, line_of, Fits};
+ghost use Rattle.ae_just.specs.Steps.{IsAllowedStep, AreAllowed, AreWithin, IsStepWithin, IsStepOfNames, AreRuleFactorsWithin, tag_of, line_of, Fits};
 ghost use Rattle.ae_just.specs.Needed.{AreNeeded, AreTags, Derives, IsRising, literals, tags};
 ghost use Rattle.ae_just.specs.Inner.Emitting.{IsEmitted};
 ghost use Rattle.ae_just.specs.Inner.Emitting as emitting;
@@ -291,9 +291,12 @@ impl Justs {
         }
     }
 
-    /// Appends a step that is allowed after the earlier ones. Refused memory leaves the steps as they were.
+    /// Appends a step that is allowed after the earlier ones, whose sides are made of names, and whose factors have 127 bits
+    /// beside their signs. Refused memory leaves the steps as they were.
     pub fn add(&mut self, store: &Store, step: Step) -> Result<usize, AllocError>
         requires allowed { IsAllowedStep store.now.signature (terms (shapes store.now.nodes)) self.old step }
+        requires built { IsStepOfNames store.now.signature (terms (shapes store.now.nodes)) step }
+        requires factors { AreRuleFactorsWithin step.rule }
         requires fits { Fits store.now.signature (terms (shapes store.now.nodes)) self.old }
         ensures ok { OnOk result (self.new ≡ self.old ++ step ∷ []) }
         ensures number { IfOk result (λ n. n ≡ length self.old) }
@@ -303,6 +306,13 @@ impl Justs {
         let number = self.steps.len();
         self.steps.push(step)?;
         Ok(number)
+    }
+
+    /// The steps, in the order of entry. It takes no memory.
+    pub fn steps(&self) -> &[Step]
+        ensures { result.now ≡ self.now }
+    {
+        self.steps.as_slice()
     }
 
     /// The tags of the assumptions that a step rests on, one for each assumption in the order of entry.

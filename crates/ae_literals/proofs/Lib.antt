@@ -1,4 +1,4 @@
-mod NamedLiterals
+pub mod NamedLiterals
 mod SaidEquations
 pub mod SeenConstructors
 mod OpposedAtoms

@@ -20,7 +20,7 @@ use Rattle.ae_just.specs.declared.steps.Rule.{Rule}
 use Rattle.ae_just.specs.declared.steps.Rule.TheVariants as rule
 use Rattle.ae_just.specs.declared.steps.Step.{Step}
 use Rattle.ae_just.specs.Sides.{side_term}
-use Rattle.ae_just.specs.Steps.{Fits, IsAllowedStep, fact_of, own_line, line_by}
+use Rattle.ae_just.specs.Steps.{Fits, IsAllowedStep, IsOfNames, IsStepOfNames, IsSymbolOfNames, fact_of, own_line, line_by}
 use Rattle.ae_state_steps.specs.ManySteps.{IsOfSort, StatesMany, StatesNames, NameStep, ExtendStep, OrderStep}
 use Rattle.ae_multiset_steps.specs.Equating.{AreNamesOf}
 use Rattle.ae_multiset_steps.specs.Inner.Longer.{IsLonger}
@@ -47,6 +47,14 @@ pub sides_allowed : (sig : Signature) (ts : List Term) (steps : List Step) (u : 
 sides_allowed sig ts steps u xs ys by l r e f a =
     subst (λ (z : Side). IsAllowedStep sig ts steps (record { left = z; right = r; rule = by })) (sym e)
     (subst (λ (z : Side). IsAllowedStep sig ts steps (record { left = side.Many u xs; right = z; rule = by })) (sym f) a)
+
+pub sides_of_names : (sig : Signature) (ts : List Term) (u : AcSymbol) (xs ys : List ℕ) (by : Rule) (l r : Side) → l ≡ side.Many u xs → r ≡ side.Many u ys → IsSymbolOfNames sig ts u.head
+    → IsStepOfNames sig ts (record { left = l; right = r; rule = by })
+sides_of_names sig ts u xs ys by l r e f h = (subst (IsOfNames sig ts) (sym e) h, subst (IsOfNames sig ts) (sym f) h)
+
+-- the symbol of a step that stands
+pub symbol_of : (sig : Signature) (ts : List Term) (steps : List Step) → Fits sig ts steps → (id : ℕ) (u : AcSymbol) (xs ys : List ℕ) → StatesMany steps id u xs ys → IsSymbolOfNames sig ts u.head
+symbol_of sig ts steps fits id u xs ys s = (fits.built.each id (record { left = side.Many u xs; right = side.Many u ys; rule = s.by }) s.there).0
 
 pub itself_step : (sig : Signature) (ts : List Term) (steps : List Step) (n : ℕ) → known (sort_of sig (named ts n)) ≡ true
     → IsAllowedStep sig ts steps (record { left = side.Name n; right = side.Name n; rule = rule.Refl })

@@ -50,13 +50,14 @@ module _ (sig : Signature) (ts : List Term) (u : AcSymbol) where
       record {
         sort = a.sort;
         symbol = a.symbol;
+        of_names = a.of_names;
         sorted = all_append P (left ++ take n rest) (right ++ take n rest) (all_append P left (take n rest) (all_front P left right both) more) (all_append P right (take n rest) (all_back P left right both) more);
       }
 
   pub names_taken : (left right : List ℕ) (n : ℕ) → AreNamesOf sig ts u (left ++ right) → AreNamesOf sig ts u (take n left ++ take n right)
   names_taken left right n a =
       let P = IsOfSort sig ts a.sort in
-      record { sort = a.sort; symbol = a.symbol; sorted = all_append P (take n left) (take n right) (all_taken P left n (all_front P left right a.sorted)) (all_taken P right n (all_back P left right a.sorted)) }
+      record { sort = a.sort; symbol = a.symbol; of_names = a.of_names; sorted = all_append P (take n left) (take n right) (all_taken P left n (all_front P left right a.sorted)) (all_taken P right n (all_back P left right a.sorted)) }
 
   -- a list of the same names as the first and third, and these
   pub names_before : (from left right rest : List ℕ) → IsSame from (left ++ rest) → AreNamesOf sig ts u (left ++ right ++ rest) → AreNamesOf sig ts u (from ++ (left ++ rest))
@@ -64,7 +65,7 @@ module _ (sig : Signature) (ts : List Term) (u : AcSymbol) where
       let P = IsOfSort sig ts a.sort in
       let both = all_front P (left ++ right) rest a.sorted in
       let all = all_append P left rest (all_front P left right both) (all_back P (left ++ right) rest a.sorted) in
-      record { sort = a.sort; symbol = a.symbol; sorted = all_append P from (left ++ rest) (all_same P from (left ++ rest) s all) all }
+      record { sort = a.sort; symbol = a.symbol; of_names = a.of_names; sorted = all_append P from (left ++ rest) (all_same P from (left ++ rest) s all) all }
 
   -- the second and third, and a list of the same names
   pub names_after : (to left right rest : List ℕ) → IsSame to (right ++ rest) → AreNamesOf sig ts u (left ++ right ++ rest) → AreNamesOf sig ts u ((right ++ rest) ++ to)
@@ -72,7 +73,7 @@ module _ (sig : Signature) (ts : List Term) (u : AcSymbol) where
       let P = IsOfSort sig ts a.sort in
       let both = all_front P (left ++ right) rest a.sorted in
       let all = all_append P right rest (all_back P left right both) (all_back P (left ++ right) rest a.sorted) in
-      record { sort = a.sort; symbol = a.symbol; sorted = all_append P (right ++ rest) to all (all_same P to (right ++ rest) s all) }
+      record { sort = a.sort; symbol = a.symbol; of_names = a.of_names; sorted = all_append P (right ++ rest) to all (all_same P to (right ++ rest) s all) }
 
   -- names of the second of two lists
   pub sorted_at : (others rest : List ℕ) (k d : ℕ) → AreNamesOf sig ts u (others ++ rest) → k < length rest → known (sort_of sig (named ts (get_or rest k d))) ≡ true
@@ -83,7 +84,7 @@ module _ (sig : Signature) (ts : List Term) (u : AcSymbol) where
   pub name_at : (others rest : List ℕ) (k d : ℕ) → AreNamesOf sig ts u (others ++ rest) → k < length rest → AreNamesOf sig ts u (get_or rest k d ∷ [])
   name_at others rest k d a l =
       let P = IsOfSort sig ts a.sort in
-      record { sort = a.sort; symbol = a.symbol; sorted = (all_at P rest k (get_or rest k d) (all_back P others rest a.sorted) (slice_get-get_or rest k d l), tt) }
+      record { sort = a.sort; symbol = a.symbol; of_names = a.of_names; sorted = (all_at P rest k (get_or rest k d) (all_back P others rest a.sorted) (slice_get-get_or rest k d l), tt) }
 
   -- lists that are equal to two that are put together
   pub names_same : (left right xs ys : List ℕ) → left ≡ xs → right ≡ ys → AreNamesOf sig ts u (xs ++ ys) → AreNamesOf sig ts u (left ++ right)

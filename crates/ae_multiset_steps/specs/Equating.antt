@@ -8,6 +8,7 @@ use Rattle.ae_core.specs.declared.problems.Signature.{Signature}
 use Rattle.ae_multiset.specs.Multisets.{IsSame}
 use Rattle.ae_store.specs.Parts.{IsIn}
 use Rattle.ae_just.specs.Needed.{RestsOn}
+use Rattle.ae_just.specs.Steps.{IsSymbolOfNames}
 use Rattle.ae_just.specs.declared.steps.Rule.TheVariants as rule
 use Rattle.ae_just.specs.declared.steps.Step.{Step}
 use Rattle.ae_state_steps.specs.ManySteps.{IsSymbolOn, IsOfSort, StatesMany, StatesNames}
@@ -23,10 +24,11 @@ pub record IsUnder (steps : List Step) (given : List ℕ) (k : ℕ) (s : Step) :
 pub record RestsOnThese (old new : List Step) (id : ℕ) (given : List ℕ) : Type 0 where
   pub each : (k tag : ℕ) (s : Step) → RestsOn new id k → slice_get new k ≡ Some s → s.rule ≡ rule.Hyp tag → IsUnder old given k s
 
--- the symbol joins names of one sort to one of it, and these are such names
+-- the symbol joins names of one sort to one of it, and these are such names; it is declared, or a name isn't plain
 pub record AreNamesOf (sig : Signature) (ts : List Term) (u : AcSymbol) (names : List ℕ) : Type 0 where
   pub sort : Sort
   pub symbol : IsSymbolOn sig u sort
+  pub of_names : IsSymbolOfNames sig ts u.head
   pub sorted : AllByRecursion (IsOfSort sig ts sort) names
 
 -- the steps of these numbers equate the names of the left list with those of the right one, place by place

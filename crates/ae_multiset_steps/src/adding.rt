@@ -3,7 +3,7 @@ ghost use Rattle.std.specs.Prelude.{◌≡◌, ◌++◌, ◌∷◌, [], IfOk};
 ghost use Rattle.ae_store.specs.Growing.{IsFront};
 ghost use Rattle.ae_store.specs.Shapes.{shapes};
 ghost use Rattle.ae_store.specs.Terms.{terms};
-ghost use Rattle.ae_just.specs.Steps.{Fits, IsAllowedStep, premises, tag_of};
+ghost use Rattle.ae_just.specs.Steps.{AreRuleFactorsWithin, Fits, IsAllowedStep, IsSymbolOfNames, premises, tag_of};
 ghost use Rattle.ae_just.specs.declared.steps.Side.TheVariants as side;
 ghost use Rattle.ae_state_steps.specs.ManySteps.{StatesMany};
 ghost use Rattle.ae_multiset_steps.specs.Equating.{RestsOnThese};
@@ -69,6 +69,8 @@ pub(crate) fn add_many(
     requires fits { Fits store.now.signature (terms (shapes store.now.nodes)) justs.old }
     requires allowed { IsAllowedStep store.now.signature (terms (shapes store.now.nodes)) justs.old
         (record { left = side.Many symbol.now left.now; right = side.Many symbol.now right.now; rule = rule }) }
+    requires built { IsSymbolOfNames store.now.signature (terms (shapes store.now.nodes)) symbol.now.head }
+    requires factors { AreRuleFactorsWithin rule }
     requires assumes { tag_of rule ≡ [] }
     ensures states { IfOk result (λ id. StatesMany justs.new id symbol.now left.now right.now) }
     ensures rests { IfOk result (λ id. RestsOnThese justs.old justs.new id (premises rule)) }

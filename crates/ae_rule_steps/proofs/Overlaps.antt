@@ -85,7 +85,7 @@ module _ (sig : Signature) (ts : List Term) (steps : List Step) (u : AcSymbol) (
         let all2 : AllByRecursion P l2 = subst (λ (t : Sort). AllByRecursion (IsOfSort sig ts t) l2) one_sort (all_front (IsOfSort sig ts o.names2.sort) l2 r2 o.names2.sorted) in
         let below : (x : ℕ) → count x rest < count x l2 + 1 = λ x. (let b = r.each x in omega (arith, b, count-minus x l2 shared)) in
         record {
-          names = record { sort = s; symbol = o.names1.symbol; sorted = all_append P (l1 ++ r1) rest o.names1.sorted (all_of_part P rest l2 (λ x. (let b = below x in omega (arith, b))) all2) };
+          names = record { sort = s; symbol = o.names1.symbol; of_names = o.names1.of_names; sorted = all_append P (l1 ++ r1) rest o.names1.sorted (all_of_part P rest l2 (λ x. (let b = below x in omega (arith, b))) all2) };
           states = o.states1;
           left_some = o.some1.0;
           right_some = o.some1.1;
@@ -106,7 +106,7 @@ module _ (sig : Signature) (ts : List Term) (steps : List Step) (u : AcSymbol) (
         let all1 : AllByRecursion P l1 = subst (λ (s : Sort). AllByRecursion (IsOfSort sig ts s) l1) (sym one_sort) (all_front (IsOfSort sig ts o.names1.sort) l1 r1 o.names1.sorted) in
         let below : (x : ℕ) → count x rest < count x l1 + 1 = λ x. (let b = r.each x in omega (arith, b, count-minus x l1 shared)) in
         record {
-          names = record { sort = t; symbol = o.names2.symbol; sorted = all_append P (l2 ++ r2) rest o.names2.sorted (all_of_part P rest l1 (λ x. (let b = below x in omega (arith, b))) all1) };
+          names = record { sort = t; symbol = o.names2.symbol; of_names = o.names2.of_names; sorted = all_append P (l2 ++ r2) rest o.names2.sorted (all_of_part P rest l1 (λ x. (let b = below x in omega (arith, b))) all1) };
           states = o.states2;
           left_some = o.some2.0;
           right_some = o.some2.1;

@@ -99,9 +99,9 @@ pub same_spelled : (names first : List ℕ) → first ≡ rising names → IsSam
 same_spelled names first e = record { each = λ x. sym (ap (count x) e ∙ count-rising x names) }
 
 pub names_spelled : (sig : Signature) (ts : List Term) (symbol : AcSymbol) (names first : List ℕ) → first ≡ rising names → AreNamesOf sig ts symbol names → AreNamesOf sig ts symbol first
-names_spelled sig ts symbol names first e a = record { sort = a.sort; symbol = a.symbol; sorted = all_same (IsOfSort sig ts a.sort) first names (back (same_spelled names first e)) a.sorted }
+names_spelled sig ts symbol names first e a = record { sort = a.sort; symbol = a.symbol; of_names = a.of_names; sorted = all_same (IsOfSort sig ts a.sort) first names (back (same_spelled names first e)) a.sorted }
 
 pub names_twice : (sig : Signature) (ts : List Term) (symbol : AcSymbol) (names first : List ℕ) → first ≡ rising names → AreNamesOf sig ts symbol names → AreNamesOf sig ts symbol (names ++ first)
 names_twice sig ts symbol names first e a =
     let P = IsOfSort sig ts a.sort in
-    record { sort = a.sort; symbol = a.symbol; sorted = all_append P names first a.sorted (all_same P first names (back (same_spelled names first e)) a.sorted) }
+    record { sort = a.sort; symbol = a.symbol; of_names = a.of_names; sorted = all_append P names first a.sorted (all_same P first names (back (same_spelled names first e)) a.sorted) }

@@ -52,7 +52,7 @@ module _ (sig : Signature) (ts : List Term) where
       let e = one_sort left names a.sort b.sort (omega (arith, two)) p (all_front (IsOfSort sig ts a.sort) left right a.sorted) b.sorted in
       let P = IsOfSort sig ts b.sort in
       let both : AllByRecursion P (left ++ right) = subst (λ (s : Sort). AllByRecursion (IsOfSort sig ts s) (left ++ right)) (sym e) a.sorted in
-      record { sort = b.sort; symbol = b.symbol; sorted = all_append P (left ++ right) rest both (all_of_part P rest names (rest_below left names rest r) b.sorted) }
+      record { sort = b.sort; symbol = b.symbol; of_names = b.of_names; sorted = all_append P (left ++ right) rest both (all_of_part P rest names (rest_below left names rest r) b.sorted) }
 
   pub turn_rewrites : (steps : List Step) (rule : Kept) (u : AcSymbol) (names rest result : List ℕ) → IsWellKept rule → rule.entry.symbol ≡ u → IsSaid sig ts steps rule → AreNamesOf sig ts u names → IsPart rule.entry.left names
       → IsSame rest (minus names rule.entry.left) → IsSame result (rule.entry.right ++ rest) → IsRewriting sig ts steps u rule.entry.left rule.entry.right rule.just rest result
@@ -72,7 +72,7 @@ module _ (sig : Signature) (ts : List Term) where
       let n = w.names in
       let P = IsOfSort sig ts n.sort in
       let both = all_front P (left ++ right) rest n.sorted in
-      record { sort = n.sort; symbol = n.symbol; sorted = all_same P result (right ++ rest) w.after (all_append P right rest (all_back P left right both) (all_back P (left ++ right) rest n.sorted)) }
+      record { sort = n.sort; symbol = n.symbol; of_names = n.of_names; sorted = all_same P result (right ++ rest) w.after (all_append P right rest (all_back P left right both) (all_back P (left ++ right) rest n.sorted)) }
 
   -- the same with the rule's sides as lists that are equal to them
   pub rewrites_at : (steps : List Step) (rule : Kept) (u : AcSymbol) (names left right rest result : List ℕ) → left ≡ rule.entry.left → right ≡ rule.entry.right → IsWellKept rule → rule.entry.symbol ≡ u → IsSaid sig ts steps rule

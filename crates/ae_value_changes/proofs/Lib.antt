@@ -1,4 +1,4 @@
 mod Maps
 mod Kept
-mod Puts
+pub mod Puts
 mod Mapping

@@ -51,7 +51,7 @@ key_by : (P : ℕ → Type 0) (k key : ℕ) (x y : ℚ) (c : Dec (key ≡ k)) �
 key_by P k key x y (yes e) here further n = subst P e here
 key_by P k key x y (no e) here further n = further n
 
-key_there : (P : ℕ → Type 0) (d : ℤ) (k : ℕ) (ps : List Part) → AllByRecursion (λ p. P p.key) ps → ¬ (factor_in ℕ_discrete (map (λ p. (p.key, ratio p.factor d)) ps) k ≡ zero_ℚ) → P k
+pub key_there : (P : ℕ → Type 0) (d : ℤ) (k : ℕ) (ps : List Part) → AllByRecursion (λ p. P p.key) ps → ¬ (factor_in ℕ_discrete (map (λ p. (p.key, ratio p.factor d)) ps) k ≡ zero_ℚ) → P k
 key_there P d k [] a n = absurd (n refl)
 key_there P d k (p ∷ ps) a n =
     key_by P k p.key (ratio p.factor d +ℚ factor_in ℕ_discrete (map (λ p. (p.key, ratio p.factor d)) ps) k) (factor_in ℕ_discrete (map (λ p. (p.key, ratio p.factor d)) ps) k) (ℕ_discrete p.key k) a.0 (key_there P d k ps a.1) n
@@ -76,7 +76,7 @@ leaf_sort sig y s o n a b = let z : a.term ≡ b.term = same_Some a.term b.term 
 
 -- ---- a number
 module _ (x : Held) (s : Sort) (name : ℕ) (q : Lin) (vs : List Value) (put : IsNumberPut x s name q vs) where
-  abbrev T : Form ℕ → Form ℕ
+  abbrev pub T : Form ℕ → Form ℕ
   T f = substitute ℕ_discrete f name (meaning q)
 
   is_map : IsMap T
@@ -87,10 +87,10 @@ module _ (x : Held) (s : Sort) (name : ℕ) (q : Lin) (vs : List Value) (put : I
     fixed = λ c. substitute_absent ℕ_discrete (number c) name (meaning q) refl;
   }
 
-  no_name : factor ℕ_discrete (meaning q) name ≡ zero_ℚ
+  pub no_name : factor ℕ_discrete (meaning q) name ≡ zero_ℚ
   no_name = none_there q.den name q.parts put.other
 
-  abbrev Own : Sort → ℕ → Type 0
+  abbrev pub Own : Sort → ℕ → Type 0
   Own o k = IsOwnNumber x.signature (system_of x) o k
 
   key_own : (o : Sort) (f : Lin) (k : ℕ) → AllByRecursion (λ p. Own o p.key) f.parts → ¬ (factor ℕ_discrete (meaning f) k +ℚ factor ℕ_discrete (meaning f) name *ℚ factor ℕ_discrete (meaning q) k ≡ zero_ℚ) → Own o k
@@ -109,7 +109,7 @@ module _ (x : Held) (s : Sort) (name : ℕ) (q : Lin) (vs : List Value) (put : I
       by_factor (yes e) = of_value e
       by_factor (no e) = key_there (Own o) f.den k f.parts over e
 
-  keys : (o : Sort) (f g : Lin) → AllByRecursion (λ p. Own o p.key) f.parts → IsNormal g → SameMeaning (meaning g) (T (meaning f))
+  pub keys : (o : Sort) (f g : Lin) → AllByRecursion (λ p. Own o p.key) f.parts → IsNormal g → SameMeaning (meaning g) (T (meaning f))
       → AllByRecursion (λ p. Own o p.key × SameMeaning (T (single p.key)) (single p.key)) g.parts
   keys o f g over normal same =
       each_key (λ k. Own o k × SameMeaning (T (single k)) (single k)) g.parts normal.rising normal.nonzero

@@ -1,4 +1,5 @@
 pub mod Added
 mod Allowances
+mod Factors
 mod Quotients
 mod Readings

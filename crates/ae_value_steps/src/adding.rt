@@ -1,8 +1,9 @@
 //! One step that is added.
-ghost use Rattle.std.specs.Prelude.{◌≡◌, pos, [], ◌∷◌, map, IfOk, OnErr};
+ghost use Rattle.std.specs.Prelude.{◌≡◌, ◌⊎◌, true, pos, [], ◌∷◌, map, IfOk, OnErr};
 ghost use Rattle.ae_store.specs.Shapes.{shapes};
 ghost use Rattle.ae_store.specs.Terms.{terms};
 ghost use Rattle.ae_just.specs.Steps.{Fits, IsAllowedStep};
+ghost use Rattle.ae_rules.specs.Built.{AreFactorsWithin, HasIntegers};
 ghost use Rattle.ae_just.specs.declared.steps.Side.TheVariants as side;
 ghost use Rattle.ae_state_steps.specs.ValueSteps.{times_of, value_side, name_side, value_step, zero_step, equal_step};
 ghost use Rattle.ae_value_steps.specs.Stating.{AddsStep};
@@ -98,6 +99,8 @@ pub(crate) fn add_value(
 ) -> Result<usize, AllocError>
     requires fits { Fits store.now.signature (terms (shapes store.now.nodes)) justs.old }
     requires allowed { IsAllowedStep store.now.signature (terms (shapes store.now.nodes)) justs.old (value_step real name value.now times parts) }
+    requires factors { AreFactorsWithin times parts }
+    requires numbers { (real ≡ true) ⊎ HasIntegers store.now.signature (terms (shapes store.now.nodes)) }
     ensures added { IfOk result (λ id. AddsStep justs.old justs.new id (name_side real name value.now) (value_side real value.now) (map (λ p. p.line) parts)) }
     ensures err { OnErr result (justs.new ≡ justs.old) }
     ensures fits { Fits store.now.signature (terms (shapes store.now.nodes)) justs.new }
@@ -132,6 +135,8 @@ pub(crate) fn add_zero(
 ) -> Result<usize, AllocError>
     requires fits { Fits store.now.signature (terms (shapes store.now.nodes)) justs.old }
     requires allowed { IsAllowedStep store.now.signature (terms (shapes store.now.nodes)) justs.old (zero_step real form.now times parts) }
+    requires factors { AreFactorsWithin times parts }
+    requires numbers { (real ≡ true) ⊎ HasIntegers store.now.signature (terms (shapes store.now.nodes)) }
     ensures added { IfOk result (λ id. AddsStep justs.old justs.new id (value_side real form.now) (side.Sum [] (pos 0) real) (map (λ p. p.line) parts)) }
     ensures err { OnErr result (justs.new ≡ justs.old) }
     ensures fits { Fits store.now.signature (terms (shapes store.now.nodes)) justs.new }
@@ -164,6 +169,7 @@ pub(crate) fn add_equal(
 ) -> Result<usize, AllocError>
     requires fits { Fits store.now.signature (terms (shapes store.now.nodes)) justs.old }
     requires allowed { IsAllowedStep store.now.signature (terms (shapes store.now.nodes)) justs.old (equal_step left right times parts) }
+    requires factors { AreFactorsWithin times parts }
     ensures added { IfOk result (λ id. AddsStep justs.old justs.new id (side.Name left) (side.Name right) (map (λ p. p.line) parts)) }
     ensures err { OnErr result (justs.new ≡ justs.old) }
     ensures fits { Fits store.now.signature (terms (shapes store.now.nodes)) justs.new }

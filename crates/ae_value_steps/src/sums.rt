@@ -155,6 +155,7 @@ pub fn state_multiple(
     requires fits { Fits store.now.signature (terms (shapes store.now.nodes)) justs.old }
     requires written { IsWritten store.now.signature (terms (shapes store.now.nodes)) real name value.now }
     requires of { IsStated store.now.signature (terms (shapes store.now.nodes)) justs.old real of.now.name of.now.value.now of.now.step }
+    requires top { FitsLimits top }
     requires bottom { pos 0 <ℤ bottom }
     requires is { let ts = terms (shapes store.now.nodes) in IsSame (form (named ts name)) (scale_form (ratio top bottom) (form (named ts of.now.name))) }
     requires multiple { SameMeaning (meaning value.now) (scale_form (ratio top bottom) (meaning of.now.value.now)) }

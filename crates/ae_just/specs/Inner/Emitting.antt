@@ -1,5 +1,7 @@
 -- Lines for the first ones of the steps that are needed.
 use Rattle.std.specs.Prelude.{ℕ, suc, ◌<◌, cond, nat_eq, List, [], ◌∷◌, ◌≡◌, take, length, slice_get, Some}
+use Rattle.std.specs.List.{AllByRecursion}
+use Rattle.ae_rules.specs.Built.{HasFactorsWithin}
 use Rattle.ae_rules.specs.Lines.{Stated, AllAllowed, fact_ok}
 use Rattle.ae_core.specs.declared.terms.Term.{Term}
 use Rattle.ae_core.specs.declared.formulas.Lit.{Lit}
@@ -18,4 +20,5 @@ pub record IsEmitted (sig : Signature) (ts : List Term) (steps : List Step) (ks 
   pub long : length lines ≡ i
   pub count_is : count ≡ length (literals ts steps (take i ks))
   pub allowed : AllAllowed sig (fact_ok sig) hyps [] lines
+  pub factors : AllByRecursion HasFactorsWithin lines
   pub stated : (j k : ℕ) (s : Step) → j < i → slice_get ks j ≡ Some k → slice_get steps k ≡ Some s → Stated lines j (fact_of ts s)

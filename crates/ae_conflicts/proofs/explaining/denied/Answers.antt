@@ -16,9 +16,10 @@ alone-requires c = record { there = (_, c.requires.own.tag, c.requires.own.denie
 pub returns : goal.returns
 returns c =
     let sig = c.args.store.now.signature in
+    let ts = terms (shapes c.args.store.now.nodes) in
     let held = present c.args.assumed.now in
     let d = c.in_ok-first.ensures in
-    let from : IsFrom sig held c.in_ok-first.first = record { allowed = d.allowed; sorted = d.sorted; tags = d.tags held (c.requires.own.says).rests } in
-    subst (λ e. IsExplained sig held e) (sym c.ended.ensures)
+    let from : IsFrom sig ts held c.in_ok-first.first = record { allowed = d.allowed; sorted = d.sorted; built = d.built; tags = d.tags held (c.requires.own.says).rests } in
+    subst (λ e. IsExplained sig ts held e) (sym c.ended.ensures)
     (denied_block sig (terms (shapes c.args.store.now.nodes)) c.args.justs.now held c.requires.fits c.args.step c.in_ok-first.first _ from d.stated (ap (λ n. n - 1) c.len-line.ensures) c.args.literal _ c.in_ok-second.second
     c.in_ok-all.all c.requires.own c.in_ok-second.ensures.hyps c.in_ok-second.ensures.tags c.in_ok-second.ensures.lines c.in_ok-all.ensures c.len-hyp.ensures)

@@ -9,3 +9,6 @@ returns-clause-sorted c = IfOk-weaker c.explained_by.result _ _ (λ e x. x.sorte
 
 pub returns-clause-tags : goal.returns-clause-tags
 returns-clause-tags c = IfOk-weaker c.explained_by.result _ _ (λ e x. x.tags) c.explained_by.ensures
+
+pub returns-clause-built : goal.returns-clause-built
+returns-clause-built c = IfOk-weaker c.explained_by.result _ _ (λ e x. x.built) c.explained_by.ensures

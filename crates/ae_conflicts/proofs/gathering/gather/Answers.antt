@@ -28,5 +28,5 @@ returns c =
     let there : slice_get ids c.args.at ≡ Some id = slice_get-get_or ids c.args.at 0 c.requires.at in
     let w = say_at ts c.args.justs.now held ids own.args own.others own.say c.args.at id there in
     let d = c.in_ok-next.ensures in
-    let from : IsFrom sig held c.in_ok-next.next = record { allowed = d.allowed; sorted = d.sorted; tags = d.tags held (w.says).rests } in
+    let from : IsFrom sig ts held c.in_ok-next.next = record { allowed = d.allowed; sorted = d.sorted; built = d.built; tags = d.tags held (w.says).rests } in
     one_gathered sig ts c.args.justs.now held c.args.positive c.args.negative ids own c.args.at id c.args.gathered c.in_ok-next.next c.in_ok-derived.derived _ _ there c.requires.gathered from d.stated c.in_ok-derived.ensures (ap (λ n. n - 1) c.len.ensures) (search rules)

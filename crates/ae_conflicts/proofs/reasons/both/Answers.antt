@@ -9,4 +9,5 @@ returns c = record {
   before = c.in_ok-deriv.ensures.before;
   after = c.in_ok-deriv.ensures.after;
   allowed = c.in_ok-deriv.ensures.allowed;
+  factors = c.in_ok-deriv.ensures.factors;
 }

@@ -14,3 +14,9 @@ add-requires-clause-allowed c =
 pub returns-clause-added : goal.returns-clause-added
 returns-clause-added c =
     added_by c.add.result c.args.justs.now c.add.new.self (record { left = side.Name c.args.left; right = side.Name c.args.right; rule = rule.Cong c.args.steps }) c.args.steps c.add.ensures.ok c.add.ensures.number refl refl
+
+pub add-requires-clause-built : goal.add-requires-clause-built
+add-requires-clause-built c = (tt, tt)
+
+pub add-requires-clause-factors : goal.add-requires-clause-factors
+add-requires-clause-factors c = tt

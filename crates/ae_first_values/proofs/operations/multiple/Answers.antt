@@ -4,6 +4,7 @@ use Rattle.ae_math.specs.Fractions.{ℚ, ratio}
 use Rattle.ae_math.specs.Forms.{scale as scale_form}
 use Rattle.ae_rules.specs.Linear.{form, IsSame}
 use Rattle.ae_num.specs.Forms.{meaning, SameMeaning}
+use Rattle.ae_num.specs.Limits.{FitsLimits}
 use Rattle.ae_num.proofs.ReductionLaws.{read_back}
 use Rattle.ae_store.specs.Shapes.{shapes}
 use Rattle.ae_store.specs.Terms.{terms, named}
@@ -16,6 +17,9 @@ scale-requires-clause-bottom c = subst (λ (z : ℤ). pos 0 <ℤ z) (sym (read_b
 
 pub state_multiple-requires-clause-bottom : goal.state_multiple-requires-clause-bottom
 state_multiple-requires-clause-bottom c = subst (λ (z : ℤ). pos 0 <ℤ z) (sym (read_back c.args.by.now.den c.requires.by.within.0)) c.requires.by.positive
+
+pub state_multiple-requires-clause-top : goal.state_multiple-requires-clause-top
+state_multiple-requires-clause-top c = subst FitsLimits (sym (read_back c.args.by.now.constant c.requires.by.within.1.0)) c.requires.by.within.1.0
 
 pub state_multiple-requires-clause-written : goal.state_multiple-requires-clause-written
 state_multiple-requires-clause-written c =

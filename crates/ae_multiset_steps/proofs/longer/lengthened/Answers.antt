@@ -17,3 +17,9 @@ add_many-requires-clause-allowed c =
 
 pub returns-clause-rests : goal.returns-clause-rests
 returns-clause-rests c = subst (λ (ps : List ℕ). IfOk c.add_many.result (λ id. RestsOnThese c.args.justs.now c.add_many.new.justs id ps)) c.in_ok-premises.ensures c.add_many.ensures.rests
+
+pub add_many-requires-clause-built : goal.add_many-requires-clause-built
+add_many-requires-clause-built c = c.requires.sorted.of_names
+
+pub add_many-requires-clause-factors : goal.add_many-requires-clause-factors
+add_many-requires-clause-factors c = tt

@@ -26,3 +26,9 @@ returns-clause-rests c =
     (λ id h. rests_through_two old mid new id step same (step ∷ []) h
     (rests_as_before old mid c.itself.ensures.kept (rest_on_earlier c.args.store.now.signature (terms (shapes c.args.store.now.nodes)) mid c.itself.ensures.fits.allowed) step (slice_get_within old step _ c.requires.states.there))
     (rests_through_none old old mid same (step ∷ []) c.in_ok-same.ensures.rests)) c.add_many.ensures.rests
+
+pub add_many-requires-clause-built : goal.add_many-requires-clause-built
+add_many-requires-clause-built c = c.requires.names.of_names
+
+pub add_many-requires-clause-factors : goal.add_many-requires-clause-factors
+add_many-requires-clause-factors c = tt

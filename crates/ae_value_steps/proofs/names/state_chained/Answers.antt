@@ -5,3 +5,9 @@ use Rattle.ae_value_steps.proofs.names.state_chained.Goals as goal
 
 pub add-requires-clause-allowed : goal.add-requires-clause-allowed
 add-requires-clause-allowed c = chained_step c.args.store.now.signature (terms (shapes c.args.store.now.nodes)) c.args.justs.now c.requires.fits c.args.left c.requires.equal.0 c.args.right c.args.first c.args.second c.requires.equal.1 c.requires.equal.2
+
+pub add-requires-clause-built : goal.add-requires-clause-built
+add-requires-clause-built c = (tt, tt)
+
+pub add-requires-clause-factors : goal.add-requires-clause-factors
+add-requires-clause-factors c = tt

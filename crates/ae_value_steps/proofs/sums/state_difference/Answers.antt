@@ -8,7 +8,9 @@ use mir.Syntax.{w128}
 use mir.Val.{SFits}
 use Rattle.ae_store.specs.Shapes.{shapes}
 use Rattle.ae_store.specs.Terms.{terms}
-use Rattle.ae_value_steps.proofs.Readings.{difference_allowed}
+use Rattle.ae_just.proofs.BuiltSides.{numbers_of}
+use Rattle.ae_value_steps.proofs.Readings.{r, difference_allowed}
+use Rattle.ae_value_steps.proofs.Factors.{positive_fits, negated_fits, read_fits, two_factors}
 use Rattle.ae_value_steps.proofs.sums.state_difference.Goals as goal
 
 pub add_value-requires-clause-allowed : goal.add_value-requires-clause-allowed
@@ -22,3 +24,12 @@ add_value-requires-clause-allowed c =
 pub returns-clause-added : goal.returns-clause-added
 returns-clause-added c =
     subst (λ (ps : List Scaled). IfOk c.add_value.result (λ id. AddsStep c.args.justs.now c.add_value.new.justs id (name_side c.args.real c.args.name c.args.value.now) (value_side c.args.real c.args.value.now) (map (λ p. p.line) ps))) c.in_ok-parts.ensures c.add_value.ensures.added
+
+pub add_value-requires-clause-numbers : goal.add_value-requires-clause-numbers
+add_value-requires-clause-numbers c = numbers_of c.args.store.now.signature (terms (shapes c.args.store.now.nodes)) c.args.real c.args.name c.requires.written.name
+
+pub add_value-requires-clause-factors : goal.add_value-requires-clause-factors
+add_value-requires-clause-factors c =
+    let fq : SFits w128 c.quotient-times.result = search rules in
+    two_factors (r c.quotient-times.result) _ _ _ _ _ (positive_fits c.quotient-times.result c.quotient-times.ensures.positive fq)
+    (read_fits c.args.right.now.value.now.den c.requires.right.written.normal.within.0) (negated_fits c.negated.result c.args.left.now.value.now.den c.negated.ensures c.requires.left.written.normal.within.0) c.in_ok-parts.ensures
