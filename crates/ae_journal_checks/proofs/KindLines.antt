@@ -56,7 +56,7 @@ use Rattle.ae_journal_checks.proofs.KindMatch.{matched}
 use Rattle.ae_journal_checks.proofs.KindRows.{combines}
 use Rattle.ae_journal_checks.proofs.BackJournal.{signs, formula_of}
 use Rattle.ae_journal_checks.proofs.NoBlocks.{nothing}
-use Rattle.ae_journal_checks.proofs.RuleJournal.{leaf_meaning, leaf_forms}
+use Rattle.ae_journal_checks.proofs.RuleJournal.{leaf_meaning, leaf_forms, two_rise, one_rises}
 
 -- ---- lines that aren't among some
 abbrev Lacks : List Line → Line → Type 0
@@ -404,15 +404,15 @@ every_kind_is_legal bound h = (
       (
         decides (λ f. 0),
         (
-          orients_first (λ f. 0),
+          (orients_first (λ f. 0), two_rise 0 1 (omega arith), one_rises 2),
           (
-            orients_second (λ f. 0),
+            (orients_second (λ f. 0), two_rise 0 3 (omega arith), one_rises 4),
             (
               may_pair,
               (
                 solves (λ f. 0),
                 (
-                  drops (λ f. 0),
+                  (drops (λ f. 0), one_rises 4),
                   (instantiates_type (λ f. 0) bound h, (instantiates_term (λ f. 0) bound h, (learns (λ f. 0), (goes_back (λ f. 0), tt)))),
                 ),
               ),

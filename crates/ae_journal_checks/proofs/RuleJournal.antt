@@ -1,6 +1,7 @@
 -- The journals of the example are legal; the one of one rule isn't with its line repeated.
 use Rattle.std.proofs.Common.{◌≡◌, ℕ, ◌≤◌, List, [], ◌∷◌, ◌++◌, slice_get, true, false, Some, refl, sym, ◌∙◌, ap, subst, arith, inl, inr}
 use Rattle.std.specs.List.{AllByRecursion, Contains}
+use Rattle.std.specs.List.Sorted.{IsNonDecreasing}
 use Rattle.ae_base.proofs.Decided.{decided_of}
 use Rattle.ae_core.specs.Decided.{Sort_discrete}
 use Rattle.ae_core.specs.Sorts.{same_known}
@@ -16,6 +17,7 @@ use Rattle.ae_rules.specs.Derivations.{goal_body}
 use Rattle.ae_rules.specs.Lines.{equal, fact_ok}
 use Rattle.ae_rules.specs.Lines.Follows.{by_hyp}
 use Rattle.ae_multiset.specs.Multisets.{count, IsPart}
+use Rattle.ae_multiset.proofs.Rising.{non_decreasing}
 use Rattle.ae_num.specs.Forms.{IsNormal}
 use Rattle.ae_num.specs.declared.forms.Lin.{Lin}
 use Rattle.ae_num.specs.declared.forms.Value.{Leaf, fold-roll-Value}
@@ -40,7 +42,7 @@ use Rattle.ae_journal.specs.Legal.{setting}
 use Rattle.ae_journal.proofs.Splits.{contains_one, contains_cases, contains_here, contains_later}
 use Rattle.ae_journal.proofs.Refusals.{no_second_rule, some_pair}
 use Rattle.ae_journal_checks.specs.Examples.{T, signature, names, problem, story, longer_story, symbol, rule_line, second_rule, pair_line, solve_line, u, goal, first_equation, others}
-use Rattle.ae_journal_checks.specs.Laws.{OneRuleIsLegal, RepeatedRuleIsRefused, NothingIsCounted, FourLinesAreLegal}
+use Rattle.ae_journal_checks.specs.Laws.{OneRuleIsLegal, RepeatedRuleIsRefused, FallingRuleIsRefused, NothingIsCounted, FourLinesAreLegal}
 use Rattle.ae_journal_checks.proofs.Terms.{a, b, ab, d, ad, c, sort_ab, sort_c, each_name, name_value, names_apart, own_representative, same_leaf}
 use Rattle.ae_journal_checks.proofs.Entered.{goal_is_formula, a_is_name, b_is_name, ab_is_name, c_is_name, d_is_name, ad_is_name}
 use Rattle.ae_journal_checks.proofs.NoBlocks.{own_constants, NoInstance, NoBlock, equation, negation, either}
@@ -81,6 +83,13 @@ leaf_meaning n = ap meaning (sym (rolls-Leaf n)) ∙ fold-roll-Value Val meaning
 pub leaf_forms : (n : ℕ) → forms_in (Leaf n) ≡ []
 unfolding forms_in
 leaf_forms n = ap forms_in (sym (rolls-Leaf n)) ∙ fold-roll-Value (List Lin) forms_step (value_layer.Leaf n)
+
+-- ---- lists that rise
+pub two_rise : (a b : ℕ) → a ≤ b → IsNonDecreasing (a ∷ b ∷ [])
+two_rise a b l = non_decreasing (a ∷ b ∷ []) ((l, tt), (tt, tt))
+
+pub one_rises : (a : ℕ) → IsNonDecreasing (a ∷ [])
+one_rises a = non_decreasing (a ∷ []) (tt, tt)
 
 module _ (fresh : Formula → ℕ) where
   abbrev x : Setting
@@ -207,13 +216,16 @@ one_rule_is_legal bound = (
     apart = names_apart;
     entered = all_names story.lines;
     constants = own_constants problem no_block_in_goal names (λ f. 0) story.lines (rule_is_none (0 ∷ 1 ∷ []) (2 ∷ []) [] no_line);
-    lines = (comes (λ f. 0), tt);
+    lines = ((comes (λ f. 0), two_rise 0 1 (omega arith), one_rises 2), tt);
   },
   refl,
 )
 
 pub repeated_rule_is_refused : RepeatedRuleIsRefused
-repeated_rule_is_refused bound fresh l = no_second_rule (setting problem 0 story fresh) (rule_line ∷ []) symbol (0 ∷ 1 ∷ []) (2 ∷ []) (2 ∷ []) (stands fresh) (l.1).0
+repeated_rule_is_refused bound fresh l = no_second_rule (setting problem 0 story fresh) (rule_line ∷ []) symbol (0 ∷ 1 ∷ []) (2 ∷ []) (2 ∷ []) (stands fresh) ((l.1).0).0
+
+pub falling_rule_is_refused : FallingRuleIsRefused
+falling_rule_is_refused bound fresh l = let h : 1 ≤ 0 = (l.0).1 0 1 0 (omega arith) (omega arith) in omega (arith, h)
 
 pub nothing_is_counted : NothingIsCounted
 nothing_is_counted e = omega (arith, e)
@@ -225,7 +237,10 @@ four_lines_are_legal bound = (
     apart = names_apart;
     entered = all_names longer_story.lines;
     constants = own_constants problem no_block_in_goal names (λ f. 0) longer_story.lines four_lines;
-    lines = (comes (λ f. 0), (comes_second (λ f. 0), (some_pair symbol, (comes_solve (λ f. 0), tt))));
+    lines = (
+      (comes (λ f. 0), two_rise 0 1 (omega arith), one_rises 2),
+      ((comes_second (λ f. 0), two_rise 0 3 (omega arith), one_rises 4), (some_pair symbol, (comes_solve (λ f. 0), tt))),
+    );
   },
   refl,
 )

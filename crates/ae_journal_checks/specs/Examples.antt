@@ -183,6 +183,10 @@ whole z = record { den = pos 1; parts = []; constant = z }
 abbrev pub sum_of : ℤ → WideAt
 sum_of z = record { step = step.Plus; left = whole z; key = None; right = whole z; wide = record { op = num_op.Add; left = z; right = z } }
 
+-- ---- the rule of the first journal, with its left side written falling
+abbrev pub falling_line : Line
+falling_line = line.Orient (oriented.Rule symbol (1 ∷ 0 ∷ []) (2 ∷ []))
+
 -- ---- the first journal with its line twice
 abbrev pub repeated_story : Story
 repeated_story = record { names = names; lines = rule_line ∷ rule_line ∷ [] }

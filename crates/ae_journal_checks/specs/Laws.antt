@@ -20,7 +20,7 @@ use Rattle.ae_journal.specs.declared.lines.Story.{Story}
 use Rattle.ae_journal.specs.Legal.{IsLegalLine, AreLegal, IsLegalJournal, setting}
 use Rattle.ae_journal_checks.specs.Examples.{problem, names, story, longer_story, choice_problem, choice_story, true_problem, true_story, back_problem, back_story}
 use Rattle.ae_journal_checks.specs.EveryKind as kinds
-use Rattle.ae_journal_checks.specs.Examples.{instance_problem, instance_story, instance_line, rule_line, repeated_story, sum_problem, empty_story, sum_of, greatest}
+use Rattle.ae_journal_checks.specs.Examples.{instance_problem, instance_story, instance_line, rule_line, falling_line, repeated_story, sum_problem, empty_story, sum_of, greatest}
 
 -- the journal is legal for each bound, with exactly one counted line
 abbrev pub OneRuleIsLegal : Type 0
@@ -32,6 +32,10 @@ RepeatedRuleIsRefused = (bound : ℕ) (fresh : Formula → ℕ) → ¬ AreLegal 
 
 abbrev pub NothingIsCounted : Type 0
 NothingIsCounted = counted_in [] ≢ 1
+
+-- a rule is refused whose multisets aren't written rising
+abbrev pub FallingRuleIsRefused : Type 0
+FallingRuleIsRefused = (bound : ℕ) (fresh : Formula → ℕ) → ¬ AreLegal (setting problem 0 story fresh) bound [] (falling_line ∷ [])
 
 -- the longer journal is legal: two rules, their pair and a name with a new value, four counted lines
 abbrev pub FourLinesAreLegal : Type 0

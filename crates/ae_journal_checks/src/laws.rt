@@ -1,5 +1,5 @@
 //! Laws of examples.
-ghost use Rattle.ae_journal_checks.specs.Laws.{OneRuleIsLegal, RepeatedRuleIsRefused, NothingIsCounted, FourLinesAreLegal, OneDecisionIsLegal, OneInstanceMayCome, OneLearntClauseIsLegal, GoingBackIsLegal, EveryKindIsLegal};
+ghost use Rattle.ae_journal_checks.specs.Laws.{OneRuleIsLegal, RepeatedRuleIsRefused, FallingRuleIsRefused, NothingIsCounted, FourLinesAreLegal, OneDecisionIsLegal, OneInstanceMayCome, OneLearntClauseIsLegal, GoingBackIsLegal, EveryKindIsLegal};
 ghost use Rattle.ae_journal_checks.specs.Laws.{StepsAnswer, OtherLimitIsRefused, RepetitionIsRefused, OmissionIsRefused, WidthAnswers, NoWidthIsRefused, NamelessCombinationIsRefused, OwnFormsAreRefused, EmptyProofIsRefused};
 ghost use Rattle.ae_journal_checks.specs.Laws.{NoLargerLeaf, NoSumWithItself, NoRecordIsSolved, NoSecondCombination};
 
@@ -11,6 +11,11 @@ pub fn one_rule_is_legal()
 /// With its line repeated it is not.
 pub fn repeated_rule_is_refused()
     ensures { RepeatedRuleIsRefused }
+{}
+
+/// A rule with a multiset that isn't written rising is refused.
+pub fn falling_rule_is_refused()
+    ensures { FallingRuleIsRefused }
 {}
 
 /// Without its line nothing is counted.

@@ -1,12 +1,12 @@
-mod Wider
-mod Items
-mod Parts
-mod Sorted
-mod Direct
-mod Lasting
-mod Symbols
-mod Lines
-mod RowNames
-mod Stories
-mod Steps
-mod Widths
+pub mod Wider
+pub mod Items
+pub mod Parts
+pub mod Sorted
+pub mod Direct
+pub mod Lasting
+pub mod Symbols
+pub mod Lines
+pub mod RowNames
+pub mod Stories
+pub mod Steps
+pub mod Widths

@@ -64,9 +64,9 @@ module _ (x : Setting) (bound : ℕ) where
     line_of_name : (j : Line) → IsLegalLine x bound js j → OfName x j
     line_of_name (line.Decide l) g = tt
     line_of_name (line.Orient (oriented.Named n v)) g = tt
-    line_of_name (line.Orient (oriented.Rule u l r)) g = source_of_name u g.one g.other g.source
+    line_of_name (line.Orient (oriented.Rule u l r)) g = source_of_name u (g.0).one (g.0).other (g.0).source
     line_of_name (line.Drop (oriented.Named n v)) g = tt
-    line_of_name (line.Drop (oriented.Rule u l r)) g = standing_of_name u l g.right g.stands
+    line_of_name (line.Drop (oriented.Rule u l r)) g = standing_of_name u l (g.0).right (g.0).stands
     line_of_name (line.Pair u l m) g = standing_of_name u l g.first.0 g.first.1
     line_of_name (line.Learn c) g = tt
     line_of_name (line.TypeInstance k ss) g = tt
@@ -106,7 +106,7 @@ module _ (sig : Signature) where
   no_sorts ss e = decided_yes (Sorts_discrete ss []) e
 
   -- the sorts that the head takes
-  sorts_for : (h : Head) (ss args : List Sort) (s : Sort) → IsAc sig h → head_sort sig h ss args ≡ Some s → SortsFor sig h ss
+  pub sorts_for : (h : Head) (ss args : List Sort) (s : Sort) → IsAc sig h → head_sort sig h ss args ≡ Some s → SortsFor sig h ss
   sorts_for (head.Symbol n) ss args s a e =
       let b = bind_some (slice_get sig.symbols n) (symbol_sort ss args) s e in
       let fits : Bool = nat_eq (length ss) b.0.vars && same_sorts args (map (put_sort ss) b.0.args) in

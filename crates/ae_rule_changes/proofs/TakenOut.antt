@@ -13,7 +13,7 @@ use Rattle.ae_monoid.specs.declared.rules.Kept.{Kept}
 use Rattle.ae_monoid.specs.declared.pending.PendingPair.{PendingPair}
 use Rattle.ae_rule_lines.specs.Laws.{HaveRisingSides}
 use Rattle.ae_rule_passes.specs.Passes.{AreRulesTakenOut, IsReducibleRule}
-use Rattle.ae_rule_passes.specs.Laws.{IsStaleAfter}
+use Rattle.ae_rule_passes.specs.Laws.{IsStaleAfter, HaveRisingRights}
 use Rattle.ae_rule_passes.proofs.Chains.{passes_keep}
 use Rattle.ae_rule_passes.proofs.Reasons.{stale_go, reducible_go}
 use Rattle.ae_rule_changes.specs.Entries.{AreEntries, entry_of, HasStaleName}
@@ -39,6 +39,9 @@ same_entry old new rules later a b n e = by_option (old n) refl
 pub rising_sides : (kept : ℕ → Option Kept) (rules : ℕ → Option RuleEntry) (next : ℕ) → AreRules kept next → AreEntries kept rules → HaveRisingSides rules
 rising_sides kept rules next r a n e t = let k = kept_by kept rules a n e t in subst (λ (d : RuleEntry). IsNonDecreasing d.left) k.2 (r.well n k.0 k.1).left_rises
 
+pub rising_rights : (kept : ℕ → Option Kept) (rules : ℕ → Option RuleEntry) (next : ℕ) → AreRules kept next → AreEntries kept rules → HaveRisingRights rules
+rising_rights kept rules next r a n e t = let k = kept_by kept rules a n e t in subst (λ (d : RuleEntry). IsNonDecreasing d.right) k.2 (r.well n k.0 k.1).right_rises
+
 -- ---- taken out
 equations_are : (kept : ℕ → Option Kept) (rules : ℕ → Option RuleEntry) → AreEntries kept rules → (ns : List ℕ) (ps : List PendingPair) → Pairwise (λ n p. IsEquationOf (kept n) p) ns ps
     → Pairwise (λ n e. rules n ≡ Some e) ns (map entry_of ps)
@@ -59,10 +62,10 @@ taken_out P old new rules stay pairs a b t = record {
 }
 
 pub stale_dropped : StaleRulesAreDropped
-stale_dropped x bound sig ts js rep old new rules stay paired waiting pairs a b t stale i =
+stale_dropped x bound sig ts js rep next old new rules stay paired waiting pairs r a b t stale i =
     let out = taken_out (λ n. HasStaleName rep (old n)) old new rules stay pairs a b t in
     record {
-      legal = stale_go x bound sig ts js rules stay paired waiting t.numbers (map entry_of pairs) out i why;
+      legal = stale_go x bound sig ts js rules stay paired waiting t.numbers (map entry_of pairs) out i (rising_rights old rules next r a) why;
       step = passes_keep sig ts (live js) rules stay paired waiting t.numbers (map entry_of pairs) out i;
     }
   where
@@ -76,7 +79,7 @@ pub reducible_dropped : ReducibleRulesAreDropped
 reducible_dropped x bound sig ts js next old new rules stay paired waiting pairs r a b t i =
     let out = taken_out (IsReducible old) old new rules stay pairs a b t in
     record {
-      legal = reducible_go x bound sig ts js rules stay paired waiting t.numbers (map entry_of pairs) out i (rising_sides old rules next r a) why;
+      legal = reducible_go x bound sig ts js rules stay paired waiting t.numbers (map entry_of pairs) out i (rising_sides old rules next r a) (rising_rights old rules next r a) why;
       step = passes_keep sig ts (live js) rules stay paired waiting t.numbers (map entry_of pairs) out i;
     }
   where

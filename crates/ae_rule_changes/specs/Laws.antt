@@ -32,8 +32,8 @@ pub record AreDropped (x : Setting) (bound : ℕ) (sig : Signature) (ts : List T
 
 -- those with a name in their left sides that isn't its own representative, as it is none by the lines
 abbrev pub StaleRulesAreDropped : Type 0
-StaleRulesAreDropped = (x : Setting) (bound : ℕ) (sig : Signature) (ts : List Term) (js : List Line) (rep : ℕ → ℕ) (old new : ℕ → Option Kept) (rules stay : ℕ → Option RuleEntry) (paired : ℕ → List ℕ)
-    (waiting : List Waiting) (pairs : List PendingPair) → AreEntries old rules → AreEntries new stay → AreTakenOut old new (λ n. HasStaleName rep (old n)) pairs
+StaleRulesAreDropped = (x : Setting) (bound : ℕ) (sig : Signature) (ts : List Term) (js : List Line) (rep : ℕ → ℕ) (next : ℕ) (old new : ℕ → Option Kept) (rules stay : ℕ → Option RuleEntry) (paired : ℕ → List ℕ)
+    (waiting : List Waiting) (pairs : List PendingPair) → AreRules old next → AreEntries old rules → AreEntries new stay → AreTakenOut old new (λ n. HasStaleName rep (old n)) pairs
     → ((k : ℕ) → rep k ≢ k → IsStaleAfter x js k) → AreRulesInStep sig ts (live js) rules paired waiting → AreDropped x bound sig ts js stay paired waiting pairs
 
 -- those of which others reduce the left sides

@@ -21,7 +21,7 @@ use Rattle.ae_rule_lines.specs.InStep.{Waiting, AreRulesInStep}
 use Rattle.ae_rule_lines.specs.Changes.{IsRuleTakenOut, equation_of}
 use Rattle.ae_rule_lines.proofs.Dropped.{drops_keep}
 use Rattle.ae_rule_passes.specs.Passes.{drop_line, AreRulesTakenOut}
-use Rattle.ae_rule_passes.specs.Laws.{PassesKeepStep}
+use Rattle.ae_rule_passes.specs.Laws.{PassesKeepStep, HaveRisingRights}
 
 -- ---- one rule
 abbrev without : ℕ → (ℕ → Option RuleEntry) → ℕ → Option RuleEntry
@@ -124,27 +124,27 @@ module _ (x : Setting) (bound : ℕ) (sig : Signature) (ts : List Term) (js : Li
       never e = cc
   of_before n m now d t (no f) = sym (without_other n m now f) ∙ t
 
-  legal : HasReasons → (ns : List ℕ) (es gone : List RuleEntry) (now : ℕ → Option RuleEntry) (waiting : List Waiting) → AreDifferent ns → Pairwise (λ n e. now n ≡ Some e) ns es
+  legal : HasReasons → HaveRisingRights old → (ns : List ℕ) (es gone : List RuleEntry) (now : ℕ → Option RuleEntry) (waiting : List Waiting) → AreDifferent ns → Pairwise (λ n e. now n ≡ Some e) ns es
       → ((n : ℕ) → Contains ns n → Contains numbers n) → ((m : ℕ) (d : RuleEntry) → now m ≡ Some d → old m ≡ Some d) → ((m : ℕ) → ¬ Contains numbers m → now m ≡ old m)
       → AreRulesInStep sig ts (live (After gone)) now paired waiting → AreLegal x bound (After gone) (map drop_line es)
-  legal why [] [] gone now waiting a p w f g i = tt
-  legal why [] (e ∷ es) gone now waiting a p w f g i = absurd p
-  legal why (n ∷ ns) [] gone now waiting a p w f g i = absurd p
-  legal why (n ∷ ns) (e ∷ es) gone now waiting a p w f g i =
+  legal why rise [] [] gone now waiting a p w f g i = tt
+  legal why rise [] (e ∷ es) gone now waiting a p w f g i = absurd p
+  legal why rise (n ∷ ns) [] gone now waiting a p w f g i = absurd p
+  legal why rise (n ∷ ns) (e ∷ es) gone now waiting a p w f g i =
       let c = w n (contains_here n ns) in
       let next : AreRulesInStep sig ts (live (After gone ++ drop_line e ∷ [])) (without n now) paired (waiting ++ equation_of e ∷ []) =
       subst (λ (ls : List Line). AreRulesInStep sig ts ls (without n now) paired (waiting ++ equation_of e ∷ [])) (sym (live_push (After gone) (drop_line e)))
       (drops_keep sig ts (live (After gone)) now (without n now) paired waiting n e e.right (one_out n e now p.0) i) in (
-        why n e gone now waiting c p.0 f g i,
+        (why n e gone now waiting c p.0 f g i, rise n e (f n e p.0)),
         subst (λ (ls : List Line). AreLegal x bound ls (map drop_line es)) (after_more gone e)
-            (legal why ns es (gone ++ e ∷ []) (without n now) (waiting ++ equation_of e ∷ []) a.1 (still_there n now ns es a.0 p.1) (λ m k. w m (contains_later n ns m k))
+            (legal why rise ns es (gone ++ e ∷ []) (without n now) (waiting ++ equation_of e ∷ []) a.1 (still_there n now ns es a.0 p.1) (λ m k. w m (contains_later n ns m k))
             (λ m d t. f m d (of_before n m now d t (ℕ_discrete m n)))
             (λ m k. without_other n m now (λ q. k (subst (Contains numbers) (sym q) c)) ∙ g m k)
             (subst (λ (ls : List Line). AreRulesInStep sig ts (live ls) (without n now) paired (waiting ++ equation_of e ∷ [])) (sym (after_more gone e)) next)),
       )
 
-  pub all_legal : (new : ℕ → Option RuleEntry) (waiting : List Waiting) (rules : List RuleEntry) → HasReasons
+  pub all_legal : (new : ℕ → Option RuleEntry) (waiting : List Waiting) (rules : List RuleEntry) → HasReasons → HaveRisingRights old
       → AreRulesTakenOut old new numbers rules → AreRulesInStep sig ts (live js) old paired waiting → AreLegal x bound js (map drop_line rules)
-  all_legal new waiting rules why t i =
+  all_legal new waiting rules why rise t i =
       subst (λ (ls : List Line). AreLegal x bound ls (map drop_line rules)) (append-nil js)
-      (legal why numbers rules [] old waiting t.different t.are (λ n c. c) (λ m d e. e) (λ m d. refl) (subst (λ (ls : List Line). AreRulesInStep sig ts (live ls) old paired waiting) (sym (append-nil js)) i))
+      (legal why rise numbers rules [] old waiting t.different t.are (λ n c. c) (λ m d e. e) (λ m d. refl) (subst (λ (ls : List Line). AreRulesInStep sig ts (live ls) old paired waiting) (sym (append-nil js)) i))

@@ -18,9 +18,9 @@ use Rattle.ae_rule_passes.specs.Laws.{StaleRulesMayGo, ReducibleRulesMayGo}
 use Rattle.ae_rule_passes.proofs.Chains.{among, all_legal}
 
 pub stale_go : StaleRulesMayGo
-stale_go x bound sig ts js old new paired waiting numbers rules t i stale =
+stale_go x bound sig ts js old new paired waiting numbers rules t i rise stale =
     all_legal x bound sig ts js old paired numbers new waiting rules
-    (λ n e gone now w c here from same k. let s = stale n e c (from n e here) in stale_dropped x sig ts (js ++ map drop_line gone) now paired w n s.0 e k here s.1 (s.2 gone)) t i
+    (λ n e gone now w c here from same k. let s = stale n e c (from n e here) in stale_dropped x sig ts (js ++ map drop_line gone) now paired w n s.0 e k here s.1 (s.2 gone)) rise t i
 
 -- ---- a part that isn't the whole is shorter
 shorter : (a b : List ℕ) → IsPart a b → ¬ IsSame a b → length a < length b
@@ -63,8 +63,8 @@ module _ (sig : Signature) (ts : List Term) (js : List Line) (old : ℕ → Opti
       ]
 
 pub reducible_go : ReducibleRulesMayGo
-reducible_go x bound sig ts js old new paired waiting numbers rules t i rise go =
+reducible_go x bound sig ts js old new paired waiting numbers rules t i rise rights go =
     all_legal x bound sig ts js old paired numbers new waiting rules
     (λ n e gone now w c here from same k.
     let h = reason sig ts (live js) old paired waiting numbers i rise go (suc (length e.left)) n e (omega arith) c (from n e here) in
-    reducible_dropped x sig ts (js ++ map drop_line gone) now paired w h.other n h.by e k (λ m d u. rise m d (from m d u)) (same h.other h.stays ∙ h.there) here (λ q. h.stays (subst (Contains numbers) (sym q) c)) h.symbol h.part) t i
+    reducible_dropped x sig ts (js ++ map drop_line gone) now paired w h.other n h.by e k (λ m d u. rise m d (from m d u)) (same h.other h.stays ∙ h.there) here (λ q. h.stays (subst (Contains numbers) (sym q) c)) h.symbol h.part) rights t i
