@@ -24,7 +24,7 @@ use Rattle.ae_equal_steps.proofs.PatternLaws.{fields_fall, part_falls}
 use Rattle.ae_evaluation.specs.Consequences.{Stated}
 use Rattle.ae_exact_names.specs.Exact.{assumed_of, AreOfOneSort, SameIsConsequence, SameIsPlainConsequence}
 use Rattle.ae_exact_names.proofs.FollowingBy.{follows_within}
-use Rattle.ae_exact_names.proofs.PlainSides.{plain_fact, plain_name, plain_sums}
+use Rattle.ae_exact_names.proofs.PlainSides.{plain_fact, plain_name, plain_names_make_plain_steps, plain_sums}
 use Rattle.ae_exact_names.proofs.StatedNumbers.{AreSides, state_equal}
 use Rattle.ae_just.specs.Sides.{side_term, sum_of}
 use Rattle.ae_just.specs.Steps.{Fits}
@@ -210,5 +210,6 @@ same_is_consequence leaf same_value o s t m n one h =
     names_equal leaf same_value o s t (fact_ok s.signature) (λ u. Unit {0}) (λ u w p q e. e) (λ k. tt) (λ real ps z. tt) (λ id p at. (tt, tt)) m n one h
 
 pub same_is_plain_consequence : LeafStep → AlikeStep → SameIsPlainConsequence
-same_is_plain_consequence leaf same_value o s t plain sides m n one h =
-    names_equal leaf same_value o s t (plain_ok s.signature) (λ u. is_plain u ≡ true) (plain_fact s.signature) (plain_name (terms_in s) plain) (plain_sums (terms_in s) plain) sides m n one h
+same_is_plain_consequence leaf same_value o s t plain m n one h =
+    names_equal leaf same_value o s t (plain_ok s.signature) (λ u. is_plain u ≡ true) (plain_fact s.signature) (plain_name (terms_in s) plain) (plain_sums (terms_in s) plain)
+    (plain_names_make_plain_steps s.signature (terms_in s) o.justs (steps_are o s t) plain) m n one h

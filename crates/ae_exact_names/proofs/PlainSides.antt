@@ -1,7 +1,8 @@
 -- Sums over plain names are plain, and so are multisets of them that are no products.
 use Rattle.std.specs.Prelude.{ℕ, ℤ, pos, ◌≡◌, Bool, true, false, ◌&&◌, ◌||◌, List, [], ◌∷◌, slice_get, Option, Some, None}
-use Rattle.std.proofs.Common.{refl, sym, ap, ◌∙◌, subst}
+use Rattle.std.proofs.Common.{refl, sym, ap, ◌∙◌, subst, inl, inr}
 use Rattle.ae_base.specs.Options.{or_else}
+use Rattle.ae_base.proofs.Tests.{false_true}
 use Rattle.ae_core.specs.declared.problems.Signature.{Signature}
 use Rattle.ae_core.specs.declared.terms.Op.TheVariants as op
 use Rattle.ae_core.specs.declared.terms.Head.{Head}
@@ -11,8 +12,9 @@ use Rattle.ae_core.specs.declared.terms.Term.{Term, Bound, Num, para-roll-Term}
 use Rattle.ae_core.specs.declared.terms.Term.TheOpen as layer
 use Rattle.ae_core.specs.declared.terms.Term.TheVariants.{rolls-Bound, rolls-Num}
 use Rattle.ae_evaluation.proofs.Plainness.{plain-Apply}
-use Rattle.ae_exact_names.specs.Exact.{ArePlain, IsOfSymbol, PlainNamesMakePlainSteps}
+use Rattle.ae_exact_names.specs.Exact.{ArePlain, PlainNamesMakePlainSteps}
 use Rattle.ae_just.specs.Sides.{whole, numeric, joined, product, sum_from, sum_of, many_from, many_of, side_term}
+use Rattle.ae_just.specs.Steps.{IsOfNames}
 use Rattle.ae_just.specs.declared.steps.Side.{Side}
 use Rattle.ae_just.specs.declared.steps.Side.TheVariants as side
 use Rattle.ae_just.specs.declared.steps.Times.{Times}
@@ -79,10 +81,13 @@ module _ (ts : List Term) (plain : ArePlain ts) where
   plain_multiset h k e ss [] = plain-Bound 0
   plain_multiset h k e ss (n ∷ ns) = plain_many h k e ss (named ts n) ns (plain_name n)
 
-  plain_side : (x : Side) → IsOfSymbol x → is_plain (side_term ts x) ≡ true
-  plain_side (side.Name n) h = plain_name n
-  plain_side (side.Sum ps z real) h = plain_sums real ps z
-  plain_side (side.Many u ns) h = plain_multiset u.head h.0 h.1 u.sorts ns
+  plain_side : (sig : Signature) (x : Side) → IsOfNames sig ts x → is_plain (side_term ts x) ≡ true
+  plain_side sig (side.Name n) h = plain_name n
+  plain_side sig (side.Sum ps z real) h = plain_sums real ps z
+  plain_side sig (side.Many u ns) h = elim h [
+    | inl d ↦ plain_multiset u.head d.0 d.1 u.sorts ns
+    | inr w ↦ false_true (sym w.3 ∙ plain w.0 w.1 w.2)
+  ]
 
 pub plain_names_make_plain_steps : PlainNamesMakePlainSteps
-plain_names_make_plain_steps ts steps plain free id p at = let w = free id p at in (plain_side ts plain p.left w.0, plain_side ts plain p.right w.1)
+plain_names_make_plain_steps sig ts steps fits plain id p at = let w = fits.built.each id p at in (plain_side ts plain sig p.left w.0, plain_side ts plain sig p.right w.1)

@@ -1,6 +1,7 @@
 -- Steps that state numbers of names, behind those that are held, and that two names of one number are equal.
-use Rattle.std.specs.Prelude.{ℕ, ℤ, pos, neg_ℤ, ◌≡◌, Bool, List, [], ◌∷◌, ◌++◌, length, slice_get, Option, Some, None}
+use Rattle.std.specs.Prelude.{ℕ, ◌^◌, ℤ, pos, neg_ℤ, unsigned_abs, ◌≡◌, Bool, List, [], ◌∷◌, ◌++◌, length, slice_get, Option, Some, None}
 use Rattle.std.proofs.Common.{refl, sym, subst, inl, inr}
+use Rattle.std.proofs.lemmas.Bool.{lt-ltb}
 use Rattle.std.proofs.lemmas.Option.{slice_get_within}
 use Rattle.ae_base.proofs.ListFacts.{last_or_before}
 use Rattle.ae_conflicts.specs.Saying.{RestsOnAssumed}
@@ -16,6 +17,7 @@ use Rattle.ae_just.specs.declared.steps.Rule.TheVariants as rule
 use Rattle.ae_just.specs.declared.steps.Side.TheVariants as side
 use Rattle.ae_just.specs.declared.steps.Step.{Step}
 use Rattle.ae_just.specs.declared.steps.Times.{Times}
+use Rattle.ae_just.proofs.BuiltSides.{numbers_of}
 use Rattle.ae_just.proofs.WithinLaws.{fits_push}
 use Rattle.ae_linear.specs.declared.rows.Row.{Row}
 use Rattle.ae_linear.specs.Rows.{row_at}
@@ -76,7 +78,7 @@ module _ (leaf : LeafStep) (same_value : AlikeStep) (sig : Signature) (ts : List
           let s : Step = value_step real n f (pos 1) [] in
           let new : List Step = old ++ s ∷ [] in
           let a : AddsStep old new (length old) (name_side real n f) (value_side real f) [] = record { by = rule.Lin (pos 1) []; added = refl; number = refl; assumes = refl; rests_on = refl } in
-          let fit : Fits sig ts new = fits_push sig ts old new s fits (leaf sig ts old real n f w (own_number c n f refl at)) refl in
+          let fit : Fits sig ts new = fits_push sig ts old new s fits (leaf sig ts old real n f w (own_number c n f refl at)) (numbers_of sig ts real n w.name, numbers_of sig ts real n w.name) (refl, tt) refl in
           record {
             new = new;
             more = front old new (length old) (name_side real n f) (value_side real f) [] a;
@@ -113,7 +115,8 @@ module _ (leaf : LeafStep) (same_value : AlikeStep) (sig : Signature) (ts : List
         let add : AddsStep b.new new (length b.new) (side.Name m) (side.Name n) (a.id ∷ b.id ∷ []) =
         record { by = rule.Lin l.den (one ∷ other ∷ []); added = refl; number = refl; assumes = refl; rests_on = refl } in
         let fit : Fits sig ts new =
-        fits_push sig ts b.new new s b.fits (same_value sig ts b.new same.real m n a.id b.id l left (subst (IsWritten sig ts same.real n) (sym same.same) right) first second) refl in
+        fits_push sig ts b.new new s b.fits (same_value sig ts b.new same.real m n a.id b.id l left (subst (IsWritten sig ts same.real n) (sym same.same) right) first second) (tt, tt)
+        (lt-ltb (unsigned_abs l.den) (2 ^ 127) left.normal.within.0, (refl, (refl, tt))) refl in
         let still : IsGrounded ts assumed b.new a.id = still_grounded ts assumed sig a.new b.new b.more b.fits a.id (slice_get_within a.new a.id _ a.states.there) a.rests in
         record {
           steps = new;

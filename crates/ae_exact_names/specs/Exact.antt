@@ -2,14 +2,13 @@
 use Rattle.std.specs.Prelude.{ℕ, ◌<◌, true, List, ◌≡◌, length, slice_get, IsTrue, Some}
 use Rattle.ae_core.specs.Sorts.{sort_of}
 use Rattle.ae_core.specs.declared.formulas.Lit.{Lit}
-use Rattle.ae_core.specs.declared.terms.Head.TheVariants as head
+use Rattle.ae_core.specs.declared.problems.Signature.{Signature}
 use Rattle.ae_core.specs.declared.terms.Sort.{Sort}
 use Rattle.ae_core.specs.declared.terms.Term.{Term}
 use Rattle.ae_evaluation.specs.Consequences.{Stated}
 use Rattle.ae_journal.specs.Systems.{IsPredicateName}
 use Rattle.ae_just.specs.Sides.{side_term}
-use Rattle.ae_just.specs.declared.steps.Side.{Side}
-use Rattle.ae_just.specs.declared.steps.Side.TheVariants as side
+use Rattle.ae_just.specs.Steps.{Fits}
 use Rattle.ae_just.specs.declared.steps.Step.{Step}
 use Rattle.ae_rules.specs.Linear.{is_plain}
 use Rattle.ae_rules.specs.Lines.{Conseq, PlainConseq}
@@ -48,22 +47,13 @@ ArePlain ts = (n : ℕ) (t : Term) → slice_get ts n ≡ Some t → is_plain t 
 abbrev pub ArePlainSteps : List Term → List Step → Type 0
 ArePlainSteps ts steps = (id : ℕ) (p : Step) → slice_get steps id ≡ Some p → (is_plain (side_term ts p.left) ≡ true) × (is_plain (side_term ts p.right) ≡ true)
 
--- a multiset is of a declared symbol, not of factors
-abbrev pub IsOfSymbol : Side → Type 0
-IsOfSymbol (side.Many u ns) = (k : ℕ) × (u.head ≡ head.Symbol k)
-IsOfSymbol _ = Unit {0}
-
--- the steps have no multiset of factors
-abbrev pub HaveNoFactors : List Step → Type 0
-HaveNoFactors steps = (id : ℕ) (p : Step) → slice_get steps id ≡ Some p → IsOfSymbol p.left × IsOfSymbol p.right
-
--- where all names are plain, and no step has a multiset of factors, they state equations of plain terms
+-- where all names are plain, the steps that fit them do so
 abbrev pub PlainNamesMakePlainSteps : Type 0
-PlainNamesMakePlainSteps = (ts : List Term) (steps : List Step) → ArePlain ts → HaveNoFactors steps → ArePlainSteps ts steps
+PlainNamesMakePlainSteps = (sig : Signature) (ts : List Term) (steps : List Step) → Fits sig ts steps → ArePlain ts → ArePlainSteps ts steps
 
--- where all names are plain, and the steps that are held state equations of plain terms, that follows by lines over plain terms alone
+-- where all names are plain, that follows by lines over plain terms alone
 abbrev pub SameIsPlainConsequence : Type 0
-SameIsPlainConsequence = (o : Holding) (s : Stored) → IsTaken o s → ArePlain (terms_in s) → ArePlainSteps (terms_in s) o.justs → (m n : ℕ) → AreOfOneSort s m n → IsTrue (alike o.values m n)
+SameIsPlainConsequence = (o : Holding) (s : Stored) → IsTaken o s → ArePlain (terms_in s) → (m n : ℕ) → AreOfOneSort s m n → IsTrue (alike o.values m n)
     → PlainConseq s.signature (Stated (assumed_of o)) (named (terms_in s) m) (named (terms_in s) n)
 
 -- where nothing is left to do, names that are equal by consequence of them, by lines over plain terms alone, are the same

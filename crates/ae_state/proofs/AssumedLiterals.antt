@@ -1,11 +1,12 @@
 -- A literal that is assumed, or refused.
 use Rattle.std.specs.Prelude.{ℕ, ◌+◌, ◌≢◌, List, [], ◌≡◌, Some, Result, Ok, Err, OnOk, OnErr}
-use Rattle.std.proofs.Common.{refl, sym, ◌∙◌, subst}
+use Rattle.std.proofs.Common.{refl, sym, ap, ◌∙◌, subst}
 use Rattle.std.proofs.lemmas.List.{append-nil}
 use Rattle.ae_core.specs.declared.terms.Term.{Term}
 use Rattle.ae_journal.specs.declared.lines.Line.{Line}
 use Rattle.ae_pmap.specs.Forest.{present, Lasts as MapLasts}
 use Rattle.ae_pmap.specs.Pairs.{found, put_in}
+use Rattle.ae_store.specs.Growing.{IsFront}
 use Rattle.ae_store.specs.Stores.{Stored, IsStore}
 use Rattle.ae_store.specs.Terms.{Keeps}
 use Rattle.ae_theory.specs.Names.{AreNamed, terms_in}
@@ -39,6 +40,16 @@ by_result (Err e) f g p q = g q
 -- what a call that puts a literal leaves as it was
 abbrev pub with_literals : Holding → Holding → Holding
 with_literals p q = record p { assumed = q.assumed; said = q.said; next = q.next }
+
+-- ---- all else is the same
+-- where names came, and then a literal or a part of one
+pub others_kept : (o p q : Holding) → p ≡ record o { shapes = p.shapes } → q ≡ with_literals p q → q ≡ record (with_literals o q) { shapes = q.shapes }
+others_kept o p q learnt put =
+    put ∙ (λ i. record (learnt i) { assumed = q.assumed; said = q.said; next = q.next })
+    ∙ (λ i. record o { shapes = (sym put i).shapes; assumed = q.assumed; said = q.said; next = q.next })
+
+pub shapes_kept : (o p q : Holding) → IsFront o.shapes p.shapes → q ≡ with_literals p q → IsFront o.shapes q.shapes
+shapes_kept o p q front put = subst (IsFront o.shapes) (sym (ap (λ (x : Holding). x.shapes) put)) front
 
 -- ---- lines, steps and values are the same
 module _ (p q : Holding) (others : q ≡ with_literals p q) where

@@ -40,7 +40,7 @@ closed_none sig =
     }
 
 pub fits_none : (sig : Signature) (ts : List Term) → Fits sig ts []
-fits_none sig ts = record { allowed = record { each = λ i s e. absurd (none-some s e) }; within = record { each = λ i s e. absurd (none-some s e) } }
+fits_none sig ts = record { allowed = record { each = λ i s e. absurd (none-some s e) }; within = record { each = λ i s e. absurd (none-some s e) }; built = record { each = λ i s e. absurd (none-some s e) }; factors = record { each = λ i s e. absurd (none-some s e) } }
 
 abbrev no_names : System
 no_names = record { names = []; values = []; rules = [] }

@@ -1,6 +1,6 @@
 -- What `learn` leaves as it was.
 use Rattle.std.specs.Prelude.{ℕ, List, [], ◌≡◌}
-use Rattle.std.proofs.Common.{refl, sym, ap, subst}
+use Rattle.std.proofs.Common.{refl, sym, ap, ◌∙◌, subst}
 use Rattle.std.proofs.lemmas.List.{append-nil}
 use Rattle.ae_journal.specs.declared.lines.Line.{Line}
 use Rattle.ae_store.specs.Growing.{IsFront}
@@ -15,6 +15,10 @@ use Rattle.ae_state.proofs.Learning.{step_grown, conflict_grown}
 use Rattle.ae_state.proofs.Lasting.{marks_last}
 
 module _ (o p : Holding) (front : IsFront o.shapes p.shapes) (others : p ≡ record o { shapes = p.shapes }) where
+  -- what stands beside the names is the same
+  pub others_learnt : p ≡ record o { shapes = p.shapes; assumed = p.assumed; said = p.said; next = p.next }
+  others_learnt = others ∙ (λ i. record o { shapes = p.shapes; assumed = (sym others i).assumed; said = (sym others i).said; next = (sym others i).next })
+
   pub assumed_learnt : assumed_in p ≡ assumed_in o
   assumed_learnt = ap assumed_in others
 

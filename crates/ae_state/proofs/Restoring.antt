@@ -103,7 +103,7 @@ module _ (o new then : Holding) (m : Mark) (h : FitsMark o m then) (b : IsBack o
   rules_are : ◌≡◌ {A = ℕ → Option RuleEntry} (rules_now new) (rules_now then)
   rules_are = λ i n. entry_of ((b.equations).rules n i)
 
-  system_is : system_now new ≡ system_now then
+  pub system_is : system_now new ≡ system_now then
   system_is = λ i. record { names = terms_are i; values = b.values_are i; rules = entries (rules_are i) ((b.equations).len i) }
 
   pub assumed_is : assumed_in new ≡ assumed_in then

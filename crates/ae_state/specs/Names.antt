@@ -1,5 +1,6 @@
 -- What a holding shows: its names with their terms, its system, and the literals that are assumed.
 use Rattle.std.specs.Prelude.{ℕ, List, take, Option}
+use Rattle.std.specs.List.Sorted.{IsNonDecreasing}
 use Rattle.ae_core.specs.declared.terms.Term.{Term}
 use Rattle.ae_journal.specs.declared.systems.RuleEntry.{RuleEntry}
 use Rattle.ae_journal.specs.declared.systems.System.{System}
@@ -23,6 +24,10 @@ terms_now o = take o.values.taken (all_terms o)
 -- the rules by their numbers
 abbrev pub rules_now : Holding → ℕ → Option RuleEntry
 rules_now o = entries_of o.equations.rules
+
+-- both multisets of a rule are written rising
+abbrev pub IsWrittenRising : RuleEntry → Type 0
+IsWrittenRising e = IsNonDecreasing e.left × IsNonDecreasing e.right
 
 -- these names, their values, and the rules
 abbrev pub system_now : Holding → System

@@ -3,6 +3,7 @@ ghost use Rattle.std.specs.Prelude.{◌≡◌, ◌≢◌, ◌+◌, ◌++◌, ◌
 ghost use Rattle.ae_pmap.specs.Forest.{present, Lasts as MapLasts};
 ghost use Rattle.ae_pmap.specs.Pairs.{found, put_in};
 ghost use Rattle.ae_journal.specs.declared.lines.Line.{Line};
+ghost use Rattle.ae_store.specs.Growing.{IsFront};
 ghost use Rattle.ae_theory.specs.Names.{AreNamed};
 ghost use Rattle.ae_state.specs.declared.holding.Holding.{Holding as HoldingView};
 ghost use Rattle.ae_state.specs.declared.holding.Mark.{Mark as MarkView};
@@ -69,6 +70,8 @@ impl Holding {
         ensures marks { (m : MarkView) (then : HoldingView) → FitsMark self.old m then → FitsMark self.new m then }
         ensures conflicts { (k : ℕ) → IsOwnConflict self.old k → IsOwnConflict self.new k }
         ensures step { (js : List Line) → IsInStep self.old js → IsInStep self.new js }
+        ensures front { IsFront self.old.shapes self.new.shapes }
+        ensures others { self.new ≡ record self.old { shapes = self.new.shapes; assumed = self.new.assumed; said = self.new.said; next = self.new.next } }
     {
         self.learn(alloc, store)?;
         let said = said_of(alloc, &self.signature, store, lit)?;

@@ -1,5 +1,7 @@
 //! Why conflicts can't hold, and why names have their values.
 ghost use Rattle.std.specs.Prelude.{◌≡◌, ◌↔◌, ◌<◌, ℕ, [], List, Bool, true, Some, IsTrue, IfOk, IfSome, IfNone};
+ghost use Rattle.std.specs.List.{AllByRecursion};
+ghost use Rattle.ae_rules.specs.Built.{IsBuiltEquation};
 ghost use Rattle.ae_rules.specs.Derivations.{IsContradictory, clause_ok};
 ghost use Rattle.ae_rules.specs.Lines.{AllAllowed, fact_ok};
 ghost use Rattle.ae_core.specs.declared.terms.Sort.{Real};
@@ -87,7 +89,7 @@ impl Holding {
         }
     }
 
-    /// Why a conflict's literals can't hold together.
+    /// Why a conflict's literals can't hold together: by equations of terms that are built of the names.
     pub fn explain(
         &self,
         alloc: Global,
@@ -99,6 +101,7 @@ impl Holding {
         ensures contradictory { IfOk result (λ e. IsContradictory store.now.signature e.block) }
         ensures sorted { IfOk result (λ e. clause_ok store.now.signature e.block.deriv.hyps ≡ true) }
         ensures tags { IfOk result (λ e. IsBlockOf (assumed_in self.now) e.block.deriv.hyps e.tags) }
+        ensures built { IfOk result (λ e. AllByRecursion (IsBuiltEquation store.now.signature (terms_in store.now)) e.block.deriv.lines) }
     {
         let reason = &self.conflicts.as_slice()[conflict];
         explained(alloc, store, &self.justs, &self.assumed, reason)

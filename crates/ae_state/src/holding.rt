@@ -1,6 +1,8 @@
 //! What is held, and what is held at first.
-ghost use Rattle.std.specs.Prelude.{◌≡◌, [], IfOk};
+ghost use Rattle.std.specs.Prelude.{◌≡◌, ℕ, [], None, IfOk};
+ghost use Rattle.ae_monoid.specs.Rules.{rule_at};
 ghost use Rattle.ae_store.specs.Stores.{Stored};
+ghost use Rattle.ae_equations.specs.Queued.{waiting};
 ghost use Rattle.ae_state.specs.Names.{assumed_in};
 ghost use Rattle.ae_state.specs.Right.{IsRight};
 ghost use Rattle.ae_state.specs.Fitting.{FitsStore};
@@ -74,6 +76,10 @@ impl Holding {
         // It fits each store of the signature.
         ensures fits { IfOk result (λ o. (s : Stored) → s.signature ≡ signature.now → FitsStore o s) }
         ensures step { IfOk result (λ o. IsInStep o []) }
+        // No name has a value, no rule is held, and no equation waits.
+        ensures names { IfOk result (λ o. o.values.taken ≡ 0) }
+        ensures rules { IfOk result (λ o. (n : ℕ) → rule_at o.equations.rules n ≡ None) }
+        ensures waiting { IfOk result (λ o. waiting o.equations.queue ≡ []) }
     {
         let copy = copy_signature(alloc, signature)?;
         Ok(empty(alloc, copy))

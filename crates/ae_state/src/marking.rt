@@ -4,7 +4,7 @@ ghost use Rattle.ae_journal.specs.declared.lines.Line.{Line};
 ghost use Rattle.ae_store.specs.Stores.{Stored};
 ghost use Rattle.ae_state.specs.declared.holding.Holding.{Holding as HoldingView};
 ghost use Rattle.ae_state.specs.declared.holding.Mark.{Mark as MarkView};
-ghost use Rattle.ae_state.specs.Names.{assumed_in, terms_now};
+ghost use Rattle.ae_state.specs.Names.{assumed_in, system_now, terms_now};
 ghost use Rattle.ae_state.specs.Right.{IsRight};
 ghost use Rattle.ae_state.specs.Fitting.{FitsStore};
 ghost use Rattle.ae_state.specs.Marks.{FitsMark};
@@ -55,6 +55,7 @@ impl Holding {
         ensures assumed { (then : HoldingView) → FitsMark self.old mark.now then → assumed_in self.new ≡ assumed_in then }
         ensures complete { (then : HoldingView) → FitsMark self.old mark.now then → IsComplete then → IsComplete self.new }
         ensures names { (then : HoldingView) → FitsMark self.old mark.now then → terms_now self.new ≡ terms_now then }
+        ensures system { (then : HoldingView) → FitsMark self.old mark.now then → system_now self.new ≡ system_now then }
         ensures conflicts { (then : HoldingView) → FitsMark self.old mark.now then → (k : ℕ) → IsOwnConflict then k → IsOwnConflict self.new k }
         ensures step { (then : HoldingView) → FitsMark self.old mark.now then → (js : List Line) → IsInStep then js → IsInStep self.new js }
         ensures fits { (s : Stored) → FitsStore self.old s → FitsStore self.new s }

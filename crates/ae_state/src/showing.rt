@@ -1,11 +1,12 @@
 //! The system that is shown.
 ghost use Rattle.std.specs.Prelude.{◌≡◌, ◌≤◌, ◌++◌, length, take, option_copied, IfOk, OnOk};
+ghost use Rattle.std.specs.List.{AllByRecursion};
 ghost use Rattle.ae_monoid.specs.Rules.{rule_at};
 ghost use Rattle.ae_settled.specs.Held.{entries, entry_in};
 ghost use Rattle.ae_sweeps.specs.Given.{entry_of, entries_of};
 ghost use Rattle.ae_theory.specs.Names.{terms_in};
 ghost use Rattle.ae_value_table.specs.Table.{values as values_of_names};
-ghost use Rattle.ae_state.specs.Names.{system_now};
+ghost use Rattle.ae_state.specs.Names.{IsWrittenRising, system_now};
 ghost use Rattle.ae_state.specs.Fitting.{FitsStore};
 
 use crate::holding::Holding;
@@ -74,8 +75,11 @@ fn push_rule(
 
 /// The rules in the order of their numbers.
 fn all_rules(alloc: Global, held: &Rules) -> Result<List<RuleEntry>, AllocError>
-    ensures { IfOk result (λ es. es ≡ entries (entries_of held.now) held.now.next) }
+    ensures rules { IfOk result (λ es. es ≡ entries (entries_of held.now) held.now.next) }
+    ensures rises { IfOk result (λ es. AllByRecursion IsWrittenRising es) }
 {
+    // both sides of each rule rise
+    let _rule = held.rule(0);
     let mut rules = List::new(alloc);
     for number in 0..held.len() {
         push_rule(alloc, &mut rules, held.rule(number))?;
@@ -87,7 +91,9 @@ impl Holding {
     /// The names that have values, with their terms, the values and the rules.
     pub fn system(&self, alloc: Global, store: &Store) -> Result<System, AllocError>
         requires fits { FitsStore self.now store.now }
-        ensures { IfOk result (λ y. y ≡ system_now self.now) }
+        ensures system { IfOk result (λ y. y ≡ system_now self.now) }
+        // Multisets are written rising.
+        ensures rises { IfOk result (λ y. AllByRecursion IsWrittenRising y.rules) }
     {
         Ok(System {
             names: first_terms(alloc, store, self.values.len())?,

@@ -3,8 +3,8 @@ use Rattle.std.proofs.Common.{sym, ap, ◌∙◌}
 use Rattle.std.proofs.lemmas.Result.{on_ok_weaker, on_err_weaker}
 use Rattle.ae_equations.proofs.QueueLaws.{on_err_always}
 use Rattle.ae_conflicts.specs.Saying.{tagged}
-use Rattle.ae_state.proofs.AssumedLiterals.{both_ok, both_err, by_result, step_kept, marks_kept, terms_kept, right_refused, conflict_refused, conflict_assumed, right_assumed}
-use Rattle.ae_state.proofs.Learnt.{assumed_learnt, marks_learnt, step_learnt, conflict_learnt}
+use Rattle.ae_state.proofs.AssumedLiterals.{others_kept, shapes_kept, both_ok, both_err, by_result, step_kept, marks_kept, terms_kept, right_refused, conflict_refused, conflict_assumed, right_assumed}
+use Rattle.ae_state.proofs.Learnt.{others_learnt, assumed_learnt, marks_learnt, step_learnt, conflict_learnt}
 use Rattle.ae_state.proofs.Putting.{assumed_more}
 use Rattle.ae_state.proofs.holding.Holding.assume.Goals as goal
 
@@ -80,3 +80,21 @@ returns-clause-conflicts c k h =
 
 pub returns-clause-step : goal.returns-clause-step
 returns-clause-step c js h = step_kept c.learn.new.self c.put.new.self c.put.ensures.others js (step_learnt c.args.self.now c.learn.new.self c.learn.ensures.front c.learn.ensures.others (c.requires.fits).right js h)
+
+pub returns-in_err-learn-clause-front : goal.returns-in_err-learn-clause-front
+returns-in_err-learn-clause-front c = c.learn.ensures.front
+
+pub returns-in_err-said-clause-front : goal.returns-in_err-said-clause-front
+returns-in_err-said-clause-front c = c.learn.ensures.front
+
+pub returns-clause-front : goal.returns-clause-front
+returns-clause-front c = shapes_kept c.args.self.now c.learn.new.self c.put.new.self c.learn.ensures.front c.put.ensures.others
+
+pub returns-in_err-learn-clause-others : goal.returns-in_err-learn-clause-others
+returns-in_err-learn-clause-others c = others_learnt c.args.self.now c.learn.new.self c.learn.ensures.front c.learn.ensures.others
+
+pub returns-in_err-said-clause-others : goal.returns-in_err-said-clause-others
+returns-in_err-said-clause-others c = others_learnt c.args.self.now c.learn.new.self c.learn.ensures.front c.learn.ensures.others
+
+pub returns-clause-others : goal.returns-clause-others
+returns-clause-others c = others_kept c.args.self.now c.learn.new.self c.put.new.self c.learn.ensures.others c.put.ensures.others

@@ -17,3 +17,12 @@ returns-clause-fits c s e = nothing_fits c.empty.result c.empty.ensures.empty s 
 
 pub returns-clause-step : goal.returns-clause-step
 returns-clause-step c = nothing_stepping c.empty.result c.empty.ensures.empty
+
+pub returns-clause-names : goal.returns-clause-names
+returns-clause-names c = (c.empty.ensures.empty).taken
+
+pub returns-clause-rules : goal.returns-clause-rules
+returns-clause-rules c = (c.empty.ensures.empty).rules
+
+pub returns-clause-waiting : goal.returns-clause-waiting
+returns-clause-waiting c = (c.empty.ensures.empty).waiting

@@ -1,4 +1,4 @@
-use Rattle.ae_state.proofs.Restoring.{assumed_is, terms_are, complete_again, conflict_again, step_again, right_again, fits_again}
+use Rattle.ae_state.proofs.Restoring.{assumed_is, terms_are, system_is, complete_again, conflict_again, step_again, right_again, fits_again}
 use Rattle.ae_state.proofs.holding.Holding.restore.Goals as goal
 
 pub go_back-requires : goal.go_back-requires
@@ -18,6 +18,9 @@ returns-clause-complete g c then h n = complete_again c.args.self.now c.go_back.
 
 pub returns-clause-names : goal.returns-clause-names
 returns-clause-names g c then h = terms_are c.args.self.now c.go_back.new.self then c.args.mark.now h (c.go_back.ensures.back then h)
+
+pub returns-clause-system : goal.returns-clause-system
+returns-clause-system g c then h = system_is c.args.self.now c.go_back.new.self then c.args.mark.now h (c.go_back.ensures.back then h)
 
 pub returns-clause-conflicts : goal.returns-clause-conflicts
 returns-clause-conflicts g c then h k n = conflict_again c.args.self.now c.go_back.new.self then c.args.mark.now h (c.go_back.ensures.back then h) k n
