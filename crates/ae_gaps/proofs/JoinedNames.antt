@@ -75,7 +75,7 @@ module _ (sig : Signature) (nodes : List Node) (n : ℕ) (o : IsJoined sig nodes
     joined_names = join_names sig nodes store n o.node o.symbol o.left o.right o.at o.joins
 
     pub joined_name : AreNamesOf sig ts o.symbol (n ∷ [])
-    joined_name = let a = joined_names in record { sort = a.sort; symbol = a.symbol; sorted = a.sorted.1.1 }
+    joined_name = let a = joined_names in record { sort = a.sort; symbol = a.symbol; of_names = a.of_names; sorted = a.sorted.1.1 }
 
     pub joined_term : named ts n ≡ Apply (o.symbol).head (o.symbol).sorts (named ts o.left ∷ named ts o.right ∷ [])
     joined_term = join_named sig nodes store n o.node o.symbol o.left o.right o.at o.joins

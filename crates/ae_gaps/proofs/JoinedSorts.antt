@@ -1,5 +1,5 @@
 -- Names that apply a value's head are well sorted; those that apply an AC symbol are of the sort of their two arguments.
-use Rattle.std.specs.Prelude.{ℕ, ◌≡◌, Bool, true, false, List, [], ◌∷◌, map, slice_get, Option, Some, None}
+use Rattle.std.specs.Prelude.{ℕ, ◌≡◌, Bool, true, false, ◌&&◌, ◌||◌, List, [], ◌∷◌, map, slice_get, Option, Some, None}
 use Rattle.std.specs.List.{list_all}
 use Rattle.std.proofs.Common.{refl, sym, ap, ◌∙◌, subst, inl, inr}
 use Rattle.std.proofs.lemmas.Bool.{and_parts}
@@ -23,9 +23,12 @@ use Rattle.ae_core.specs.declared.terms.Term.{Term, Apply}
 use Rattle.ae_core.specs.declared.terms.Term.TheOpen as layer
 use Rattle.ae_core.specs.declared.terms.Term.TheVariants.{outs-Apply}
 use Rattle.ae_core.proofs.ClosedSorts.{applied_is}
+use Rattle.ae_evaluation.proofs.Plainness.{plain-Apply}
 use Rattle.ae_evaluation.proofs.SortFacts.{ac_arguments}
 use Rattle.ae_journal.specs.Systems.{IsJoin}
+use Rattle.ae_just.specs.Steps.{IsSymbolOfNames}
 use Rattle.ae_multiset_steps.specs.Equating.{AreNamesOf}
+use Rattle.ae_rules.specs.Linear.{form, is_number, is_plain, plain_here}
 use Rattle.ae_rules.specs.Lines.{IsAc}
 use Rattle.ae_settled.specs.Swept.{IsJoinOf}
 use Rattle.ae_store.specs.Shapes.{shapes}
@@ -103,6 +106,31 @@ join_ac sig head.True a b j = absurd j
 join_ac sig head.False a b j = absurd j
 join_ac sig head.Void a b j = absurd j
 
+-- the symbol is declared, or the product of two terms that are no numbers isn't plain
+unplain_product : (h : Head) (ss : List Sort) (a b : Term) → plain_here h (a ∷ b ∷ []) ≡ is_number (form a) || is_number (form b) → is_number (form a) ≡ false → is_number (form b) ≡ false
+    → is_plain (Apply h ss (a ∷ b ∷ [])) ≡ false
+unplain_product h ss a b e f g = plain-Apply h ss (a ∷ b ∷ []) ∙ ap (λ (z : Bool). z && list_all is_plain (a ∷ b ∷ [])) (e ∙ (λ i. f i || g i))
+
+join_of_names : (sig : Signature) (ts : List Term) (n : ℕ) (h : Head) (ss : List Sort) (a b : Term) → slice_get ts n ≡ Some (Apply h ss (a ∷ b ∷ [])) → IsJoin sig h a b → IsSymbolOfNames sig ts h
+join_of_names sig ts n (head.Symbol k) ss a b at j = inl (k, refl, j)
+join_of_names sig ts n (head.Int op.Mul) ss a b at j = inr (n, Apply (head.Int op.Mul) ss (a ∷ b ∷ []), at, unplain_product (head.Int op.Mul) ss a b refl j.0 j.1)
+join_of_names sig ts n (head.Real op.Mul) ss a b at j = inr (n, Apply (head.Real op.Mul) ss (a ∷ b ∷ []), at, unplain_product (head.Real op.Mul) ss a b refl j.0 j.1)
+join_of_names sig ts n (head.Build m) ss a b at j = absurd j
+join_of_names sig ts n (head.Field m i) ss a b at j = absurd j
+join_of_names sig ts n (head.Int op.Add) ss a b at j = absurd j
+join_of_names sig ts n (head.Int op.Sub) ss a b at j = absurd j
+join_of_names sig ts n (head.Int op.Neg) ss a b at j = absurd j
+join_of_names sig ts n (head.Int op.Div) ss a b at j = absurd j
+join_of_names sig ts n (head.Int op.Mod) ss a b at j = absurd j
+join_of_names sig ts n (head.Real op.Add) ss a b at j = absurd j
+join_of_names sig ts n (head.Real op.Sub) ss a b at j = absurd j
+join_of_names sig ts n (head.Real op.Neg) ss a b at j = absurd j
+join_of_names sig ts n (head.Real op.Div) ss a b at j = absurd j
+join_of_names sig ts n (head.Real op.Mod) ss a b at j = absurd j
+join_of_names sig ts n head.True ss a b at j = absurd j
+join_of_names sig ts n head.False ss a b at j = absurd j
+join_of_names sig ts n head.Void ss a b at j = absurd j
+
 ac_result : (sig : Signature) (e : SymbolEntry) (k : Nature) → e.nature ≡ k → k ≡ Ac → IsLawfulNature sig e → e.result ≡ None → ⊥
 ac_result sig e Ac p q l r =
     let s : (s : Sort) × (e.args ≡ s ∷ s ∷ []) × (e.result ≡ Some s) = rw p at l in
@@ -150,5 +178,6 @@ module _ (sig : Signature) (nodes : List Node) (store : IsStore sig nodes) (n : 
       record {
         sort = s;
         symbol = record { ac = is_ac; closed = a.closed; headed = subst (λ (os : List Sort). head_sort sig u.head u.sorts os ≡ Some s) two a.is };
+        of_names = join_of_names sig ts n u.head u.sorts (named ts i) (named ts j) join_there join.joins;
         sorted = (first, (second, (k.1, tt)));
       }

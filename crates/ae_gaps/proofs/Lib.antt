@@ -13,3 +13,4 @@ mod CoupledLeads
 mod Taking
 mod Going
 mod InOrder
+mod NothingOpen

@@ -10,6 +10,7 @@ use Rattle.ae_core.specs.declared.terms.Sort.{Sort}
 use Rattle.ae_core.specs.declared.terms.Term.{Term}
 use Rattle.ae_equation_turns.specs.Said.{IsWaitingSaid}
 use Rattle.ae_equations.specs.declared.queue.Waiting.{Waiting}
+use Rattle.ae_just.specs.Steps.{IsSymbolOfNames}
 use Rattle.ae_just.specs.declared.steps.Step.{Step}
 use Rattle.ae_monoid.specs.Equations.{IsDeduced, IsOverlap, AreApart}
 use Rattle.ae_monoid.specs.Rules.{IsWellKept}
@@ -57,6 +58,7 @@ module _ (sig : Signature) (ts : List Term) (steps : List Step) (p q : Kept) (pa
       record {
         sort = s;
         symbol = subst (λ (u : AcSymbol). IsSymbolOn sig u s) (sym d.symbol) sp.names.symbol;
+        of_names = subst (λ (u : AcSymbol). IsSymbolOfNames sig ts u.head) (sym d.symbol) sp.names.of_names;
         sorted =
             all_append P pair.left pair.right
             (all_same P pair.left (p.entry.right ++ minus q.entry.left c) d.left (all_append P p.entry.right (minus q.entry.left c) r1 (all_minus P q.entry.left c l2)))

@@ -16,6 +16,8 @@ ghost use Rattle.ae_store.specs.Terms.{terms};
 ghost use Rattle.ae_sweeps.specs.Gaps.{IsUnequal};
 ghost use Rattle.ae_sweeps.specs.Given.{rep_in};
 ghost use Rattle.ae_theory.specs.declared.theory.Fail.TheVariants.{Steps as OutOfSteps, Number};
+ghost use Rattle.ae_turns.specs.declared.found.Found.{Found as FoundView};
+ghost use Rattle.ae_turns.specs.Budget.{KeepsWithin};
 ghost use Rattle.ae_turns.specs.Ending.{MayBeWide};
 ghost use Rattle.ae_turns.specs.Leading.{Leads};
 ghost use Rattle.ae_turns.specs.Representing.{IsTaken, AreRepresentatives};
@@ -107,6 +109,7 @@ pub(crate) fn take_up_congruent(
     ensures advanced { result ≡ Ok Advanced → counted_in journal.old.lines < counted_in journal.new.lines }
     ensures conflict { (k : ℕ) → result ≡ Ok (Conflict k) → IsOwnConflict held.new k }
     ensures never { result ≡ Ok Nothing → ⊥ }
+    ensures budget { KeepsWithin FoundView store.now held.old journal.old.lines result held.new journal.new.lines }
 {
     entries_of_all_names_fit();
     let _names = store.len();

@@ -10,6 +10,8 @@ ghost use Rattle.ae_sweeps.specs.Gaps.{IsUnflat, IsOpen};
 ghost use Rattle.ae_sweeps.specs.Given.{rep_in, AreConstants};
 ghost use Rattle.ae_theory.specs.Names.{terms_in};
 ghost use Rattle.ae_turns.specs.Cleared.{AreComposed};
+ghost use Rattle.ae_turns.specs.declared.found.Found.{Found as FoundView};
+ghost use Rattle.ae_turns.specs.Budget.{KeepsWithin};
 ghost use Rattle.ae_turns.specs.Ending.{MayBeWide};
 ghost use Rattle.ae_journal.specs.Journals.{live, counted_in};
 ghost use Rattle.ae_journal.specs.declared.answers.WideAt.{WideAt};
@@ -152,6 +154,7 @@ fn take_up_opening(
     ensures advanced { result ≡ Ok Advanced → counted_in journal.old.lines < counted_in journal.new.lines }
     ensures conflict { (k : ℕ) → result ≡ Ok (Conflict k) → IsOwnConflict held.new k }
     ensures never { result ≡ Ok Nothing → ⊥ }
+    ensures budget { KeepsWithin FoundView store.now held.old journal.old.lines result held.new journal.new.lines }
 {
     match opening {
         Opening::Unequal { first, second } => {
@@ -191,6 +194,7 @@ pub fn take_up_gap(
     ensures number { (wide : WideAt) → result ≡ Err (Number wide) → MayBeWide store.now held.old journal.old.lines journal.new.lines wide }
     ensures advanced { result ≡ Ok Advanced → counted_in journal.old.lines < counted_in journal.new.lines }
     ensures conflict { (k : ℕ) → result ≡ Ok (Conflict k) → IsOwnConflict held.new k }
+    ensures budget { KeepsWithin FoundView store.now held.old journal.old.lines result held.new journal.new.lines }
     ensures stays { result ≡ Ok Nothing → held.new ≡ held.old }
     ensures lines { result ≡ Ok Nothing → journal.new ≡ journal.old }
     ensures swept { result ≡ Ok Nothing → IsSwept store.now.signature store.now.nodes (rep_in reps.now) (rules_now held.old) }

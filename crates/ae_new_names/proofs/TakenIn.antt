@@ -18,6 +18,7 @@ use Rattle.ae_store.specs.Stores.{Stored}
 use Rattle.ae_store.specs.Terms.{Keeps}
 use Rattle.ae_store.proofs.StoreLaws.{name_term}
 use Rattle.ae_just.specs.Steps.{Fits}
+use Rattle.ae_just.proofs.KeptLaws.{symbol_kept}
 use Rattle.ae_just.specs.declared.steps.Step.{Step}
 use Rattle.ae_theory.specs.Names.{terms_in}
 use Rattle.ae_state_steps.specs.ManySteps.{IsOfSort}
@@ -61,7 +62,13 @@ module _ (sig : Signature) (old new : List Term) (keeps : Keeps old new) where
       by_term (Some t) h = ap (sort_of sig) (name_term new n t (keeps n t h) ∙ sym (name_term old n t h)) ∙ e
 
   names_kept : (u : AcSymbol) (names : List ℕ) → AreNamesOf sig old u names → AreNamesOf sig new u names
-  names_kept u names a = record { sort = a.sort; symbol = a.symbol; sorted = all_weaker (IsOfSort sig old a.sort) (IsOfSort sig new a.sort) (sort_kept a.sort) names a.sorted }
+  names_kept u names a =
+      record {
+        sort = a.sort;
+        symbol = a.symbol;
+        of_names = symbol_kept old new keeps sig u.head a.of_names;
+        sorted = all_weaker (IsOfSort sig old a.sort) (IsOfSort sig new a.sort) (sort_kept a.sort) names a.sorted;
+      }
 
   module _ (steps : List Step) where
     rule_kept : (rule : Kept) → IsSaid sig old steps rule → IsSaid sig new steps rule

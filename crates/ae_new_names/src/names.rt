@@ -1,5 +1,5 @@
 //! Names of a store that have no values yet.
-ghost use Rattle.std.specs.Prelude.{◌≡◌, List, Err, OnOk};
+ghost use Rattle.std.specs.Prelude.{◌≡◌, ℕ, List, Err, OnOk};
 ghost use Rattle.ae_journal.specs.Journals.{live};
 ghost use Rattle.ae_journal.specs.Noted.{Noted};
 ghost use Rattle.ae_journal.specs.declared.answers.WideAt.{WideAt};
@@ -10,6 +10,7 @@ ghost use Rattle.ae_state.specs.Stepping.{IsInStep};
 ghost use Rattle.ae_sweeps.specs.Given.{AreConstants};
 ghost use Rattle.ae_theory.specs.Names.{terms_in};
 ghost use Rattle.ae_theory.specs.declared.theory.Fail.TheVariants.{Steps as OutOfSteps, Number};
+ghost use Rattle.ae_turns.specs.Budget.{MayNote};
 ghost use Rattle.ae_turns.specs.Ending.{MayBeWide};
 ghost use Rattle.ae_turns.specs.Leading.{Leads};
 ghost use Rattle.ae_turns.specs.Representing.{IsTaken};
@@ -41,6 +42,7 @@ fn learn_all(alloc: Global, held: &mut Holding, store: &Store) -> Result<(), All
     ensures leads { (j : Noted) → Leads store.now held.old j held.new j }
     ensures all { OnOk result (all_terms held.new ≡ terms_in store.now) }
     ensures step { (js : List LineView) → IsInStep held.old js → IsInStep held.new js }
+    ensures budget { (n : ℕ) → MayNote held.old store.now n → MayNote held.new store.now n }
 {
     held.learn(alloc, store)
 }
@@ -58,6 +60,7 @@ fn take_known(
     ensures leads { (j : Noted) → Leads store.now held.old j held.new j }
     ensures taken { OnOk result (IsTaken held.new store.now) }
     ensures step { OnOk result ((js : List LineView) → IsInStep held.old js → IsInStep held.new js) }
+    ensures budget { OnOk result ((n : ℕ) → MayNote held.old store.now n → MayNote held.new store.now n) }
     ensures steps { result ≡ Err OutOfSteps → ⊥ }
     ensures number { (wide : WideAt) (js : List LineView) → result ≡ Err (Number wide) → IsInStep held.old (live js) → MayBeWide store.now held.old js js wide }
 {
@@ -92,6 +95,7 @@ pub fn take_new(
     ensures leads { (j : Noted) → Leads store.now held.old j held.new j }
     ensures taken { OnOk result (IsTaken held.new store.now) }
     ensures step { OnOk result ((js : List LineView) → IsInStep held.old js → IsInStep held.new js) }
+    ensures budget { OnOk result ((n : ℕ) → MayNote held.old store.now n → MayNote held.new store.now n) }
     ensures steps { result ≡ Err OutOfSteps → ⊥ }
     ensures number { (wide : WideAt) (js : List LineView) → result ≡ Err (Number wide) → IsInStep held.old (live js) → MayBeWide store.now held.old js js wide }
 {

@@ -50,6 +50,7 @@ use Rattle.ae_conflicts.specs.declared.conflicts.Conflict.TheVariants as conflic
 use Rattle.ae_state.specs.Names.{all_terms, assumed_in}
 use Rattle.ae_state.specs.Stepping.{IsInStep}
 use Rattle.ae_state.specs.declared.holding.Holding.{Holding}
+use Rattle.ae_turns.specs.Budget.{IsUnsolved, a_leaf, own_number}
 use Rattle.ae_turns.specs.Ending.{MayBeWide}
 use Rattle.ae_value_turns.specs.Renewed.{renewed}
 use Rattle.ae_value_turns.proofs.TakenNames.{all_are, patterns_are, values_are, steps_are, closed_are, lines_are}
@@ -165,6 +166,10 @@ module _ (s : Stored) (o : Holding) (real : Bool) (left right equal : ℕ) (e : 
 
       pub solution_legal : StoresAreInStep → SolvedNumbersAreLegal → (js : List Line) → IsInStep o (live js) → (x : Setting) → IsNamedBy x s js → MayAll x (literals (assumed_in o)) js → MayOrientName x js name (Number number)
       solution_legal law legal js h x named_by may = legal x js y f g name number (with_step law x js named_by h) (join law x js named_by may) solves_difference
+
+      -- the name is left to solve
+      pub solution_unsolved : IsUnsolved s o.values name
+      solution_unsolved = a_leaf (own_number (sort_for real) (own_name form number name solves IsOwn own_parts))
 
       pub solution_written : IsWritten s.signature ts real name number
       solution_written = record {

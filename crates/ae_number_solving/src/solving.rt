@@ -1,5 +1,5 @@
 //! A name gets another number: the line that says so, and the values and steps afterwards.
-ghost use Rattle.std.specs.Prelude.{◌≡◌, ◌<◌, ◌++◌, ◌∷◌, [], ℕ, List, Bool, Err, OnOk, IfOk, IfErr};
+ghost use Rattle.std.specs.Prelude.{◌≡◌, ◌≢◌, ◌<◌, ◌++◌, ◌∷◌, [], ℕ, List, Bool, Err, OnOk, IfOk, IfErr};
 ghost use Rattle.ae_num.specs.Forms.{meaning};
 ghost use Rattle.ae_num.specs.declared.forms.Value.{Number as NumberValue};
 ghost use Rattle.ae_journal.specs.Journals.{live, counted_in};
@@ -15,6 +15,8 @@ ghost use Rattle.ae_value_fitting.specs.Refusals.{IfNumber};
 ghost use Rattle.ae_values.specs.Widths.{IsPutWide};
 ghost use Rattle.ae_state.specs.Stepping.{IsInStep};
 ghost use Rattle.ae_turns.specs.declared.found.Found.TheVariants.{Advanced};
+ghost use Rattle.ae_turns.specs.declared.found.Found.{Found as FoundView};
+ghost use Rattle.ae_turns.specs.Budget.{IsUnsolved, KeepsWithin};
 ghost use Rattle.ae_turns.specs.Ending.{MayBeWide};
 ghost use Rattle.ae_turns.specs.Leading.{Leads};
 ghost use Rattle.ae_turns.specs.Representing.{IsTaken};
@@ -63,6 +65,7 @@ fn put(
     ensures leads { (j : Noted) → Leads store.now held.old j held.new j }
     ensures taken { IsTaken held.new store.now }
     ensures step { OnOk result ((js : List Line) → IsInStep held.old js → IsInStep held.new (js ++ line.Orient (oriented.Named name (NumberValue number)) ∷ [])) }
+    ensures solved { OnOk result ((n : ℕ) → IsUnsolved store.now held.new.values n → IsUnsolved store.now held.old.values n × (n ≢ name)) }
     ensures wide { IfErr result (λ refused. IfNumber refused (λ width. IsPutWide held.old.values name number width)) }
     ensures others { held.new ≡ record held.old { values = held.new.values; justs = held.new.justs } }
 {
@@ -99,6 +102,7 @@ pub(crate) fn solve(
     ensures number { (wide : WideAt) → result ≡ Err (Number wide) → MayBeWide store.now held.old journal.old.lines journal.new.lines wide }
     ensures counted { OnOk result (counted_in journal.old.lines < counted_in journal.new.lines) }
     ensures found { IfOk result (λ found. found ≡ Advanced) }
+    ensures budget { KeepsWithin FoundView store.now held.old journal.old.lines result held.new journal.new.lines }
     ensures others { held.new ≡ record held.old { values = held.new.values; justs = held.new.justs } }
 {
     stores_are_in_step();

@@ -141,7 +141,11 @@ module _ (o : Holding) (s : Stored) (t : IsTaken o s) (reps : List ℕ) (r : Are
         (reduced_by e.left ((h.to).left).reduced) (reduced_by e.right ((h.to).right).reduced)
 
     pub line_legal : 2 ≤ length e.left → (x : Setting) (bound : ℕ) → IsNamedBy x s js → IsLegalLine x bound js new_line
-    line_legal two x bound by = subst (λ (u : AcSymbol). MayOrientRule x js u e.left e.right) (sym (h.to).symbol) (may_come x by two (h.to).descend)
+    line_legal two x bound by = (
+      subst (λ (u : AcSymbol). MayOrientRule x js u e.left e.right) (sym (h.to).symbol) (may_come x by two (h.to).descend),
+      ((h.to).left).rises,
+      ((h.to).right).rises,
+    )
 
   -- ---- the rule
   abbrev next : ℕ

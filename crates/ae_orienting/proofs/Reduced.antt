@@ -56,7 +56,7 @@ in_parts a (x ∷ xs) ys (suc k) e = elim (in_parts a xs ys k e) [ inl i ↦ inl
 names_turned : (sig : Signature) (ts : List Term) (u : AcSymbol) (xs ys : List ℕ) → AreNamesOf sig ts u (xs ++ ys) → AreNamesOf sig ts u (ys ++ xs)
 names_turned sig ts u xs ys a =
     let P = IsOfSort sig ts a.sort in
-    record { sort = a.sort; symbol = a.symbol; sorted = all_append P ys xs (all_back P xs ys a.sorted) (all_front P xs ys a.sorted) }
+    record { sort = a.sort; symbol = a.symbol; of_names = a.of_names; sorted = all_append P ys xs (all_back P xs ys a.sorted) (all_front P xs ys a.sorted) }
 
 module _ (o : Holding) (s : Stored) (t : IsTaken o s) (w : Waiting) (at : first_of (waiting o.equations.queue) ≡ Some w) where
   -- ---- the equation and the rules are said, also where there are more steps
@@ -75,12 +75,12 @@ module _ (o : Holding) (s : Stored) (t : IsTaken o s) (w : Waiting) (at : first_
   left_names : AreNamesOf s.signature (terms_in s) w.symbol w.left
   left_names =
       let a = (first_said o.justs (front_same o.justs)).names in
-      record { sort = a.sort; symbol = a.symbol; sorted = all_front (IsOfSort s.signature (terms_in s) a.sort) w.left w.right a.sorted }
+      record { sort = a.sort; symbol = a.symbol; of_names = a.of_names; sorted = all_front (IsOfSort s.signature (terms_in s) a.sort) w.left w.right a.sorted }
 
   right_names : AreNamesOf s.signature (terms_in s) w.symbol w.right
   right_names =
       let a = (first_said o.justs (front_same o.justs)).names in
-      record { sort = a.sort; symbol = a.symbol; sorted = all_back (IsOfSort s.signature (terms_in s) a.sort) w.left w.right a.sorted }
+      record { sort = a.sort; symbol = a.symbol; of_names = a.of_names; sorted = all_back (IsOfSort s.signature (terms_in s) a.sort) w.left w.right a.sorted }
 
   module _ (reps : List ℕ) (r : AreRepresentatives o reps) where
     pub left_represented : AllByRecursion (IsRepresented s.signature (terms_in s) o.values reps) w.left

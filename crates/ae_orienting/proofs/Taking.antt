@@ -1,5 +1,5 @@
 -- The oldest equation is taken up, and equations are taken up one after another.
-use Rattle.std.specs.Prelude.{ℕ, ◌<◌, ◌⊎◌, List, ◌≡◌, drop, Option, Some}
+use Rattle.std.specs.Prelude.{ℕ, ◌<◌, ◌⊎◌, List, [], ◌≡◌, drop, Option, Some}
 use Rattle.std.proofs.Common.{refl, sym, ap, ◌∙◌, subst, inl, inr}
 use Rattle.std.proofs.lemmas.Option.{same_Some}
 use Rattle.ae_equation_turns.specs.Turned.{DescendsBy, AreRightsOwn}
@@ -89,9 +89,11 @@ pub record IsGivingUp (s : Stored) (reps : List ℕ) (o now : Holding) (j k : No
   pub stays : now ≡ record o { equations = now.equations; justs = now.justs }
   pub rules : now.equations.rules ≡ o.equations.rules
   pub pairs : now.equations.pairs ≡ o.equations.pairs
+  -- where none waited none came
+  pub idle : waiting o.equations.queue ≡ [] → waiting now.equations.queue ≡ []
 
 pub giving_none : (s : Stored) (reps : List ℕ) (o : Holding) (j : Noted) → IsTaken o s → IsInStep o (live j.lines) → AreRepresentatives o reps → IsGivingUp s reps o o j j
-giving_none s reps o j t step r = record { leads = staying_leads s o j t.fits; taken = t; step = step; reps_are = r; lines = refl; stays = refl; rules = refl; pairs = refl }
+giving_none s reps o j t step r = record { leads = staying_leads s o j t.fits; taken = t; step = step; reps_are = r; lines = refl; stays = refl; rules = refl; pairs = refl; idle = λ e. e }
 
 module _ (s : Stored) (reps : List ℕ) (o now : Holding) (j k : Noted) (g : IsGivingUp s reps o now j k) where
   pub giving_rights : AreRightsOwn reps (λ n. rule_at o.equations.rules n) → AreRightsOwn reps (λ n. rule_at now.equations.rules n)
@@ -109,8 +111,8 @@ module _ (s : Stored) (reps : List ℕ) (o now : Holding) (j k : Noted) (g : IsG
 
     -- one equation more
     pub giving_more : IsTaken p s → IsInStep p (live l.lines) → p ≡ record now { equations = p.equations; justs = p.justs } → p.equations.rules ≡ now.equations.rules → p.equations.pairs ≡ now.equations.pairs → l ≡ k
-        → IsGivingUp s reps o p j l
-    giving_more t step stays rules pairs lines =
+        → waiting p.equations.queue ≡ drop 1 (waiting now.equations.queue) → IsGivingUp s reps o p j l
+    giving_more t step stays rules pairs lines given =
         record {
           leads = giving_leads;
           taken = t;
@@ -120,6 +122,7 @@ module _ (s : Stored) (reps : List ℕ) (o now : Holding) (j k : Noted) (g : IsG
           stays = stays ∙ ap (λ (q : Holding). record q { equations = p.equations; justs = p.justs }) g.stays;
           rules = rules ∙ g.rules;
           pairs = pairs ∙ g.pairs;
+          idle = λ e. given ∙ ap (drop 1) (g.idle e);
         }
 
 -- ---- sides that differ

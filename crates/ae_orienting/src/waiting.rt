@@ -111,6 +111,8 @@ pub fn first_waiting(
     ensures pairs { result ≡ Ok Nothing → held.new.equations.pairs ≡ held.old.equations.pairs }
     ensures lines { result ≡ Ok Nothing → journal.new ≡ journal.old }
     ensures none { result ≡ Ok Nothing → waiting held.new.equations.queue ≡ [] }
+    // Where none waits none is taken up.
+    ensures idle { waiting held.old.equations.queue ≡ [] → result ≡ Ok Nothing }
 {
     'turns: while waits(&held.equations) {
         match take_up_first(alloc, held, store, journal, reps)? {

@@ -18,7 +18,7 @@ module _ (o : Holding) (s : Stored) (t : IsTaken o s) (reps : List ℕ) (r : Are
   right_is : AreNamesOf s.signature (terms_in s) rule.entry.symbol rule.entry.right
   right_is =
       let a = (((ruled_all o s t).rules).each n rule at).names in
-      record { sort = a.sort; symbol = a.symbol; sorted = all_back (IsOfSort s.signature (terms_in s) a.sort) rule.entry.left rule.entry.right a.sorted }
+      record { sort = a.sort; symbol = a.symbol; of_names = a.of_names; sorted = all_back (IsOfSort s.signature (terms_in s) a.sort) rule.entry.left rule.entry.right a.sorted }
 
   pub right_names : AreNamesOf s.signature (terms_in s) rule.entry.symbol (rule.entry.right ++ map (rep_in reps) rule.entry.right)
   right_names = names_with_reps o s t reps r rule.entry.symbol rule.entry.right right_is

@@ -1,5 +1,5 @@
 -- The line that puts a leaf for a name is legal where a step equates the two, and what is held then.
-use Rattle.std.specs.Prelude.{ℕ, ◌<◌, ◌≡◌, ◌⊎◌, List, [], ◌∷◌, ◌++◌, length, Result, Ok, Err, IsErrAnd}
+use Rattle.std.specs.Prelude.{ℕ, ◌<◌, ◌≡◌, ◌≢◌, ◌⊎◌, List, [], ◌∷◌, ◌++◌, length, Result, Ok, Err, IsErrAnd}
 use Rattle.std.specs.declared.alloc.AllocError.{AllocError}
 use Rattle.std.proofs.Common.{refl, sym, ap, ◌∙◌, subst, arith, inl, inr}
 use Rattle.std.proofs.lemmas.Result.{err_from_is_err_and}
@@ -37,10 +37,12 @@ use Rattle.ae_theory.specs.Names.{IsNamedBy, terms_in}
 use Rattle.ae_theory.specs.Noting.{MayAll, literals}
 use Rattle.ae_theory.specs.declared.theory.Fail.{Fail}
 use Rattle.ae_theory.specs.declared.theory.Fail.TheVariants.{Memory, Steps as OutOfSteps, Number}
+use Rattle.ae_turns.specs.Budget.{IsUnsolved}
 use Rattle.ae_turns.specs.Leading.{Leads}
 use Rattle.ae_turns.specs.Representing.{IsTaken}
 use Rattle.ae_turns.specs.declared.found.Found.{Found}
 use Rattle.ae_turns.specs.declared.found.Found.TheVariants.{Advanced}
+use Rattle.ae_turns.proofs.Budgets.{within_refused, within_one}
 use Rattle.ae_turns.proofs.Steps.{staying_leads}
 use Rattle.ae_value_fitting.specs.Fitting.{system_in, AreSaid}
 use Rattle.ae_value_fitting.specs.Sources.{AreFromValues}
@@ -50,7 +52,7 @@ use Rattle.ae_value_turns.specs.Renewed.{renewed, KeepsEntries, AreRenewed}
 use Rattle.ae_value_turns.proofs.Consequences.{may_follow}
 use Rattle.ae_value_turns.proofs.GroundedSteps.{put_ground}
 use Rattle.ae_value_turns.proofs.RenewedValues.{taken_after, leads_after}
-use Rattle.ae_value_turns.proofs.SolveLines.{solve_line, solve_noted, solve_counted, solve_live, solve_legal, step_after}
+use Rattle.ae_value_turns.proofs.SolveLines.{solve_line, solve_noted, solve_one, solve_counted, solve_live, solve_legal, step_after}
 use Rattle.ae_value_turns.proofs.TakenNames.{all_are, taken_is, values_are, steps_are, closed_are, lines_are}
 
 module _ (stores : StoresAreInStep) (turned : TurnedLeavesAreLegal) (o : Holding) (s : Stored) (t : IsTaken o s) (js : List Line) (step : IsInStep o (live js)) (sort : Sort) (name leaf id : ℕ)
@@ -100,7 +102,8 @@ module _ (o : Holding) (s : Stored) (t : IsTaken o s) (c : Contents) (steps : Li
 
 -- ---- the equation is taken up
 module _ (o : Holding) (s : Stored) (t : IsTaken o s) (j k : Noted) (name leaf : ℕ) (is : k ≡ record j { lines = j.lines ++ solve_line name (Leaf leaf) ∷ [] })
-    (legal : (x : Setting) → IsNamedBy x s j.lines → MayAll x (literals (assumed_in o)) j.lines → MayOrientName x j.lines name (Leaf leaf)) (c : Contents) (steps : List Step) (n : AreRenewed s o c steps) where
+    (legal : (x : Setting) → IsNamedBy x s j.lines → MayAll x (literals (assumed_in o)) j.lines → MayOrientName x j.lines name (Leaf leaf)) (c : Contents) (steps : List Step) (n : AreRenewed s o c steps)
+    (there : IsUnsolved s o.values name) where
   abbrev after : Holding
   after = renewed o c steps
 
@@ -108,8 +111,8 @@ module _ (o : Holding) (s : Stored) (t : IsTaken o s) (j k : Noted) (name leaf :
   put_leads = leads_after o s t c steps n j k (solve_noted j k name (Leaf leaf) is) (λ x bound named may. solve_legal j k name (Leaf leaf) is x bound (legal x named may))
 
   pub put_taken : IsInStep o (live j.lines) → name < length (terms_in s) → AreLineValues s.signature (terms_in s) (values c) (live j.lines ++ solve_line name (Leaf leaf) ∷ [])
-      → HasTakenUp s o j after k (Ok Advanced)
-  put_taken step l lines =
+      → ((m : ℕ) → IsUnsolved s c m → IsUnsolved s o.values m × (m ≢ name)) → HasTakenUp s o j after k (Ok Advanced)
+  put_taken step l lines solved =
       record {
         leads = put_leads;
         taken = taken_after o s t c steps n;
@@ -119,6 +122,7 @@ module _ (o : Holding) (s : Stored) (t : IsTaken o s) (j k : Noted) (name leaf :
         advanced = λ e. solve_counted j k name (Leaf leaf) is;
         conflict = λ m e. absurd (cc e);
         never = λ e. cc e;
+        budget = within_one s o after j.lines k.lines (solve_one j k name (Leaf leaf) is) name there Found (Ok Advanced) (solved, refl) (λ e. cc e);
         others = refl;
       }
 
@@ -133,6 +137,7 @@ module _ (o : Holding) (s : Stored) (t : IsTaken o s) (j k : Noted) (name leaf :
         advanced = λ z. absurd (cc z);
         conflict = λ m z. absurd (cc z);
         never = λ z. cc z;
+        budget = within_one s o after j.lines k.lines (solve_one j k name (Leaf leaf) is) name there Found (Err (Memory e)) tt (λ z. cc z);
         others = refl;
       }
 
@@ -140,9 +145,9 @@ module _ (o : Holding) (s : Stored) (t : IsTaken o s) (j k : Noted) (name leaf :
   put_refused r e h = let p = err_from_is_err_and r h in subst (HasTakenUp s o j after k) (sym (p.1 ∙ ap Err p.2)) (memory_refused e)
 
 -- the line is refused
-pub line_refused : (o : Holding) (s : Stored) → IsTaken o s → (j k : Noted) → k ≡ j → (r : Result Found Fail) (e : Fail) → IsErrAnd r (λ x. x ≡ e) → (e ≡ OutOfSteps → counted_in j.lines ≡ j.limit)
+pub line_refused : (o : Holding) (s : Stored) → IsTaken o s → (name : ℕ) → IsUnsolved s o.values name → (j k : Noted) → k ≡ j → (r : Result Found Fail) (e : Fail) → IsErrAnd r (λ x. x ≡ e) → (e ≡ OutOfSteps → counted_in j.lines ≡ j.limit)
     → ((wide : WideAt) → e ≡ Number wide → ⊥) → HasTakenUp s o j o k r
-line_refused o s t j k is r e h full wide =
+line_refused o s t name there j k is r e h full wide =
     let p = err_from_is_err_and r h in
     subst (λ (z : Noted × Result Found Fail). HasTakenUp s o j o z.0 z.1) (λ i. (sym is i, sym (p.1 ∙ ap Err p.2) i))
     (record {
@@ -154,6 +159,7 @@ line_refused o s t j k is r e h full wide =
       advanced = λ z. absurd (cc z);
       conflict = λ m z. absurd (cc z);
       never = λ z. cc z;
+      budget = within_refused s o o j.lines j.lines refl Found name there (Err e) e refl;
       others = refl;
     })
 

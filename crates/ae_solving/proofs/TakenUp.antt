@@ -16,6 +16,7 @@ use Rattle.ae_theory.specs.declared.theory.Fail.TheVariants.{Memory}
 use Rattle.ae_turns.specs.Leading.{Leads}
 use Rattle.ae_turns.specs.Representing.{IsTaken}
 use Rattle.ae_turns.specs.declared.found.Found.{Found}
+use Rattle.ae_turns.proofs.Budgets.{within_still}
 use Rattle.ae_turns.proofs.Steps.{going_on_leads, legal_none, noted_none}
 use Rattle.ae_value_turns.specs.Renewed.{renewed}
 use Rattle.ae_value_turns.proofs.RenewedValues.{leads_after, more_steps}
@@ -40,6 +41,7 @@ module _ (o : Holding) (s : Stored) (t : IsTaken o s) (steps : List Step) (front
         advanced = h.advanced;
         conflict = h.conflict;
         never = h.never;
+        budget = record { most = h.budget.most; left = h.budget.left; fewer = h.budget.fewer };
         others = h.others;
       }
 
@@ -55,6 +57,7 @@ module _ (o : Holding) (s : Stored) (t : IsTaken o s) (steps : List Step) (front
         advanced = λ z. absurd (cc z);
         conflict = λ n z. absurd (cc z);
         never = λ z. cc z;
+        budget = within_still s o longer j.lines j.lines refl Found (Err (Memory e)) tt (λ z. cc z);
         others = refl;
       }
 

@@ -11,6 +11,8 @@ ghost use Rattle.ae_state.specs.Names.{all_terms};
 ghost use Rattle.ae_state_steps.specs.ValueSteps.{StatesEqual};
 ghost use Rattle.ae_store.specs.Terms.{named};
 ghost use Rattle.ae_theory.specs.Names.{terms_in};
+ghost use Rattle.ae_turns.specs.declared.found.Found.{Found as FoundView};
+ghost use Rattle.ae_turns.specs.Budget.{KeepsWithin};
 ghost use Rattle.ae_turns.specs.Ending.{MayBeWide};
 ghost use Rattle.ae_value_table.specs.Alike.{alike};
 ghost use Rattle.ae_value_table.specs.declared.patterns.Entry.{Entry as EntryView};
@@ -110,6 +112,7 @@ pub fn name_equation(
     ensures advanced { result ≡ Ok Advanced → counted_in journal.old.lines < counted_in journal.new.lines }
     ensures conflict { (k : ℕ) → result ≡ Ok (Conflict k) → IsOwnConflict held.new k }
     ensures never { result ≡ Ok Nothing → ⊥ }
+    ensures budget { KeepsWithin FoundView store.now held.old journal.old.lines result held.new journal.new.lines }
     ensures others { held.new ≡ record held.old { values = held.new.values; justs = held.new.justs; conflicts = held.new.conflicts } }
 {
     let plain = plain_names(

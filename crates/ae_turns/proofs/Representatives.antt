@@ -126,6 +126,9 @@ module _ (o : Holding) (s : Stored) (t : IsTaken o s) where
             (normal_at n (value_in o.values (b.entry).pattern) b.value) (a.means ∙ sym b.means);
       })
 
+  pub alike_by : (sort : Sort) (v : Val) (m n : ℕ) → Has s.signature y sort v m → Has s.signature y sort v n → IsTrue (alike o.values m n)
+  alike_by sort v m n h k = both sort v m n (here sort v m h) (here sort v n k)
+
   -- a name that is the same has the value
   has_by : (sort : Sort) (v : Val) (q n : ℕ) → Has s.signature y sort v n → IsHere o sort v n → IsTrue (alike o.values q n) → AreOne o.values (slice_get (held o.values) q) (slice_get (held o.values) n)
       → Has s.signature y sort v q
@@ -142,7 +145,7 @@ module _ (o : Holding) (s : Stored) (t : IsTaken o s) where
         value = ap (λ x. x >>= (λ (z : Value). Some (meaning z))) a.value ∙ ap (λ (z : Value). Some (meaning z)) value ∙ ap Some b.means;
       }
 
-  has_same : (sort : Sort) (v : Val) (q n : ℕ) → Has s.signature y sort v n → IsTrue (alike o.values q n) → Has s.signature y sort v q
+  pub has_same : (sort : Sort) (v : Val) (q n : ℕ) → Has s.signature y sort v n → IsTrue (alike o.values q n) → Has s.signature y sort v q
   has_same sort v q n h same =
       by_either (nat_eq q n) (alike_entries o.values (slice_get (held o.values) q) (slice_get (held o.values) n)) same (λ e. subst (Has s.signature y sort v) (sym (eqb-true q n e)) h)
       (λ f. has_by sort v q n h (here sort v n h) same (one_by o.values (slice_get (held o.values) q) (slice_get (held o.values) n) f))

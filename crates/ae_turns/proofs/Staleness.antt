@@ -28,7 +28,7 @@ use Rattle.ae_store.proofs.StoreLaws.{name_term}
 use Rattle.ae_settled.specs.Swept.{AreOwn}
 use Rattle.ae_theory.specs.Names.{IsNamedBy, terms_in}
 use Rattle.ae_monoid.specs.Changes.{AreTakenOut}
-use Rattle.ae_monoid.specs.Rules.{rule_at}
+use Rattle.ae_monoid.specs.Rules.{rule_at, AreRules}
 use Rattle.ae_monoid.specs.declared.rules.Kept.{Kept}
 use Rattle.ae_monoid.specs.declared.pending.PendingPair.{PendingPair}
 use Rattle.ae_multiset_steps.proofs.Lists.{count_at, counted}
@@ -43,6 +43,7 @@ use Rattle.ae_rule_passes.specs.Laws.{IsStaleAfter}
 use Rattle.ae_rule_passes.specs.Passes.{drop_line}
 use Rattle.ae_rule_passes.proofs.Reasons.{stale_go}
 use Rattle.ae_rule_changes.specs.Entries.{entry_of}
+use Rattle.ae_rule_changes.proofs.TakenOut.{rising_rights}
 use Rattle.ae_value_table.specs.Table.{values}
 use Rattle.ae_value_fitting.specs.Fitting.{system_in}
 use Rattle.ae_state.specs.declared.holding.Holding.{Holding}
@@ -50,7 +51,7 @@ use Rattle.ae_state.specs.Names.{terms_now}
 use Rattle.ae_state.specs.Stepping.{equations_now, paired_now, IsInStep}
 use Rattle.ae_turns.specs.Representing.{IsTaken, AreRepresentatives}
 use Rattle.ae_state.proofs.Shown.{within_store}
-use Rattle.ae_turns.proofs.DroppedRules.{kept_in, stays, live_drops, rules_out, values_drops}
+use Rattle.ae_turns.proofs.DroppedRules.{kept_in, entries_are, stays, live_drops, rules_out, values_drops}
 use Rattle.ae_turns.proofs.Representatives.{least_names_represent, valued}
 
 -- what is not stale is of names that are their own
@@ -109,7 +110,7 @@ module _ (o : Holding) (s : Stored) (reps : List ℕ) (t : IsTaken o s) (r : Are
       by_place (inr l) = absurd (apart (get_or_past reps k k (omega (arith, l, r.one_each, within_store o s t.fits))))
 
   -- the lines that drop such rules are legal
-  module _ (bound : ℕ) (e : Equations) (pairs : List PendingPair) (out : AreTakenOut (kept_in o.equations) (kept_in e) (λ n. IsStale reps (rule_at o.equations.rules n)) pairs)
+  module _ (well : AreRules (kept_in o.equations) o.equations.rules.next) (bound : ℕ) (e : Equations) (pairs : List PendingPair) (out : AreTakenOut (kept_in o.equations) (kept_in e) (λ n. IsStale reps (rule_at o.equations.rules n)) pairs)
       (queue : waiting e.queue ≡ waiting o.equations.queue ++ map equation_of pairs) where
     why : (n : ℕ) (d : RuleEntry) → Contains out.numbers n → entries_of o.equations.rules n ≡ Some d → (k : ℕ) × (0 < count k d.left) × IsStaleAfter x js k
     why n d c u =
@@ -127,4 +128,5 @@ module _ (o : Holding) (s : Stored) (reps : List ℕ) (t : IsTaken o s) (r : Are
     pub stale_legal : AreLegal x bound js (map drop_line (map entry_of pairs))
     stale_legal =
         stale_go x bound o.signature (terms_now o) js (entries_of o.equations.rules) (entries_of e.rules) (paired_now o) (equations_now o) out.numbers (map entry_of pairs)
-        (rules_out o e (λ n. IsStale reps (rule_at o.equations.rules n)) pairs out queue) step.ruled why
+        (rules_out o e (λ n. IsStale reps (rule_at o.equations.rules n)) pairs out queue) step.ruled
+        (rising_rights (kept_in o.equations) (entries_of o.equations.rules) o.equations.rules.next well (entries_are o.equations)) why

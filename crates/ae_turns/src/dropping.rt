@@ -1,6 +1,6 @@
 //! Rules that go, with the lines that say so.
 ghost use Rattle.std.specs.Prelude.{◌≡◌, ◌++◌, ℕ, map, Some, IfOk, OnOk};
-ghost use Rattle.ae_journal.specs.Journals.{live};
+ghost use Rattle.ae_journal.specs.Journals.{live, counted_in};
 ghost use Rattle.ae_monoid.specs.Changes.{IsReducible};
 ghost use Rattle.ae_monoid.specs.Rules.{rule_at};
 ghost use Rattle.ae_monoid.specs.declared.rules.Kept.{Kept};
@@ -9,6 +9,7 @@ ghost use Rattle.ae_rule_passes.specs.Passes.{drop_line};
 ghost use Rattle.ae_settled.specs.Swept.{AreOwn};
 ghost use Rattle.ae_sweeps.specs.Given.{rep_in};
 ghost use Rattle.ae_state.specs.Stepping.{IsInStep};
+ghost use Rattle.ae_turns.specs.Budget.{MayNote};
 ghost use Rattle.ae_turns.specs.Leading.{Leads};
 ghost use Rattle.ae_turns.specs.Representing.{IsTaken, AreRepresentatives};
 ghost use Rattle.ae_turns.specs.Inner.Drops.{IsDropNoted};
@@ -69,6 +70,8 @@ pub fn release(
     ensures leads { Leads store.now held.old journal.old held.new journal.new }
     ensures step { OnOk result (IsInStep held.new (live journal.new.lines)) }
     ensures others { held.new ≡ record held.old { equations = held.new.equations } }
+    ensures counted { counted_in journal.new.lines ≡ counted_in journal.old.lines }
+    ensures budget { (n : ℕ) → MayNote held.old store.now n → MayNote held.new store.now n }
     ensures stay { (n : ℕ) (rule : Kept) → rule_at held.new.equations.rules n ≡ Some rule → rule_at held.old.equations.rules n ≡ Some rule }
     ensures own { OnOk result ((n : ℕ) (rule : Kept) → rule_at held.new.equations.rules n ≡ Some rule → AreOwn (rep_in reps.now) rule.entry.left) }
 {
@@ -92,6 +95,8 @@ pub fn collapse(
     ensures leads { Leads store.now held.old journal.old held.new journal.new }
     ensures step { OnOk result (IsInStep held.new (live journal.new.lines)) }
     ensures others { held.new ≡ record held.old { equations = held.new.equations } }
+    ensures counted { counted_in journal.new.lines ≡ counted_in journal.old.lines }
+    ensures budget { (n : ℕ) → MayNote held.old store.now n → MayNote held.new store.now n }
     ensures stay { (n : ℕ) (rule : Kept) → rule_at held.new.equations.rules n ≡ Some rule → rule_at held.old.equations.rules n ≡ Some rule }
     ensures alone { OnOk result ((n : ℕ) → IsReducible (λ m. rule_at held.new.equations.rules m) n → ⊥) }
 {

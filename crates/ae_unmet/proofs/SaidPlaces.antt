@@ -72,12 +72,12 @@ pub record IsOfPlace (held : List (ℕ × Assumed)) (next : ℕ) (x : Lit) : Typ
   pub is : entry.lit ≡ x
 
 module _ (o : Holding) (right : IsRight o) where
-  lit_there : (k : ℕ) (p : ℕ × Assumed) → slice_get (present o.assumed) k ≡ Some p → slice_get (literals (assumed_in o)) k ≡ Some (p.1).lit
+  pub lit_there : (k : ℕ) (p : ℕ × Assumed) → slice_get (present o.assumed) k ≡ Some p → slice_get (literals (assumed_in o)) k ≡ Some (p.1).lit
   lit_there k p e =
       get_map (λ (z : Tagged). z.lit) (assumed_in o) k (record { lit = (p.1).lit; tag = (p.1).tag })
       (get_map (λ (z : ℕ × Assumed). record { lit = (z.1).lit; tag = (z.1).tag }) (present o.assumed) k p e)
 
-  literals_long : length (literals (assumed_in o)) ≡ o.next
+  pub literals_long : length (literals (assumed_in o)) ≡ o.next
   literals_long =
       length-map (assumed_in o) (λ (z : Tagged). z.lit) ∙ length-map (present o.assumed) (λ (z : ℕ × Assumed). record { lit = (z.1).lit; tag = (z.1).tag }) ∙ (right.numbered).many
 
@@ -104,7 +104,7 @@ pub record IsSaidAt (s : Stored) (o : Holding) (place : ℕ) (y : Said) : Type 0
   pub says : Says s entry.lit y
   pub there : found (present o.said) place ≡ Some y
 
-within_of : (s : Stored) (x : Lit) (y : Said) → length (terms_in s) ≡ length s.nodes → Says s x y → IsWithin (length s.nodes) y
+pub within_of : (s : Stored) (x : Lit) (y : Said) → length (terms_in s) ≡ length s.nodes → Says s x y → IsWithin (length s.nodes) y
 within_of s x (Equal b l r) e h =
     let i : l < length (terms_in s) = slice_get_within (terms_in s) l h.left h.left_at in
     let j : r < length (terms_in s) = slice_get_within (terms_in s) r h.right h.right_at in

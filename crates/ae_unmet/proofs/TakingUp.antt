@@ -15,9 +15,11 @@ use Rattle.ae_state.specs.Stepping.{IsInStep}
 use Rattle.ae_state.specs.Complete.{IsOwnConflict}
 use Rattle.ae_turns.specs.declared.found.Found.{Found}
 use Rattle.ae_turns.specs.declared.found.Found.TheVariants.{Nothing, Advanced, Conflict}
+use Rattle.ae_turns.specs.Budget.{MayNote, KeepsWithin}
 use Rattle.ae_turns.specs.Ending.{MayBeWide}
 use Rattle.ae_turns.specs.Leading.{Leads}
 use Rattle.ae_turns.specs.Representing.{IsTaken}
+use Rattle.ae_turns.proofs.Budgets.{within_still}
 use Rattle.ae_turns.proofs.Steps.{staying_leads, going_on_leads}
 use Rattle.ae_unmet.specs.Inner.Ending.{IsTakenUp}
 use Rattle.ae_unmet.specs.Inner.Growing.{HasGrown}
@@ -63,6 +65,7 @@ module _ (s : Stored) (o : Holding) (t : IsTaken o s) (j : Noted) (step : IsInSt
         number = λ wide e. absurd (ok_err (Conflict k) (Number wide) e);
         advanced = λ e. absurd (conflict_advanced k e);
         conflict = λ i e. subst (IsOwnConflict p) (conflict_same k i e) own;
+        budget = within_still s o p j.lines j.lines refl Found (Ok (Conflict k)) (λ n h. subst (λ (q : Holding). MayNote q s n) (sym g.others) h) (λ e. ok_err (Conflict k) OutOfSteps e);
         stays = λ e. absurd (conflict_nothing k e);
         lines = λ e. absurd (conflict_nothing k e);
         reason = λ e. absurd (conflict_nothing k e);
@@ -80,6 +83,7 @@ module _ (s : Stored) (o : Holding) (t : IsTaken o s) (j : Noted) (step : IsInSt
         number = λ wide e. absurd (ok_err Nothing (Number wide) e);
         advanced = λ e. absurd (nothing_advanced e);
         conflict = λ i e. absurd (nothing_conflict i e);
+        budget = within_still s o o j.lines j.lines refl Found (Ok Nothing) (λ n h. h) (λ e. ok_err Nothing OutOfSteps e);
         stays = λ e. refl;
         lines = λ e. refl;
         reason = λ e. w;
@@ -96,6 +100,7 @@ module _ (s : Stored) (o : Holding) (t : IsTaken o s) (j : Noted) (step : IsInSt
         number = λ wide e. absurd (memory_number r m wide is e);
         advanced = λ e. absurd (err_ok r Advanced e);
         conflict = λ i e. absurd (err_ok r (Conflict i) e);
+        budget = within_still s o p j.lines j.lines refl Found (Err r) tt (λ e. memory_steps r m is e);
         stays = λ e. absurd (err_ok r Nothing e);
         lines = λ e. absurd (err_ok r Nothing e);
         reason = λ e. absurd (err_ok r Nothing e);
@@ -108,8 +113,9 @@ module _ (s : Stored) (o : Holding) (t : IsTaken o s) (j : Noted) (step : IsInSt
   -- an equation of names that is taken up after steps came
   pub solved : (p q : Holding) → HasGrown s o p → (k : Noted) (r : Result Found Fail) → Leads s p j q k → OnOk r (IsTaken q s) → OnOk r (IsInStep q (live k.lines)) → (r ≡ Err OutOfSteps → counted_in k.lines ≡ k.limit)
       → ((wide : WideAt) → r ≡ Err (Number wide) → MayBeWide s p j.lines k.lines wide) → (r ≡ Ok Advanced → counted_in j.lines < counted_in k.lines) → ((i : ℕ) → r ≡ Ok (Conflict i) → IsOwnConflict q i) → (r ≡ Ok Nothing → ⊥)
-      → IsTakenUp s o j q k why r
-  solved p q g k r leads taken now steps number advanced conflict never =
+      → KeepsWithin Found s p j.lines r q k.lines → IsTakenUp s o j q k why r
+  solved p q g k r leads taken now steps number advanced conflict never budget =
+      let b = subst (λ (h : Holding). KeepsWithin Found s h j.lines r q k.lines) g.others budget in
       record {
         leads = going_on_leads s o p q j j k (grown_leads s o p t g j) leads;
         taken = taken;
@@ -118,6 +124,7 @@ module _ (s : Stored) (o : Holding) (t : IsTaken o s) (j : Noted) (step : IsInSt
         number = λ wide e x named may. number wide e x named (subst (λ (ts : List Tagged). MayAll x (literals ts) j.lines) (sym (assumed_grown s o p t g)) may);
         advanced = advanced;
         conflict = conflict;
+        budget = record { most = b.most; left = b.left; fewer = b.fewer };
         stays = λ e. absurd (never e);
         lines = λ e. absurd (never e);
         reason = λ e. absurd (never e);
@@ -134,6 +141,7 @@ taken_up_weaker s o j p k why more r f h =
       number = h.number;
       advanced = h.advanced;
       conflict = h.conflict;
+      budget = h.budget;
       stays = h.stays;
       lines = h.lines;
       reason = λ e. f (h.reason e);

@@ -7,3 +7,4 @@ mod saying;
 mod stating;
 
 pub use literals::take_up_unmet;
+pub use saying::said_at;

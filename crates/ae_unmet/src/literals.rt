@@ -3,6 +3,8 @@ ghost use Rattle.std.specs.Prelude.{◌≡◌, ◌<◌, ℕ, Ok, Err, OnOk, IfSo
 ghost use Rattle.ae_settled.specs.Met.{AreMet};
 ghost use Rattle.ae_state.specs.Names.{assumed_in};
 ghost use Rattle.ae_theory.specs.Noting.{literals};
+ghost use Rattle.ae_turns.specs.declared.found.Found.{Found as FoundView};
+ghost use Rattle.ae_turns.specs.Budget.{KeepsWithin};
 ghost use Rattle.ae_turns.specs.Ending.{MayBeWide, seen};
 ghost use Rattle.ae_journal.specs.Journals.{live, counted_in};
 ghost use Rattle.ae_journal.specs.declared.answers.WideAt.{WideAt};
@@ -134,6 +136,7 @@ pub fn take_up_unmet(
     ensures number { (wide : WideAt) → result ≡ Err (Number wide) → MayBeWide store.now held.old journal.old.lines journal.new.lines wide }
     ensures advanced { result ≡ Ok Advanced → counted_in journal.old.lines < counted_in journal.new.lines }
     ensures conflict { (k : ℕ) → result ≡ Ok (Conflict k) → IsOwnConflict held.new k }
+    ensures budget { KeepsWithin FoundView store.now held.old journal.old.lines result held.new journal.new.lines }
     ensures stays { result ≡ Ok Nothing → held.new ≡ held.old }
     ensures lines { result ≡ Ok Nothing → journal.new ≡ journal.old }
     ensures met { result ≡ Ok Nothing → AreWellSorted held.old → AreMet (seen held.old store.now reps.now) (literals (assumed_in held.old)) }

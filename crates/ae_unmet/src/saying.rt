@@ -18,7 +18,7 @@ use ae_store::store::Store;
 use std::alloc::{AllocError, Global};
 
 /// What the literal at a place says; nothing where no literal is there.
-pub(crate) fn said_at(held: &Holding, place: usize) -> Said
+pub fn said_at(held: &Holding, place: usize) -> Said
     ensures { (y : SaidView) → found (present held.now.said) place ≡ Some y → result ≡ y }
 {
     match held.said.get(place) {

@@ -43,10 +43,11 @@ module _ (j k : Noted) (name : ℕ) (v : Value) (is : k ≡ record j { lines = j
   pub solve_noted : HasNoted j k
   solve_noted = record { added = solve_line name v ∷ []; is = lines_are; limit = ap (λ (z : Noted). z.limit) is; theory = (refl, tt) }
 
+  pub solve_one : counted_in k.lines ≡ counted_in j.lines + 1
+  solve_one = ap counted_in lines_are ∙ counted_push j.lines (solve_line name v)
+
   pub solve_counted : counted_in j.lines < counted_in k.lines
-  solve_counted =
-      let one : counted_in k.lines ≡ counted_in j.lines + 1 = ap counted_in lines_are ∙ counted_push j.lines (solve_line name v) in
-      omega (arith, one)
+  solve_counted = omega (arith, solve_one)
 
   pub solve_live : live k.lines ≡ live j.lines ++ solve_line name v ∷ []
   solve_live = ap live lines_are ∙ live_push j.lines (solve_line name v)

@@ -9,6 +9,7 @@ use Rattle.ae_state.specs.declared.holding.Holding.{Holding}
 use Rattle.ae_store.specs.Stores.{Stored}
 use Rattle.ae_theory.specs.declared.theory.Fail.{Fail}
 use Rattle.ae_theory.specs.declared.theory.Fail.TheVariants.{Steps as OutOfSteps, Number}
+use Rattle.ae_turns.specs.Budget.{KeepsWithin}
 use Rattle.ae_turns.specs.Ending.{MayBeWide}
 use Rattle.ae_turns.specs.Leading.{Leads}
 use Rattle.ae_turns.specs.Representing.{IsTaken}
@@ -25,4 +26,5 @@ pub record HasTakenUp (s : Stored) (o : Holding) (j : Noted) (p : Holding) (k : 
   pub advanced : result ≡ Ok Advanced → counted_in j.lines < counted_in k.lines
   pub conflict : (n : ℕ) → result ≡ Ok (Conflict n) → IsOwnConflict p n
   pub never : result ≡ Ok Nothing → ⊥
+  pub budget : KeepsWithin Found s o j.lines result p k.lines
   pub others : p ≡ record o { values = p.values; justs = p.justs; conflicts = p.conflicts }

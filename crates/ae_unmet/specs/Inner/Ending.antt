@@ -13,6 +13,7 @@ use Rattle.ae_state.specs.Stepping.{IsInStep}
 use Rattle.ae_state.specs.Complete.{IsOwnConflict, AreWellSorted}
 use Rattle.ae_turns.specs.declared.found.Found.{Found}
 use Rattle.ae_turns.specs.declared.found.Found.TheVariants.{Nothing, Advanced, Conflict}
+use Rattle.ae_turns.specs.Budget.{KeepsWithin}
 use Rattle.ae_turns.specs.Ending.{MayBeWide}
 use Rattle.ae_turns.specs.Leading.{Leads}
 use Rattle.ae_turns.specs.Representing.{IsTaken}
@@ -26,6 +27,7 @@ pub record IsTakenUp (s : Stored) (o : Holding) (before : Noted) (p : Holding) (
   pub number : (wide : WideAt) → r ≡ Err (Number wide) → MayBeWide s o before.lines after.lines wide
   pub advanced : r ≡ Ok Advanced → counted_in before.lines < counted_in after.lines
   pub conflict : (k : ℕ) → r ≡ Ok (Conflict k) → IsOwnConflict p k
+  pub budget : KeepsWithin Found s o before.lines r p after.lines
   pub stays : r ≡ Ok Nothing → p ≡ o
   pub lines : r ≡ Ok Nothing → after ≡ before
   pub reason : r ≡ Ok Nothing → why

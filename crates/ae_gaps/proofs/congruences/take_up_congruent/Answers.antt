@@ -1,6 +1,9 @@
+use Rattle.std.proofs.Common.{refl}
 use Rattle.ae_representatives.proofs.MoreSteps.{with_steps, rests_by_values, step_more, taken_more, steps_lead}
 use Rattle.ae_representatives.proofs.Taken.{fits_all, said_all, patterns}
 use Rattle.ae_theory.specs.Names.{terms_in}
+use Rattle.ae_turns.specs.declared.found.Found.{Found}
+use Rattle.ae_turns.proofs.Budgets.{within_memory}
 use Rattle.ae_turns.proofs.Representatives.{valued}
 use Rattle.ae_turns.proofs.Steps.{going_on_leads}
 use Rattle.ae_gaps.proofs.ArgumentSteps.{unequal_congruent, first_within, second_within, unequal_apart, stated_sorted}
@@ -46,3 +49,12 @@ returns-clause-leads c =
     let js = c.congruent_step.new.justs in
     going_on_leads s o (with_steps o js) c.name_equation.new.held c.args.journal.now c.args.journal.now c.name_equation.new.journal
     (steps_lead o js c.congruent_step.ensures.front s c.requires.taken c.congruent_step.ensures.fits c.args.journal.now) c.name_equation.ensures.leads
+
+-- ---- how many lines may be noted
+pub returns-in_err-step-clause-budget : goal.returns-in_err-step-clause-budget
+returns-in_err-step-clause-budget c =
+    let ls = c.args.journal.now.lines in
+    within_memory c.args.store.now c.args.held.now _ ls ls refl Found c.from_residual.result _ c.from_residual.ensures.1
+
+pub returns-clause-budget : goal.returns-clause-budget
+returns-clause-budget c = let b = c.name_equation.ensures.budget in record { most = b.most; left = b.left; fewer = b.fewer }

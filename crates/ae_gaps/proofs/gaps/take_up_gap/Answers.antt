@@ -1,4 +1,9 @@
+use Rattle.std.specs.Prelude.{Ok}
+use Rattle.std.proofs.Common.{refl}
 use Rattle.ae_sweeps.proofs.Bridges.{from_none}
+use Rattle.ae_turns.specs.declared.found.Found.{Found}
+use Rattle.ae_turns.specs.declared.found.Found.TheVariants.{Nothing}
+use Rattle.ae_turns.proofs.Budgets.{within_still, within_memory}
 use Rattle.ae_turns.proofs.Steps.{staying_leads}
 use Rattle.ae_gaps.proofs.gaps.take_up_gap.Goals as goal
 
@@ -22,3 +27,14 @@ returns-clause-lines c = λ e. absurd (c.take_up_opening.ensures.never e)
 
 pub returns-clause-swept : goal.returns-clause-swept
 returns-clause-swept c = λ e. absurd (c.take_up_opening.ensures.never e)
+
+-- ---- how many lines may be noted
+pub returns-in_err-opening-clause-budget : goal.returns-in_err-opening-clause-budget
+returns-in_err-opening-clause-budget c =
+    let ls = c.args.journal.now.lines in
+    within_memory c.args.store.now c.args.held.now _ ls ls refl Found c.from_residual.result _ c.from_residual.ensures.1
+
+pub returns-in_default-clause-budget : goal.returns-in_default-clause-budget
+returns-in_default-clause-budget c =
+    let ls = c.args.journal.now.lines in
+    within_still c.args.store.now c.args.held.now c.args.held.now ls ls refl Found (Ok Nothing) (λ n h. h) (λ e. cc e)

@@ -7,7 +7,7 @@ use Rattle.ae_value_fitting.specs.declared.refusals.Refused.{Refused}
 use Rattle.ae_value_fitting.specs.Refusals.{IfNumber}
 use Rattle.ae_new_names.proofs.Stepping.{old_entries, old_said, old_steps, old_values, all_now, step_now}
 use Rattle.ae_new_names.proofs.TakenIn.{fits_now, taken_leads}
-use Rattle.ae_new_names.proofs.Taking.{done_within, done_closed, done_keeps, same_within, same_closed, same_keeps, taking_licensed}
+use Rattle.ae_new_names.proofs.Taking.{done_within, done_closed, done_keeps, taken_may_note, same_within, same_closed, same_keeps, taking_licensed}
 use Rattle.ae_new_names.proofs.names.take_known.Goals as goal
 
 pub take_in-requires-clause-same : goal.take_in-requires-clause-same
@@ -74,6 +74,10 @@ returns-in-Ok-clause-steps c e = absurd (cc e)
 
 pub returns-in-Ok-clause-number : goal.returns-in-Ok-clause-number
 returns-in-Ok-clause-number c wide js e = absurd (cc e)
+
+pub returns-in-Ok-clause-budget : goal.returns-in-Ok-clause-budget
+returns-in-Ok-clause-budget c =
+    taken_may_note c.args.store.now c.args.held.now c.requires.fits c.requires.all c.len-names.ensures.store c.take_in.new.values c.in-Ok.ensures.ok c.take_in.ensures.kept
 
 -- ---- a refusal
 pub returns-in-Err-clause-leads : goal.returns-in-Err-clause-leads

@@ -38,3 +38,6 @@ pub returns-clause-number : goal.returns-clause-number
 returns-clause-number c wide js e i x named may =
     let assumed = (c.learn_all.ensures.leads (record { lines = []; limit = 0 })).assumed in
     c.take_known.ensures.number wide js e (c.learn_all.ensures.step (live js) i) x named (subst (λ (ts : List Tagged). MayAll x (literals ts) js) (sym assumed) may)
+
+pub returns-clause-budget : goal.returns-clause-budget
+returns-clause-budget c = on_ok_weaker c.take_known.result (λ still n h. still n (c.learn_all.ensures.budget n h)) c.take_known.ensures.budget

@@ -1,4 +1,8 @@
+use Rattle.std.specs.Prelude.{Err}
+use Rattle.std.proofs.Common.{refl}
 use Rattle.ae_journal.specs.Journals.{live}
+use Rattle.ae_turns.specs.declared.found.Found.{Found}
+use Rattle.ae_turns.proofs.Budgets.{within_still}
 use Rattle.ae_turns.proofs.Steps.{going_on_leads}
 use Rattle.ae_value_turns.proofs.TakenNames.{steps_are, said_are}
 use Rattle.ae_number_solving.specs.Inner.Equated.{AreEquated}
@@ -106,3 +110,12 @@ returns-in-Err-clause-number c = λ wide z.
 
 pub returns-in-Ok-clause-number : goal.returns-in-Ok-clause-number
 returns-in-Ok-clause-number c = λ wide z. c.settle.ensures.number wide z
+
+-- ---- how many lines may be noted
+pub returns-in-Ok-clause-budget : goal.returns-in-Ok-clause-budget
+returns-in-Ok-clause-budget c = let b = c.settle.ensures.budget in record { most = b.most; left = b.left; fewer = b.fewer }
+
+pub returns-in-Err-clause-budget : goal.returns-in-Err-clause-budget
+returns-in-Err-clause-budget c =
+    let ls = c.args.journal.now.lines in
+    within_still c.args.store.now c.args.held.now _ ls ls refl Found (Err c.failed.result) tt (λ e. c.failed.ensures.steps (cc e))

@@ -1,5 +1,5 @@
-use Rattle.std.specs.Prelude.{length}
-use Rattle.std.proofs.Common.{sym, subst}
+use Rattle.std.specs.Prelude.{length, Err}
+use Rattle.std.proofs.Common.{refl, sym, subst}
 use Rattle.std.proofs.lemmas.Result.{on_ok_weaker}
 use Rattle.ae_num.specs.Forms.{meaning}
 use Rattle.ae_journal.specs.Journals.{live}
@@ -7,8 +7,11 @@ use Rattle.ae_conflicts.specs.declared.conflicts.Conflict.TheVariants as conflic
 use Rattle.ae_linear.specs.Solving.{IsSolved}
 use Rattle.ae_state.specs.Stepping.{IsInStep}
 use Rattle.ae_state.specs.declared.holding.Holding.{Holding}
+use Rattle.ae_turns.specs.declared.found.Found.{Found}
 use Rattle.ae_turns.specs.declared.found.Found.TheVariants as found
+use Rattle.ae_turns.specs.Budget.{MayNote}
 use Rattle.ae_turns.specs.Representing.{IsTaken}
+use Rattle.ae_turns.proofs.Budgets.{within_still}
 use Rattle.ae_turns.proofs.Steps.{staying_leads}
 use Rattle.ae_number_solving.specs.Inner.Widths.{IsScalingWide}
 use Rattle.ae_number_solving.proofs.SumWidths.{number_is}
@@ -102,3 +105,16 @@ returns-in-Err-clause-number c = λ wide e.
     let refused = c.failed.ensures.number wide (cc e) in
     scaling_licensed c.args.store.now c.args.held.now c.args.real q.left q.right q.equal q.equated d.form d.zero q.difference c.stores_are_in_step.ensures c.widths_of_solving_are_licensed.ensures.scalings c.args.journal.now.lines wide
     c.requires.step (number_is (IsScalingWide d.form) c.scaling_refused.result wide c.scaling_refused.ensures refused)
+
+-- ---- how many lines may be noted
+pub returns-in-Bottom-clause-budget : goal.returns-in-Bottom-clause-budget
+returns-in-Bottom-clause-budget c =
+    let s = c.args.store.now in
+    let ls = c.args.journal.now.lines in
+    within_still s c.args.held.now c.keep_constant.new.held ls ls refl Found c.keep_constant.result
+    (on_ok_weaker c.keep_constant.result (λ e n h. subst (λ (q : Holding). MayNote q s n) (sym e) h) c.keep_constant.ensures.kept) c.keep_constant.ensures.steps
+
+pub returns-in-Err-clause-budget : goal.returns-in-Err-clause-budget
+returns-in-Err-clause-budget c =
+    let ls = c.args.journal.now.lines in
+    within_still c.args.store.now c.args.held.now c.args.held.now ls ls refl Found (Err c.failed.result) tt (λ e. c.failed.ensures.steps (cc e))

@@ -1,4 +1,8 @@
+use Rattle.std.proofs.Common.{ap}
 use Rattle.std.proofs.lemmas.Result.{on_ok_weaker}
+use Rattle.ae_state_steps.specs.ValueSteps.{sort_for}
+use Rattle.ae_value_table.specs.Table.{Contents}
+use Rattle.ae_turns.proofs.Unsolved.{number_solved}
 use Rattle.ae_value_turns.proofs.TakenNames.{patterns_are, values_are, steps_are, said_are}
 use Rattle.ae_number_solving.proofs.Puts.{put_taken, put_leads, put_step}
 use Rattle.ae_number_solving.proofs.solving.put.Goals as goal
@@ -45,6 +49,14 @@ returns-clause-step c =
     let p = c.put_number.ensures in
     on_ok_weaker c.put_number.result
     (put_step c.args.store.now c.args.held.now c.args.real c.args.name c.args.number c.args.just c.requires.may c.put_number.new.values c.put_number.new.justs p.front p.fits p.others p.values p.said p.sources p.lasts) p.put
+
+pub returns-clause-solved : goal.returns-clause-solved
+returns-clause-solved c =
+    let p = c.put_number.ensures in
+    let s = c.args.store.now in
+    let o = c.args.held.now in
+    on_ok_weaker c.put_number.result
+    (number_solved s o.values c.put_number.new.values (values_are o s c.requires.may.taken) p.values (ap (λ (x : Contents). x.taken) p.others) (sort_for c.args.real) c.args.name c.args.number) p.put
 
 pub returns-clause-wide : goal.returns-clause-wide
 returns-clause-wide c = c.put_number.ensures.wide

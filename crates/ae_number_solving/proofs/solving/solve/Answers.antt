@@ -1,15 +1,20 @@
-use Rattle.std.proofs.Common.{sym, ap, subst, arith}
+use Rattle.std.specs.Prelude.{Ok, Err}
+use Rattle.std.proofs.Common.{refl, sym, ap, subst, arith}
 use Rattle.ae_num.specs.declared.forms.Value.{Number}
-use Rattle.ae_journal.specs.Journals.{live}
+use Rattle.ae_journal.specs.Journals.{live, counted_in}
 use Rattle.ae_journal.specs.Noted.{Noted}
 use Rattle.ae_state.specs.Stepping.{IsInStep}
+use Rattle.ae_state.specs.declared.holding.Holding.{Holding}
+use Rattle.ae_turns.specs.declared.found.Found.{Found}
+use Rattle.ae_turns.specs.declared.found.Found.TheVariants.{Advanced}
 use Rattle.ae_turns.specs.Leading.{Leads}
+use Rattle.ae_turns.proofs.Budgets.{within_memory, within_refused, within_one}
 use Rattle.ae_turns.proofs.Steps.{going_on_leads}
 use Rattle.ae_values.specs.Widths.{IsPutWide}
 use Rattle.ae_value_turns.proofs.TakenNames.{steps_are}
-use Rattle.ae_value_turns.proofs.SolveLines.{solve_counted, solve_live}
+use Rattle.ae_value_turns.proofs.SolveLines.{solve_one, solve_counted, solve_live}
 use Rattle.ae_number_solving.proofs.SumWidths.{number_is}
-use Rattle.ae_number_solving.proofs.Joining.{solution_written, solution_may_be_put}
+use Rattle.ae_number_solving.proofs.Joining.{solution_unsolved, solution_written, solution_may_be_put}
 use Rattle.ae_number_solving.proofs.Puts.{put_licensed}
 use Rattle.ae_number_solving.proofs.SolvedLines.{front_of, line_of, stepped, stepped_leads, stepped_in_step, solved_leads}
 use Rattle.ae_number_solving.proofs.solving.solve.Goals as goal
@@ -146,3 +151,50 @@ returns-in-Err-clause-number c = λ wide e.
 
 pub returns-in-Err-clause-others : goal.returns-in-Err-clause-others
 returns-in-Err-clause-others c = c.put.ensures.others
+
+-- ---- how many lines may be noted
+pub returns-in_err-just-clause-budget : goal.returns-in_err-just-clause-budget
+returns-in_err-just-clause-budget c =
+    let ls = c.args.journal.now.lines in
+    within_memory c.args.store.now c.args.held.now _ ls ls refl Found c.from_residual.result _ c.from_residual.ensures.1
+
+pub returns-in_err-copy-clause-budget : goal.returns-in_err-copy-clause-budget
+returns-in_err-copy-clause-budget c =
+    let ls = c.args.journal.now.lines in
+    within_memory c.args.store.now c.args.held.now _ ls ls refl Found c.from_residual-in_err-copy.result _ c.from_residual-in_err-copy.ensures.1
+
+pub returns-in_err-note_solution-clause-budget : goal.returns-in_err-note_solution-clause-budget
+returns-in_err-note_solution-clause-budget c =
+    let s = c.args.store.now in
+    let o = c.args.held.now in
+    let q = c.requires.difference in
+    let d = c.args.difference.now in
+    let j = c.args.journal.now in
+    let k = c.note_solution.new.journal in
+    let there = solution_unsolved s o c.args.real q.left q.right q.equal q.equated d.form d.zero q.difference c.args.name c.args.number c.requires.solves in
+    within_refused s o _ j.lines k.lines (ap (λ (z : Noted). counted_in z.lines) c.in_err-note_solution.ensures.err) Found c.args.name there c.from_residual-in_err-note_solution.result _
+    c.from_residual-in_err-note_solution.ensures.1
+
+pub returns-in-Ok-clause-budget : goal.returns-in-Ok-clause-budget
+returns-in-Ok-clause-budget c =
+    let s = c.args.store.now in
+    let o = c.args.held.now in
+    let q = c.requires.difference in
+    let d = c.args.difference.now in
+    let j = c.args.journal.now in
+    let k = c.note_solution.new.journal in
+    let there = solution_unsolved s o c.args.real q.left q.right q.equal q.equated d.form d.zero q.difference c.args.name c.args.number c.requires.solves in
+    let one = solve_one j k c.args.name (Number c.args.number) (line_of j k c.args.name c.in_ok-copy.copy c.args.number c.in_ok-copy.ensures c.in_ok-note_solution.ensures.ok) in
+    within_one s o c.put.new.held j.lines k.lines one c.args.name there Found (Ok Advanced) (c.in-Ok.ensures.solved, ap (λ (h : Holding). h.equations) c.put.ensures.others) (λ e. cc e)
+
+pub returns-in-Err-clause-budget : goal.returns-in-Err-clause-budget
+returns-in-Err-clause-budget c =
+    let s = c.args.store.now in
+    let o = c.args.held.now in
+    let q = c.requires.difference in
+    let d = c.args.difference.now in
+    let j = c.args.journal.now in
+    let k = c.note_solution.new.journal in
+    let there = solution_unsolved s o c.args.real q.left q.right q.equal q.equated d.form d.zero q.difference c.args.name c.args.number c.requires.solves in
+    let one = solve_one j k c.args.name (Number c.args.number) (line_of j k c.args.name c.in_ok-copy.copy c.args.number c.in_ok-copy.ensures c.in_ok-note_solution.ensures.ok) in
+    within_one s o c.put.new.held j.lines k.lines one c.args.name there Found (Err c.failed.result) tt (λ e. c.failed.ensures.steps (cc e))

@@ -29,3 +29,9 @@ pub returns-clause-kept : goal.returns-clause-kept
 returns-clause-kept c =
     let s : Step = record { left = side.Name c.args.left; right = side.Name c.args.right; rule = rule.Sym c.in_ok-back.back } in
     front_then c.args.justs.now c.turned.new.justs c.add.new.self c.turned.ensures.kept (front_of c.turned.new.justs c.add.new.self s c.add.result c.add.ensures.ok c.add.ensures.err)
+
+pub add-requires-clause-built : goal.add-requires-clause-built
+add-requires-clause-built c = (tt, tt)
+
+pub add-requires-clause-factors : goal.add-requires-clause-factors
+add-requires-clause-factors c = tt

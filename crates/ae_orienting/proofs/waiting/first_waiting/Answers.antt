@@ -29,6 +29,7 @@ turns-preserved c =
     let ok = c.in_ok-take_up_first.ensures in
     giving_more c.args.store.now c.args.reps.now c.args.held.now c.turns.held c.args.journal.now c.turns.journal c.turns.invariant c.take_up_first.new.held c.take_up_first.new.journal c.take_up_first.ensures.leads ok.taken ok.step
     (ok.stays (ap Ok c.in-Nothing.is)) (ok.rules (ap Ok c.in-Nothing.is)) (ok.pairs (ap Ok c.in-Nothing.is)) (ok.lines (ap Ok c.in-Nothing.is))
+    (ok.given_up (ap Ok c.in-Nothing.is))
 
 -- ---- one that isn't given up
 pub returns-in-Advanced-clause-leads : goal.returns-in-Advanced-clause-leads
@@ -38,3 +39,13 @@ returns-in-Advanced-clause-leads c =
 pub returns-in-Conflict-clause-leads : goal.returns-in-Conflict-clause-leads
 returns-in-Conflict-clause-leads c =
     giving_leads c.args.store.now c.args.reps.now c.args.held.now c.turns.held c.args.journal.now c.turns.journal c.turns.invariant c.take_up_first.new.held c.take_up_first.new.journal c.take_up_first.ensures.leads
+
+-- ---- none is taken up where none waits
+pub returns-in_err-take_up_first-clause-idle : goal.returns-in_err-take_up_first-clause-idle
+returns-in_err-take_up_first-clause-idle c = λ none. absurd (c.waits.ensures.yes c.turns-test.true (c.turns.invariant.idle none))
+
+pub returns-in-Advanced-clause-idle : goal.returns-in-Advanced-clause-idle
+returns-in-Advanced-clause-idle c = λ none. absurd (c.waits.ensures.yes c.turns-test.true (c.turns.invariant.idle none))
+
+pub returns-in-Conflict-clause-idle : goal.returns-in-Conflict-clause-idle
+returns-in-Conflict-clause-idle c = λ none. absurd (c.waits.ensures.yes c.turns-test.true (c.turns.invariant.idle none))

@@ -123,3 +123,13 @@ pub returns-clause-others : goal.returns-clause-others
 returns-clause-others c =
     (taken_later c.args.held.now c.args.store.now c.requires.taken c.plain_names.new.justs c.plain_names.ensures.front c.plain_names.ensures.fits c.args.journal.now c.take_up.new.held c.take_up.new.journal c.take_up.result
     c.take_up.ensures).others
+
+pub returns-in_err-plain-clause-budget : goal.returns-in_err-plain-clause-budget
+returns-in_err-plain-clause-budget c =
+    (steps_refused c.args.held.now c.args.store.now c.requires.taken c.plain_names.new.justs c.plain_names.ensures.front c.plain_names.ensures.fits c.args.journal.now
+    c.from_residual.result _ c.from_residual.ensures.1).budget
+
+pub returns-clause-budget : goal.returns-clause-budget
+returns-clause-budget c =
+    (taken_later c.args.held.now c.args.store.now c.requires.taken c.plain_names.new.justs c.plain_names.ensures.front c.plain_names.ensures.fits c.args.journal.now c.take_up.new.held c.take_up.new.journal c.take_up.result
+    c.take_up.ensures).budget

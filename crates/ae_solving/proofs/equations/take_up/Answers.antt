@@ -46,5 +46,6 @@ returns-then-is_number c =
       advanced = e.advanced;
       conflict = e.conflict;
       never = e.never;
+      budget = e.budget;
       others = e.others;
     }

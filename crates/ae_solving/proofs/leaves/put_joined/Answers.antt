@@ -2,7 +2,9 @@ use Rattle.std.proofs.lemmas.Option.{slice_get_within}
 use Rattle.ae_journal.specs.Journals.{live}
 use Rattle.ae_theory.specs.Names.{terms_in}
 use Rattle.ae_value_fitting.specs.Fitting.{held_by}
-use Rattle.ae_value_table.specs.Table.{values as values_of}
+use Rattle.ae_value_table.specs.Table.{Contents, values as values_of}
+use Rattle.ae_turns.specs.Budget.{a_leaf, own_leaf}
+use Rattle.ae_turns.proofs.Unsolved.{leaf_solved}
 use Rattle.std.specs.Prelude.{Err}
 use Rattle.std.proofs.Common.{ap, ◌∙◌, arith}
 use Rattle.ae_solving.proofs.Joining.{leaf_legal, put_renewed, put_taken, put_refused, line_refused}
@@ -29,7 +31,7 @@ put_leaf-requires-clause-differ c = λ e. let l = c.requires.order in omega (ari
 
 pub returns-in_err-note_solution : goal.returns-in_err-note_solution
 returns-in_err-note_solution c =
-    line_refused c.args.held.now c.args.store.now c.requires.taken c.args.journal.now c.note_solution.new.journal c.in_err-note_solution.ensures.err c.from_residual.result _
+    line_refused c.args.held.now c.args.store.now c.requires.taken c.args.join.name (a_leaf (own_leaf (c.requires.own).0 (c.requires.own).1)) c.args.journal.now c.note_solution.new.journal c.in_err-note_solution.ensures.err c.from_residual.result _
     c.from_residual.ensures.1 (λ e. c.note_solution.ensures.steps (c.in_err-note_solution.was ∙ ap Err e)) (λ wide e. c.note_solution.ensures.number wide (c.in_err-note_solution.was ∙ ap Err e))
 
 pub returns-in_err-put_leaf : goal.returns-in_err-put_leaf
@@ -49,7 +51,7 @@ returns-in_err-put_leaf c =
     put_refused o s t j c.note_solution.new.journal name leaf c.in_ok-note_solution.ensures.ok
     (λ x named may.
     leaf_legal c.stores_are_in_step.ensures c.solve_lines_are_legal.ensures.turned o s t j.lines c.requires.step own.0 name leaf id own.1 own.2 c.requires.states c.requires.rests x named may c.requires.order)
-    v steps n c.from_residual-in_err-put_leaf.result _ c.from_residual-in_err-put_leaf.ensures.1
+    v steps n (a_leaf (own_leaf own.0 own.1)) c.from_residual-in_err-put_leaf.result _ c.from_residual-in_err-put_leaf.ensures.1
 
 pub returns : goal.returns
 returns c =
@@ -70,4 +72,5 @@ returns c =
     put_taken o s t j c.note_solution.new.journal name leaf c.in_ok-note_solution.ensures.ok
     (λ x named may.
     leaf_legal c.stores_are_in_step.ensures c.solve_lines_are_legal.ensures.turned o s t j.lines c.requires.step own.0 name leaf id own.1 own.2 c.requires.states c.requires.rests x named may c.requires.order)
-    v steps n c.requires.step (slice_get_within (terms_in s) name (own.1).term (own.1).is) lines
+    v steps n (a_leaf (own_leaf own.0 own.1)) c.requires.step (slice_get_within (terms_in s) name (own.1).term (own.1).is) lines
+    (leaf_solved s o.values v (values_are o s t) put.values (ap (λ (x : Contents). x.taken) put.others) own.0 name leaf (c.in_ok-put_leaf.ensures.put own.0 own.1))

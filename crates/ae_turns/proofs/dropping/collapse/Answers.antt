@@ -9,6 +9,7 @@ use Rattle.ae_equations.specs.Paired.{partners}
 use Rattle.ae_rule_changes.specs.Entries.{entry_of}
 use Rattle.ae_rule_passes.specs.Passes.{drop_line}
 use Rattle.ae_turns.specs.Inner.Drops.{IsDropNoted}
+use Rattle.ae_turns.proofs.Budgets.{rules_still, none_comes, drops_uncounted}
 use Rattle.ae_turns.proofs.DroppedRules.{same_leads, dropped_leads, dropped_step, stays}
 use Rattle.ae_turns.proofs.Reducible.{reducible_legal}
 use Rattle.ae_turns.proofs.dropping.collapse.Goals as goal
@@ -52,3 +53,21 @@ returns-clause-stay c n rule at =
 
 pub returns-clause-alone : goal.returns-clause-alone
 returns-clause-alone c = on_ok_always c.note_drops.result c.in_ok-pairs.ensures.alone
+
+-- ---- how many lines may be noted
+pub returns-in_err-pairs-clause-budget : goal.returns-in_err-pairs-clause-budget
+returns-in_err-pairs-clause-budget c n h =
+    let o = c.args.held.now in
+    let e = c.collapse.new.self in
+    rules_still c.args.store.now o.values o.equations e (λ k rule at. (rule, sym (c.in_err-pairs.ensures.err k) ∙ at)) (λ none waits. c.in_err-pairs.ensures.err_waiting ∙ waits) n h
+
+pub returns-clause-counted : goal.returns-clause-counted
+returns-clause-counted c = drops_uncounted c.args.journal.now c.note_drops.new.journal _ c.note_drops.ensures.noted
+
+pub returns-clause-budget : goal.returns-clause-budget
+returns-clause-budget c n h =
+    let o = c.args.held.now in
+    let e = c.collapse.new.self in
+    let out = c.in_ok-pairs.ensures.pairs in
+    let queue = c.in_ok-pairs.ensures.waiting in
+    rules_still c.args.store.now o.values o.equations e (λ k rule at. (rule, stays o e (IsReducible (λ m. rule_at c.args.held.now.equations.rules m)) c.in_ok-pairs.pairs out queue k rule at)) (none_comes o.equations e (IsReducible (λ m. rule_at c.args.held.now.equations.rules m)) c.in_ok-pairs.pairs out queue) n h

@@ -54,7 +54,7 @@ pub returns : goal.returns
 returns c =
     let e = c.name_equation.ensures in
     solved c.args.store.now c.args.held.now c.requires.taken c.args.journal.now c.requires.step _ c.state_literal.new.held c.name_equation.new.held c.state_literal.ensures.grown c.name_equation.new.journal c.name_equation.result
-    e.leads e.taken e.step e.steps e.number e.advanced e.conflict e.never
+    e.leads e.taken e.step e.steps e.number e.advanced e.conflict e.never e.budget
 
 pub unreachable-requires : goal.unreachable-requires
 unreachable-requires c =

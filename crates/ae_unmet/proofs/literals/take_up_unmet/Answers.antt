@@ -1,3 +1,6 @@
+use Rattle.std.proofs.Common.{refl}
+use Rattle.ae_turns.specs.declared.found.Found.{Found}
+use Rattle.ae_turns.proofs.Budgets.{within_memory}
 use Rattle.ae_turns.proofs.Steps.{staying_leads}
 use Rattle.ae_unmet.proofs.NamedLiterals.{met_by}
 use Rattle.ae_unmet.proofs.literals.take_up_unmet.Goals as goal
@@ -39,3 +42,12 @@ pub returns-clause-met : goal.returns-clause-met
 returns-clause-met c =
     λ e well. met_by c.literals_of_which_none_is_unmet_are_met.ensures c.values_of_integers_are_whole.ensures c.args.store.now c.args.held.now c.args.reps.now c.requires.taken c.in_ok-unmet.unmet c.in_ok-unmet.ensures.none
     (c.take_up.ensures.reason e) well
+
+-- ---- how many lines may be noted
+pub returns-in_err-unmet-clause-budget : goal.returns-in_err-unmet-clause-budget
+returns-in_err-unmet-clause-budget c =
+    let ls = c.args.journal.now.lines in
+    within_memory c.args.store.now c.args.held.now _ ls ls refl Found c.from_residual.result _ c.from_residual.ensures.1
+
+pub returns-clause-budget : goal.returns-clause-budget
+returns-clause-budget c = c.take_up.ensures.budget

@@ -37,3 +37,9 @@ returns-clause-rests c =
     let o = c.args.held.now in
     let w = left_out_at s o c.requires.taken c.args.place c.requires.found c.args.left c.args.right c.requires.said in
     assuming_rests_on s o c.args.place c.args.left c.args.right w.said c.tag_at-tag.result (c.tag_at-tag.ensures (w.said).entry (w.said).at) o.justs c.add.new.self c.add.result c.add.ensures.ok c.add.ensures.number
+
+pub add-requires-clause-built : goal.add-requires-clause-built
+add-requires-clause-built c = (tt, tt)
+
+pub add-requires-clause-factors : goal.add-requires-clause-factors
+add-requires-clause-factors c = tt
