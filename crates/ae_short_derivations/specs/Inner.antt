@@ -1,0 +1,2 @@
+-- While the steps of a derivation are kept.
+pub mod Keeping

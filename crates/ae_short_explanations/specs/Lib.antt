@@ -1,0 +1,1 @@
+-- The contract of the public function speaks of what lower crates say.
