@@ -3,4 +3,4 @@
 
 mod state;
 
-pub use state::State;
+pub use state::{Mark, State};

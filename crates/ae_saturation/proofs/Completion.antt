@@ -19,24 +19,21 @@ use Rattle.ae_core.specs.declared.problems.Signature.{Signature}
 use Rattle.ae_core.specs.declared.problems.SymbolEntry.{SymbolEntry}
 use Rattle.ae_core.proofs.SortLaws.{sort_in_bound}
 use Rattle.ae_rules.specs.Lines.{IsAc}
-use Rattle.ae_journal.specs.Values.{Val}
-use Rattle.ae_journal.specs.Systems.{Has, Represents, IsCompleted, ac_sort}
+use Rattle.ae_journal.specs.Systems.{IsCompleted, ac_sort}
 use Rattle.ae_journal.specs.declared.systems.RuleEntry.{RuleEntry}
 use Rattle.ae_journal.specs.declared.systems.System.{System}
 use Rattle.ae_store.specs.Stores.{Stored}
-use Rattle.ae_store.specs.Terms.{named}
 use Rattle.ae_store.proofs.StoreLaws.{name_term}
 use Rattle.ae_just.specs.declared.steps.Step.{Step}
 use Rattle.ae_monoid.specs.declared.rules.Kept.{Kept}
 use Rattle.ae_monoid.specs.Rules.{rule_at, AreRules, IsWellKept}
-use Rattle.ae_multiset_steps.specs.Equating.{AreNamesOf}
 use Rattle.ae_rule_steps.specs.Said.{IsSaid}
 use Rattle.ae_settled.specs.Held.{Held, system_of, entries}
 use Rattle.ae_settled.specs.Met.{AreMet, Satisfies}
-use Rattle.ae_settled.specs.Ruled.{IsOfSort, IsRuleOver, AreRulesOver}
+use Rattle.ae_settled.specs.Ruled.{IsOfSort, IsRuleOver}
 use Rattle.ae_settled.specs.Settled.{IsSettled}
 use Rattle.ae_settled.specs.Swept.{IsSwept}
-use Rattle.ae_state_steps.specs.ManySteps.{IsSymbolOn, IsOfSort as IsSorted}
+use Rattle.ae_state_steps.specs.ManySteps.{IsOfSort as IsSorted}
 use Rattle.ae_sweeps.specs.Given.{rep_in}
 use Rattle.ae_sweeps.proofs.Bridges.{entry_is}
 use Rattle.ae_theory.specs.Names.{terms_in}

@@ -1,5 +1,5 @@
 -- Which names are numbers, found out name after name.
-use Rattle.std.specs.Prelude.{ℕ, ◌+◌, ◌⊎◌, Bool, true, List, [], ◌∷◌, ◌++◌, ◌≡◌, ◌↔◌, length, slice_get, Some, IsTrue}
+use Rattle.std.specs.Prelude.{ℕ, ◌+◌, Bool, true, List, [], ◌∷◌, ◌++◌, ◌≡◌, ◌↔◌, length, slice_get, Some, IsTrue}
 use Rattle.std.proofs.Common.{refl, sym, ap, ◌∙◌, arith, inl, inr, length-append}
 use Rattle.std.proofs.lemmas.Option.{none-some}
 use Rattle.ae_base.proofs.Tests.{same_truths}

@@ -3,3 +3,7 @@ mod OtherRules
 mod Completion
 mod Keeping
 mod Constants
+mod Spending
+pub mod FirstLiterals
+mod StillComplete
+mod Looking

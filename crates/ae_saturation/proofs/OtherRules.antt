@@ -10,7 +10,7 @@ use Rattle.ae_journal.specs.Values.{Val}
 use Rattle.ae_journal.specs.Systems.{Has, Represents, field_terms}
 use Rattle.ae_journal.specs.declared.systems.RuleEntry.{RuleEntry}
 use Rattle.ae_journal.specs.declared.systems.System.{System}
-use Rattle.ae_settled.specs.Valued.{HasValue, HaveValues, IsOwnNumber, IsOwnLeaf, IsNumberOver, IsLeafOver, AreFields, AreValues}
+use Rattle.ae_settled.specs.Valued.{HasValue, HaveValues, IsOwnNumber, IsNumberOver, IsLeafOver, AreFields, AreValues}
 
 module _ (sig : Signature) (ts : List Term) (vs : List Value) where
   abbrev pub under : List RuleEntry → System

@@ -1,6 +1,6 @@
 -- Turns behind other steps.
-use Rattle.std.specs.Prelude.{ℕ, ◌+◌, ◌<◌, ◌≤◌, List, ◌≡◌, Result, Ok, Err}
-use Rattle.std.proofs.Common.{sym, ap, ◌∙◌, subst, arith}
+use Rattle.std.specs.Prelude.{ℕ, ◌+◌, ◌≤◌, List, ◌≡◌, Result, Ok, Err}
+use Rattle.std.proofs.Common.{refl, sym, ap, ◌∙◌, subst, arith}
 use Rattle.std.specs.declared.alloc.AllocError.{AllocError}
 use Rattle.ae_journal.specs.Journals.{live, counted_in}
 use Rattle.ae_journal.specs.Noted.{Noted}
@@ -20,10 +20,12 @@ use Rattle.ae_state.specs.Names.{assumed_in}
 use Rattle.ae_state.specs.Complete.{IsComplete}
 use Rattle.ae_state.specs.Stepping.{IsInStep}
 use Rattle.ae_turns.specs.declared.found.Found.{Found}
-use Rattle.ae_turns.specs.declared.found.Found.TheVariants.{Nothing, Advanced, Conflict}
+use Rattle.ae_turns.specs.declared.found.Found.TheVariants.{Nothing, Conflict}
+use Rattle.ae_turns.specs.Budget.{Spends}
 use Rattle.ae_turns.specs.Ending.{MayBeWide}
 use Rattle.ae_turns.specs.Leading.{Leads}
 use Rattle.ae_turns.specs.Representing.{IsTaken}
+use Rattle.ae_turns.proofs.Budgets.{spends_nothing, within_still, within_then, within_handed_on}
 use Rattle.ae_turns.proofs.Steps.{none_back, named_more, may_all_more, staying_leads, going_on_leads}
 use Rattle.ae_saturation.specs.Inner.Turned.{IsTurned}
 use Rattle.ae_saturation.specs.Inner.Saturated.{IsSaturated}
@@ -33,9 +35,10 @@ pub record IsUnderWay (s : Stored) (o : Holding) (before : Noted) (p : Holding) 
   pub leads : Leads s o before p after
   pub taken : IsTaken p s
   pub step : IsInStep p (live after.lines)
+  pub spent : Spends s o before.lines p after.lines
 
 pub under_way_first : (s : Stored) (o : Holding) (j : Noted) → IsTaken o s → IsInStep o (live j.lines) → IsUnderWay s o j o j
-under_way_first s o j t step = record { leads = staying_leads s o j t.fits; taken = t; step = step }
+under_way_first s o j t step = record { leads = staying_leads s o j t.fits; taken = t; step = step; spent = spends_nothing s o o j.lines j.lines refl (λ n h. h) }
 
 -- ---- what doesn't come for want of memory
 no_steps : {A : Type 0} (e : AllocError) → ◌≡◌ {A = Result A Fail} (Err (Memory e)) (Err OutOfSteps) → ⊥
@@ -63,8 +66,8 @@ module _ (s : Stored) (o p : Holding) (j k : Noted) (first : Leads s o j p k) wh
       let e : counted_in k.lines ≡ counted_in j.lines + counted_in (first.noted).added = ap counted_in (first.noted).is ∙ counted-append j.lines (first.noted).added in
       omega (arith, e)
 
-  pub then_turned : (found : Result Found Fail) (q : Holding) (l : Noted) → IsTurned s p k found q l → IsTurned s o j found q l
-  then_turned found q l t =
+  pub then_turned : Spends s o j.lines p k.lines → (found : Result Found Fail) (q : Holding) (l : Noted) → IsTurned s p k found q l → IsTurned s o j found q l
+  then_turned spent found q l t =
       record {
         leads = going_on_leads s o p q j k l first t.leads;
         taken = t.taken;
@@ -73,10 +76,11 @@ module _ (s : Stored) (o p : Holding) (j k : Noted) (first : Leads s o j p k) wh
         number = λ wide e. wide_then l.lines wide (t.number wide e);
         advanced = λ e. omega (arith, counted_then, t.advanced e);
         conflict = t.conflict;
+        budget = within_then Found s o p q j.lines k.lines l.lines found spent t.budget;
       }
 
-  pub then_saturated : (found : Result Outcome Fail) (q : Holding) (l : Noted) → IsSaturated s p k found q l → IsSaturated s o j found q l
-  then_saturated found q l t =
+  pub then_saturated : Spends s o j.lines p k.lines → (found : Result Outcome Fail) (q : Holding) (l : Noted) → IsSaturated s p k found q l → IsSaturated s o j found q l
+  then_saturated spent found q l t =
       record {
         leads = going_on_leads s o p q j k l first t.leads;
         taken = t.taken;
@@ -85,11 +89,12 @@ module _ (s : Stored) (o p : Holding) (j k : Noted) (first : Leads s o j p k) wh
         conflict = t.conflict;
         steps = t.steps;
         number = λ wide e. wide_then l.lines wide (t.number wide e);
+        budget = within_then Outcome s o p q j.lines k.lines l.lines found spent t.budget;
       }
 
   -- ---- for want of memory
-  pub no_memory_turned : (e : AllocError) → IsTurned s o j (Err (Memory e)) p k
-  no_memory_turned e =
+  pub no_memory_turned : counted_in k.lines ≡ counted_in j.lines → (e : AllocError) → IsTurned s o j (Err (Memory e)) p k
+  no_memory_turned same e =
       record {
         leads = first;
         taken = tt;
@@ -98,10 +103,11 @@ module _ (s : Stored) (o p : Holding) (j k : Noted) (first : Leads s o j p k) wh
         number = λ wide h. absurd (no_number e wide h);
         advanced = λ h. absurd (cc h);
         conflict = λ n h. absurd (cc h);
+        budget = within_still s o p j.lines k.lines same Found (Err (Memory e)) tt (λ h. no_steps e h);
       }
 
-  pub no_memory_saturated : (e : AllocError) → IsSaturated s o j (Err (Memory e)) p k
-  no_memory_saturated e =
+  pub no_memory_saturated : counted_in k.lines ≡ counted_in j.lines → (e : AllocError) → IsSaturated s o j (Err (Memory e)) p k
+  no_memory_saturated same e =
       record {
         leads = first;
         taken = tt;
@@ -110,6 +116,7 @@ module _ (s : Stored) (o p : Holding) (j k : Noted) (first : Leads s o j p k) wh
         conflict = λ n h. absurd (cc h);
         steps = λ h. absurd (no_steps e h);
         number = λ wide h. absurd (no_number e wide h);
+        budget = within_still s o p j.lines k.lines same Outcome (Err (Memory e)) tt (λ h. no_steps e h);
       }
 
 -- ---- refused before the first turn
@@ -123,6 +130,7 @@ refused_first s o p j e leads full wide =
       conflict = λ n h. absurd (cc h);
       steps = λ h. absurd (full (same_fail e OutOfSteps h));
       number = λ w h. wide w (same_fail e (Number w) h);
+      budget = within_still s o p j.lines j.lines refl Outcome (Err e) tt (λ h. full (same_fail e OutOfSteps h));
     }
 
 -- ---- the last turn
@@ -137,6 +145,7 @@ module _ (s : Stored) (o p : Holding) (j k : Noted) where
         conflict = λ n h. absurd (cc h);
         steps = λ h. t.steps (ap (λ (f : Fail). Err f) (same_fail e OutOfSteps h));
         number = λ wide h. t.number wide (ap (λ (f : Fail). Err f) (same_fail e (Number wide) h));
+        budget = within_handed_on Found Outcome s o p j.lines k.lines e t.budget;
       }
 
   pub complete_last : IsTurned s o j (Ok Nothing) p k → IsComplete p → IsSaturated s o j (Ok Complete) p k
@@ -149,6 +158,7 @@ module _ (s : Stored) (o p : Holding) (j k : Noted) where
         conflict = λ n h. absurd (cc h);
         steps = λ h. absurd (cc h);
         number = λ wide h. absurd (cc h);
+        budget = record { most = t.budget.most; left = t.budget.left; fewer = λ h. absurd (cc h) };
       }
 
   pub conflict_last : (n : ℕ) → IsTurned s o j (Ok (Conflict n)) p k → IsSaturated s o j (Ok (Contradicted n)) p k
@@ -161,6 +171,7 @@ module _ (s : Stored) (o p : Holding) (j k : Noted) where
         conflict = λ m h. t.conflict m (same_number n m h);
         steps = λ h. absurd (cc h);
         number = λ wide h. absurd (cc h);
+        budget = record { most = t.budget.most; left = t.budget.left; fewer = λ h. absurd (cc h) };
       }
     where
       same_number : (n m : ℕ) → ◌≡◌ {A = Result Outcome Fail} (Ok (Contradicted n)) (Ok (Contradicted m)) → ◌≡◌ {A = Result Found Fail} (Ok (Conflict n)) (Ok (Conflict m))

@@ -1,8 +1,9 @@
 //! What is kept up before something is taken up: rules are over representatives, and none reduces another.
-ghost use Rattle.std.specs.Prelude.{◌≡◌, OnOk};
-ghost use Rattle.ae_journal.specs.Journals.{live};
+ghost use Rattle.std.specs.Prelude.{◌≡◌, ℕ, OnOk};
+ghost use Rattle.ae_journal.specs.Journals.{live, counted_in};
 ghost use Rattle.ae_monoid.specs.Rules.{rule_at};
 ghost use Rattle.ae_state.specs.Stepping.{IsInStep};
+ghost use Rattle.ae_turns.specs.Budget.{MayNote};
 ghost use Rattle.ae_turns.specs.Cleared.{AreCleared, AreComposed};
 ghost use Rattle.ae_turns.specs.Leading.{Leads};
 ghost use Rattle.ae_turns.specs.Representing.{IsTaken, AreRepresentatives};
@@ -28,6 +29,8 @@ fn clear(
     requires step { IsInStep held.old (live journal.old.lines) }
     ensures leads { Leads store.now held.old journal.old held.new journal.new }
     ensures step { OnOk result (IsInStep held.new (live journal.new.lines)) }
+    ensures counted { counted_in journal.new.lines ≡ counted_in journal.old.lines }
+    ensures budget { (n : ℕ) → MayNote held.old store.now n → MayNote held.new store.now n }
     ensures others { held.new ≡ record held.old { equations = held.new.equations } }
     ensures cleared { OnOk result (AreCleared reps.now (λ n. rule_at held.new.equations.rules n)) }
 {
@@ -50,6 +53,8 @@ pub fn keep_up(
     ensures taken { OnOk result (IsTaken held.new store.now) }
     ensures reps { OnOk result (AreRepresentatives held.new reps.now) }
     ensures step { OnOk result (IsInStep held.new (live journal.new.lines)) }
+    ensures counted { counted_in journal.new.lines ≡ counted_in journal.old.lines }
+    ensures budget { (n : ℕ) → MayNote held.old store.now n → MayNote held.new store.now n }
     ensures composed { OnOk result (AreComposed reps.now (λ n. rule_at held.new.equations.rules n)) }
 {
     clear(alloc, held, store, journal, reps)?;

@@ -11,6 +11,7 @@ use Rattle.ae_theory.specs.declared.theory.Outcome.TheVariants.{Complete, Confli
 use Rattle.ae_state.specs.declared.holding.Holding.{Holding}
 use Rattle.ae_state.specs.Complete.{IsComplete, IsOwnConflict}
 use Rattle.ae_state.specs.Stepping.{IsInStep}
+use Rattle.ae_turns.specs.Budget.{KeepsWithin}
 use Rattle.ae_turns.specs.Ending.{MayBeWide}
 use Rattle.ae_turns.specs.Leading.{Leads}
 use Rattle.ae_turns.specs.Representing.{IsTaken}
@@ -24,3 +25,4 @@ pub record IsSaturated (s : Stored) (o : Holding) (before : Noted) (found : Resu
   pub conflict : (k : ℕ) → found ≡ Ok (Conflict k) → IsOwnConflict p k
   pub steps : found ≡ Err OutOfSteps → counted_in after.lines ≡ after.limit
   pub number : (wide : WideAt) → found ≡ Err (Number wide) → MayBeWide s o before.lines after.lines wide
+  pub budget : KeepsWithin Outcome s o before.lines found p after.lines

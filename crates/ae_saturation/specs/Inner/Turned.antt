@@ -11,6 +11,7 @@ use Rattle.ae_state.specs.Complete.{IsOwnConflict}
 use Rattle.ae_state.specs.Stepping.{IsInStep}
 use Rattle.ae_turns.specs.declared.found.Found.{Found}
 use Rattle.ae_turns.specs.declared.found.Found.TheVariants.{Advanced, Conflict}
+use Rattle.ae_turns.specs.Budget.{KeepsWithin}
 use Rattle.ae_turns.specs.Ending.{MayBeWide}
 use Rattle.ae_turns.specs.Leading.{Leads}
 use Rattle.ae_turns.specs.Representing.{IsTaken}
@@ -24,3 +25,4 @@ pub record IsTurned (s : Stored) (o : Holding) (before : Noted) (found : Result 
   pub number : (wide : WideAt) → found ≡ Err (Number wide) → MayBeWide s o before.lines after.lines wide
   pub advanced : found ≡ Ok Advanced → counted_in before.lines < counted_in after.lines
   pub conflict : (k : ℕ) → found ≡ Ok (Conflict k) → IsOwnConflict p k
+  pub budget : KeepsWithin Found s o before.lines found p after.lines

@@ -23,3 +23,9 @@ returns-clause-cleared c =
     on_ok_weaker c.collapse.result
     (cleared_by c.args.reps.now (λ n. rule_at c.release.new.held.equations.rules n) (λ n. rule_at c.collapse.new.held.equations.rules n) c.in_ok-release.ensures.own c.collapse.ensures.stay)
     c.collapse.ensures.alone
+
+pub returns-clause-counted : goal.returns-clause-counted
+returns-clause-counted c = c.collapse.ensures.counted ∙ c.release.ensures.counted
+
+pub returns-clause-budget : goal.returns-clause-budget
+returns-clause-budget c n h = c.collapse.ensures.budget n (c.release.ensures.budget n h)

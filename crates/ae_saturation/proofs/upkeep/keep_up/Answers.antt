@@ -8,6 +8,7 @@ use Rattle.ae_state.specs.declared.holding.Holding.{Holding}
 use Rattle.ae_state.specs.Stepping.{IsInStep}
 use Rattle.ae_turns.proofs.Steps.{going_on_leads}
 use Rattle.ae_saturation.proofs.Keeping.{taken_still, reps_still}
+use Rattle.ae_saturation.proofs.Spending.{composed_may_note}
 use Rattle.ae_saturation.proofs.upkeep.keep_up.Goals as goal
 
 pub compose_rights-requires-clause-taken : goal.compose_rights-requires-clause-taken
@@ -44,3 +45,8 @@ pub returns-clause-step : goal.returns-clause-step
 returns-clause-step c =
     on_ok_weaker c.compose_rights.result (λ (f : (js : List Line) → IsInStep c.clear.new.held js → IsInStep c.compose_rights.new.held js). f (live c.clear.new.journal.lines) c.in_ok-clear.ensures.step)
     c.compose_rights.ensures.step
+
+pub returns-clause-budget : goal.returns-clause-budget
+returns-clause-budget c n h =
+    let composed = c.compose_rights.ensures in
+    composed_may_note c.args.store.now c.clear.new.held c.compose_rights.new.held composed.others composed.lefts composed.queue n (c.clear.ensures.budget n h)
