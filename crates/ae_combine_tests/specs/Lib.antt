@@ -1,0 +1,2 @@
+-- Marked: marks of what no line was noted for.
+pub mod Marked
