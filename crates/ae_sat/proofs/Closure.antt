@@ -10,18 +10,22 @@ use Rattle.ae_explain.specs.declared.trail.Assigned.{Assigned}
 use Rattle.ae_explain.specs.Trail.{at, clause, Apart, IsLawful, AreFalse}
 use Rattle.ae_journal.specs.Standing.{parts_by, parts_of}
 use Rattle.ae_journal.proofs.Splits.{contains_one, contains_cases, contains_here, contains_later, cut}
-use Rattle.ae_journal.proofs.RowParts.{row_part}
+use Rattle.ae_journal.proofs.RowParts.{literal_part}
 use Rattle.ae_rules.specs.Clauses.{Clause, row}
 use Rattle.ae_sat.specs.Standing.{IsOneOf}
 use Rattle.ae_sat.specs.Search.{HasParts, AllAmong}
 use Rattle.ae_sat.proofs.Learnt.{one_more}
 use Rattle.ae_sat.proofs.Deriving.{in_clause}
+use Rattle.ae_sat.proofs.RowLiterals.{row_literals}
 
 -- ---- a formula with all its parts
+abbrev pub HasAllParts : List Formula → Type 0
+HasAllParts fs = (h a : Formula) → Contains fs h → Contains (parts_of h) a → Contains fs a
+
 pub record Closure (f : Formula) : Type 0 where
   pub formulas : List Formula
   pub own : Contains formulas f
-  pub parts : HasParts formulas
+  pub parts : HasAllParts formulas
 
 none : {P : Type 0} (f : Formula) → Contains [] f → P
 none f k = absurd (omega (arith, k.1))
@@ -45,7 +49,7 @@ of_one f a e c = record {
   ];
 }
 
-joined : (xs ys : List Formula) → HasParts xs → HasParts ys → HasParts (xs ++ ys)
+joined : (xs ys : List Formula) → HasAllParts xs → HasAllParts ys → HasAllParts (xs ++ ys)
 joined xs ys x y h a k p = elim (Contains-append_cases xs ys h k) as (λ _. Contains (xs ++ ys) a) [
   | inl i ↦ Contains-append_left xs ys a (x h a i p)
   | inr i ↦ Contains-append_right xs ys a (y h a i p)
@@ -92,7 +96,7 @@ abbrev pub all_formulas : List Clause → List Formula
 all_formulas [] = []
 all_formulas (c ∷ u) = literal_formulas c ++ all_formulas u
 
-literal_parts : (c : Clause) → HasParts (literal_formulas c)
+literal_parts : (c : Clause) → HasAllParts (literal_formulas c)
 literal_parts [] = λ h a k p. none h k
 literal_parts (l ∷ c) = joined (closure l.formula).formulas (literal_formulas c) (closure l.formula).parts (literal_parts c)
 
@@ -103,9 +107,16 @@ literal_has (m ∷ c) l k = elim (contains_cases m c l k) as (λ _. Contains (li
   | inr i ↦ Contains-append_right (closure m.formula).formulas (literal_formulas c) l.formula (literal_has c l i)
 ]
 
+each_part : (u : List Clause) → HasAllParts (all_formulas u)
+each_part [] = λ h a k p. none h k
+each_part (c ∷ u) = joined (literal_formulas c) (all_formulas u) (literal_parts c) (each_part u)
+
+-- what has all parts has the formulas of their literals
+pub parts_said : (fs : List Formula) → ((h a : Formula) → Contains fs h → Contains (parts_of h) a → Contains fs a) → HasParts fs
+parts_said fs all h a sign k p = literal_part (Contains fs) all a (all h a k p) sign
+
 pub all_parts : (u : List Clause) → HasParts (all_formulas u)
-all_parts [] = λ h a k p. none h k
-all_parts (c ∷ u) = joined (literal_formulas c) (all_formulas u) (literal_parts c) (all_parts u)
+all_parts u = parts_said (all_formulas u) (each_part u)
 
 all_at : (u : List Clause) (k : ℕ) → k < length u → (l : Lit) → Contains (clause u k) l → Contains (all_formulas u) l.formula
 all_at [] k lt l h = absurd (omega (arith, lt))
@@ -123,7 +134,7 @@ row_among t u lawful stands j r c l e fs parts among d m o k = elim (one_more u 
   | inr q ↦
       let w = in_clause t u lawful stands j l in
       let f : Contains fs (at t j).lit.formula = among (clause u w.0) (at t j).lit (w.0, w.1, refl) w.2 in
-      row_part (Contains fs) (λ h a i p. parts h a i p) (at t j).lit.formula f r c e m (subst (λ (v : Clause). Contains v m) q k)
+      row_literals (Contains fs) parts (at t j).lit.formula f r c e m (subst (λ (v : Clause). Contains v m) q k)
 ]
 
 -- ---- nor does what is false by the trail

@@ -12,7 +12,7 @@ use Rattle.ae_propagation.proofs.Trails.{at_old}
 use Rattle.ae_propagation.proofs.Watching.{quiet_ahead}
 use Rattle.ae_sat.specs.Inner.Kept.{IsKept}
 
-holds_more : (t more : List Assigned) (m : Lit) → Holds t m → Holds (t ++ more) m
+pub holds_more : (t more : List Assigned) (m : Lit) → Holds t m → Holds (t ++ more) m
 holds_more t more m h = (h.0, omega (arith, h.1, length-append t more), ap (λ (a : Assigned). a.lit) (at_old t more h.0 h.1) ∙ h.2)
 
 -- a literal more takes nothing away

@@ -22,7 +22,11 @@ pub mod Growing
 pub mod Atoms
 pub mod Telling
 pub mod Rowing
+pub mod RowLiterals
 pub mod Closure
 mod Failing
+pub mod Idling
+pub mod Conjunctive
+pub mod Enlarging
 pub mod Propagating
 pub mod Blocks

@@ -18,7 +18,9 @@ use Rattle.ae_sat.specs.Layers.{IsCut}
 use Rattle.ae_sat.specs.Standing.{IsOneOf, HasRows}
 use Rattle.ae_propagation.specs.Settled.{Grown}
 use Rattle.ae_sat.specs.Marked.{IsRunning}
-use Rattle.ae_sat.specs.Search.{AllNamed, IsAlive, IsStated, IsLawfulState, Continues, AllAmong}
+use Rattle.ae_sat.specs.Search.{AllNamed, IsAlive, IsStated, IsLawfulState}
+use Rattle.ae_sat.specs.Inner.Steps.{Continues}
+use Rattle.ae_sat.proofs.Enlarging.{enlarges_same, enlarges_more, enlarges_to, brings_same, brings_more, brings_to, brings_grown}
 use Rattle.ae_journal.specs.Journals.{live, decisions}
 use Rattle.ae_sat.proofs.Growing.{rows_grown}
 use Rattle.ae_theory.specs.Names.{AreNamed}
@@ -103,7 +105,14 @@ module _ {T M : Type 0} (fits : T → Stored → Type 0) (assumed : T → List T
 
   pub continues_same : (theory : T) (marks : List M) (t : List Assigned) (u : List Clause) (places : List ℕ) (told n : ℕ) (ks : List ClauseLine)
       → Continues fits assumed fits_mark in_step theory marks t u places told n ks theory marks t u places told n ks
-  continues_same theory marks t u places told n ks = record { alive = λ store js a. a; stated = λ p g s. s; state = λ setting js st s. s; formulas = λ fs h a. a }
+  continues_same theory marks t u places told n ks = record {
+    alive = λ store js a. a;
+    stated = λ p g s. s;
+    state = λ setting js st s. s;
+    same_theory = refl;
+    enlarges = λ store. enlarges_same store u ks;
+    brings = brings_same t u;
+  }
 
   pub continues_more : (theory theory2 theory3 : T) (marks marks2 marks3 : List M) (t t2 t3 : List Assigned) (u u2 u3 : List Clause) (places places2 places3 : List ℕ) (told told2 told3 n n2 n3 : ℕ) (ks ks2 ks3 : List ClauseLine)
       → Continues fits assumed fits_mark in_step theory marks t u places told n ks theory2 marks2 t2 u2 places2 told2 n2 ks2
@@ -113,7 +122,9 @@ module _ {T M : Type 0} (fits : T → Stored → Type 0) (assumed : T → List T
     alive = λ store js a. y.alive store js (x.alive store js a);
     stated = λ p g s. y.stated p g (x.stated p g s);
     state = λ setting js st s. y.state setting js (x.stated setting.problem setting.goal st) (x.state setting js st s);
-    formulas = λ fs h a. y.formulas fs h (x.formulas fs h a);
+    same_theory = y.same_theory ∙ x.same_theory;
+    enlarges = λ store. enlarges_more store u u2 u3 ks ks2 ks3 (x.enlarges store) (y.enlarges store);
+    brings = brings_more t t2 t3 u u2 u3 x.brings y.brings;
   }
 
   -- one clause more
@@ -176,7 +187,9 @@ module _ {T M : Type 0} (fits : T → Stored → Type 0) (assumed : T → List T
     alive = λ store js a. grown_alive store theory theory2 marks marks2 t t2 u u2 told told2 n n2 js a (running (live js) a.running) grown e1 e2 e4 e5;
     stated = λ p g s. subst (λ (w : List Clause). IsStated p g ks w places2) (sym e2) (subst (λ (w : List ℕ). IsStated p g ks u w) (sym e3) s);
     state = λ setting js st s. state setting ks js s;
-    formulas = λ fs h a. subst (AllAmong fs) (sym e2) a;
+    same_theory = e1;
+    enlarges = λ store. enlarges_to store u u u2 ks ks ks (enlarges_same store u ks) e2 refl;
+    brings = brings_to t t2 t2 u u u2 (brings_grown t t2 u grown) refl e2;
   }
 
   -- the rows of the literal at `expanded` are all there
@@ -190,7 +203,9 @@ module _ {T M : Type 0} (fits : T → Stored → Type 0) (assumed : T → List T
       record {
         alive = λ store js a. subst (λ (w : ℕ). IsAlive fits assumed fits_mark in_step store theory2 marks2 t2 u2 told2 (w + 1) js) en (alive_next store theory2 marks2 t2 u2 told2 n2 js l2 own2 (x.alive store js a));
         stated = x.stated;
-        formulas = x.formulas;
+        same_theory = x.same_theory;
+        enlarges = x.enlarges;
+        brings = x.brings;
         state = λ setting js st s. subst (λ (w : ℕ). IsLawfulState setting t2 u2 (w + 1) ks2 js) en (state_next setting t2 u2 n2 ks2 js own2 (x.state setting js st s));
       }
 

@@ -21,7 +21,7 @@ open_not_held : (t : List Assigned) → Apart t → (m : Lit) → place_in t m.f
 open_not_held t apart m e h = no_place t apart m.formula e h.0 h.1 (ap (λ (x : Lit). x.formula) h.2)
 
 -- a clause of the trail's clauses gives its one literal that isn't false
-gives : (t : List Assigned) (clauses : List Clause) → IsQuiet t clauses → (c : Clause) (l : Lit) → IsOneOf clauses c → Contains c l → ((m : Lit) → Contains c m → m ≢ l → IsFalse t m) → Holds t l
+pub gives : (t : List Assigned) (clauses : List Clause) → IsQuiet t clauses → (c : Clause) (l : Lit) → IsOneOf clauses c → Contains c l → ((m : Lit) → Contains c m → m ≢ l → IsFalse t m) → Holds t l
 gives t clauses quiet c l o h others =
     quiet.units o.0 l o.1 (subst (λ (w : Clause). Contains w l) (sym o.2) h) (λ m k d. others m (subst (λ (w : Clause). Contains w m) o.2 k) d)
 

@@ -1,8 +1,8 @@
 -- What each step of a search keeps, and how it ends.
-use Rattle.std.specs.Prelude.{◌≡◌, ℕ, ◌<◌, ◌≤◌, ◌==◌, count_by, List, [], ◌∷◌, ◌++◌, length, slice_get, slice_index_or, Some}
+use Rattle.std.specs.Prelude.{◌≡◌, ℕ, Bool, ◌<◌, ◌≤◌, ◌==◌, count_by, List, [], ◌∷◌, ◌++◌, length, slice_get, slice_index_or, Some}
 use Rattle.std.specs.List.{AllByRecursion, Contains}
 use Rattle.ae_base.specs.Options.{◌>>=◌}
-use Rattle.ae_rules.specs.Clauses.{Clause}
+use Rattle.ae_rules.specs.Clauses.{Clause, literal}
 use Rattle.ae_rules.specs.Derivations.{conclusion, AreAllowed}
 use Rattle.ae_core.specs.declared.formulas.Formula.{Formula}
 use Rattle.ae_core.specs.declared.formulas.Lit.{Lit}
@@ -32,9 +32,9 @@ use Rattle.ae_journal.specs.Legal.{AreLegal}
 abbrev pub AllNamed : Stored → List Clause → Type 0
 AllNamed store clauses = (c : Clause) (l : Lit) → IsOneOf clauses c → Contains c l → AreNamed store l.formula
 
--- with a formula the list has its parts
+-- with a formula the list has the formulas of the literals that say of its parts that they hold or fail
 abbrev pub HasParts : List Formula → Type 0
-HasParts fs = (h a : Formula) → Contains fs h → Contains (parts_of h) a → Contains fs a
+HasParts fs = (h a : Formula) (sign : Bool) → Contains fs h → Contains (parts_of h) a → Contains fs (literal sign a).formula
 
 -- the formulas of all literals are among these
 abbrev pub AllAmong : List Formula → List Clause → Type 0
@@ -88,15 +88,6 @@ module _ {T M : Type 0} (fits : T → Stored → Type 0) (assumed : T → List T
     pub told_within : told ≤ length t
     pub expanded_within : expanded ≤ length t
     pub has_rows : HasRows t expanded clauses
-
-  -- what a step without notes keeps, beside each store and journal
-  pub record Continues (theory : T) (marks : List M) (t : List Assigned) (clauses : List Clause) (places : List ℕ) (told expanded : ℕ) (lines : List ClauseLine)
-      (theory2 : T) (marks2 : List M) (t2 : List Assigned) (clauses2 : List Clause) (places2 : List ℕ) (told2 expanded2 : ℕ) (lines2 : List ClauseLine) : Type 0 where
-    pub alive : (store : Stored) (js : List Line) → IsAlive store theory marks t clauses told expanded js → IsAlive store theory2 marks2 t2 clauses2 told2 expanded2 js
-    pub stated : (p : Problem) (g : ℕ) → IsStated p g lines clauses places → IsStated p g lines2 clauses2 places2
-    pub state : (setting : Setting) (js : List Line) → IsStated setting.problem setting.goal lines clauses places → IsLawfulState setting t clauses expanded lines js → IsLawfulState setting t2 clauses2 expanded2 lines2 js
-    -- no formula comes in but parts of those that are there
-    pub formulas : (fs : List Formula) → HasParts fs → AllAmong fs clauses → AllAmong fs clauses2
 
 -- the journal holds at least one counted line more, and its limit stays
 pub record Progresses (old new : Noted) : Type 0 where

@@ -4,11 +4,11 @@ ghost use Rattle.std.specs.List.{Contains};
 ghost use Rattle.ae_explain.specs.Trail.{place_in, AreFalse};
 ghost use Rattle.ae_propagation.specs.Settled.{HasTrue};
 
-use crate::pick::Pick;
 use ae_core::copies::copy_lit;
 use ae_core::formulas::Lit;
 use ae_explain::Trail;
 use ae_propagation::settle::is_false;
+use ae_search_options::picks::Pick;
 use std::alloc::{AllocError, Global};
 
 /// A literal without a value of a clause that is neither true nor false.

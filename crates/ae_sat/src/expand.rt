@@ -2,15 +2,18 @@
 ghost use Rattle.std.specs.Prelude.{◌≡◌, ◌+◌, ◌<◌, ◌∷◌, ◌++◌, [], ℕ, List, length, Some, None, Ok, IfOk, OnOk};
 ghost use Rattle.std.specs.List.{Contains};
 ghost use Rattle.ae_rules.specs.Clauses.{Clause, row};
+ghost use Rattle.ae_rules.specs.Defining.{called_rows};
 ghost use Rattle.ae_rules.specs.Derivations.{AreAllowed};
 ghost use Rattle.ae_core.specs.declared.formulas.Formula.{Formula};
 ghost use Rattle.ae_core.specs.declared.problems.Problem.{Problem};
+ghost use Rattle.ae_core.specs.declared.proofs.ClauseLine.TheVariants.{Def};
 ghost use Rattle.ae_explain.specs.Trail.{at, IsLawful};
 ghost use Rattle.ae_journal.specs.declared.lines.Line.{Line};
 ghost use Rattle.ae_store.specs.Stores.{Stored};
 ghost use Rattle.ae_sat.specs.Marked.{IsRunning};
 ghost use Rattle.ae_sat.specs.Standing.{IsOneOf};
-ghost use Rattle.ae_sat.specs.Search.{AllNamed, IsAlive, IsStated, IsLawfulState, Continues};
+ghost use Rattle.ae_sat.specs.Search.{AllNamed, IsAlive, IsStated, IsLawfulState};
+ghost use Rattle.ae_sat.specs.Inner.Steps.{Continues};
 ghost use Rattle.ae_propagation.specs.Settled.{Ends};
 ghost use Rattle.ae_propagation.specs.declared.settle.Settled.TheVariants.{Quiet};
 ghost use Rattle.ae_journal.specs.Standing.{Setting};
@@ -50,6 +53,7 @@ where
         ensures state { (setting : Setting) (js : List Line) → IsStated setting.problem setting.goal lines.old.items self.old.propagation.clauses self.old.places
             → IsLawfulState setting self.old.propagation.trail self.old.propagation.clauses self.old.expanded lines.old.items js →
             OnOk result (IsLawfulState setting self.new.propagation.trail self.new.propagation.clauses self.new.expanded lines.new.items js) }
+        ensures line { OnOk result (lines.new.items ≡ lines.old.items ++ Def number (at self.old.propagation.trail place).lit.formula ∷ []) }
         ensures clauses { OnOk result (self.new.propagation.clauses ≡ self.old.propagation.clauses ++ clause ∷ []) }
         ensures trail { self.new.propagation.trail ≡ self.old.propagation.trail }
         ensures expanded { self.new.expanded ≡ self.old.expanded }
@@ -69,7 +73,7 @@ where
         Ok(())
     }
 
-    /// Attaches the row of a number of the formula of a true literal, if there is one.
+    /// Attaches the row of a number that a true literal calls for, if there is one.
     fn attach_number(
         &mut self,
         lines: &mut Vec<ClauseLine>,
@@ -77,6 +81,7 @@ where
         number: usize,
     ) -> Result<(), AllocError>
         requires within { place < length self.old.propagation.trail }
+        requires called { Contains (called_rows (at self.old.propagation.trail place).lit.positive (at self.old.propagation.trail place).lit.formula) number }
         requires alive { (store : Stored) × (js : List Line) × IsAlive T.fits T.assumed T.fits_mark T.in_step store self.old.theory self.old.marks.items self.old.propagation.trail self.old.propagation.clauses self.old.handed self.old.expanded js }
         ensures continues { OnOk result (Continues T.fits T.assumed T.fits_mark T.in_step self.old.theory self.old.marks.items self.old.propagation.trail self.old.propagation.clauses self.old.places self.old.handed self.old.expanded lines.old.items
             self.new.theory self.new.marks.items self.new.propagation.trail self.new.propagation.clauses self.new.places self.new.handed self.new.expanded lines.new.items) }

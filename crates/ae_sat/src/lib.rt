@@ -6,7 +6,6 @@ pub mod derive;
 pub mod expand;
 pub mod laws;
 pub mod marking;
-pub mod pick;
 pub mod propagator;
 pub mod run;
 pub mod solver;

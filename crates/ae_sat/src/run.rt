@@ -3,7 +3,7 @@ ghost use Rattle.std.specs.Prelude.{◌≡◌, ◌<◌, ◌≤◌, ◌+◌, ◌-
 ghost use Rattle.ae_core.specs.declared.formulas.Formula.{Formula};
 ghost use Rattle.ae_core.specs.declared.proofs.Block.{Block};
 ghost use Rattle.ae_core.specs.declared.proofs.ClauseLine.TheVariants.{Rup};
-ghost use Rattle.ae_rules.specs.Clauses.{opposite};
+ghost use Rattle.ae_rules.specs.Clauses.{Clause, opposite};
 ghost use Rattle.ae_rules.specs.Derivations.{AreAllowed, IsContradictory, clause_ok};
 ghost use Rattle.ae_core.specs.declared.problems.Problem.{Problem};
 ghost use Rattle.ae_explain.specs.Trail.{clause, AreFalse};
@@ -14,16 +14,21 @@ ghost use Rattle.ae_theory.specs.declared.theory.Fail.TheVariants.{Steps as OutO
 ghost use Rattle.ae_theory.specs.declared.theory.Outcome.TheVariants.{Complete, Conflict};
 ghost use Rattle.ae_core.specs.declared.proofs.ClauseLine.{ClauseLine};
 ghost use Rattle.ae_sat.specs.declared.run.SatEnd.TheVariants.{Refuted, Open};
-ghost use Rattle.ae_sat.specs.declared.run.Found.TheVariants.{Nothing, Clause, Contradiction};
-ghost use Rattle.ae_propagation.specs.Settled.{HasTrue, IsQuiet};
-ghost use Rattle.ae_sat.specs.Standing.{HasRows};
+ghost use Rattle.ae_sat.specs.declared.run.Found.TheVariants.{Nothing, Contradiction};
+ghost use Rattle.ae_sat.specs.declared.run.Found.TheVariants as finding;
+ghost use Rattle.ae_propagation.specs.Settled.{HasTrue, IsQuiet, last_level};
+ghost use Rattle.ae_sat.specs.Standing.{IsOneOf, HasRows};
 ghost use Rattle.ae_sat.specs.Search.{IsAlive, IsStated, IsLawfulState, NotesLegally, EndsEmpty, IsOpen, IsLearnt, HasParts, AllAmong, Progresses, Keeps};
+ghost use Rattle.ae_sat.specs.Apart.{IsFresh};
+ghost use Rattle.ae_sat.specs.Inner.Steps.{Enlarges, IsIdle};
+ghost use Rattle.ae_sat.specs.Lines.{AddsLinesOver};
 ghost use Rattle.ae_journal.specs.Standing.{Setting};
-ghost use Rattle.ae_theory.specs.Names.{IsNamedBy};
+ghost use Rattle.ae_theory.specs.Names.{IsNamedBy, terms_in};
+ghost use Rattle.std.specs.List.{AllByRecursion};
+ghost use Rattle.ae_rules.specs.Built.{IsBuiltEquation};
 
 use crate::choose::choose;
 use crate::derive::{derive, push_line};
-use crate::pick::Pick;
 use crate::solver::{Solver, note};
 use ae_core::copies::copy_clause;
 use ae_core::proofs::{Block, ClauseLine};
@@ -32,6 +37,7 @@ use ae_journal::journal::Journal;
 use ae_journal::lines::Line;
 use ae_propagation::settle::Settled;
 use ae_rules::literals::opposites;
+use ae_search_options::picks::Pick;
 use ae_store::store::Store;
 use ae_theory::theory::{Explained, Fail, Outcome, Theory};
 
@@ -82,6 +88,8 @@ where
         ensures complete { result ≡ Ok Complete → T.is_complete self.new.theory store.now }
         ensures conflict { (k : ℕ) → result ≡ Ok (Conflict k) → T.own_conflict self.new.theory k }
         ensures steps { result ≡ Err OutOfSteps → counted_in journal.new.lines ≡ journal.new.limit }
+        ensures budget { (n : ℕ) → T.may_note self.old.theory store.now n → counted_in journal.new.lines ≤ counted_in journal.old.lines + n }
+        ensures budget_left { result ≡ Err OutOfSteps → (n : ℕ) → T.may_note self.old.theory store.now n → counted_in journal.new.lines < counted_in journal.old.lines + n }
         // A width that stops it is licensed.
         ensures number { (wide : WideAt) → result ≡ Err (Number wide) → (setting : Setting) (lines : List ClauseLine) → IsNamedBy setting store.now journal.old.lines → IsLawfulState setting self.old.propagation.trail self.old.propagation.clauses self.old.expanded lines journal.old.lines →
             IsLicensed setting journal.new.lines wide }
@@ -113,20 +121,24 @@ where
             NotesLegally setting bound journal.old.lines journal.new.lines
             × OnOk result (IsLawfulState setting self.new.propagation.trail self.new.propagation.clauses self.new.expanded lines.new.items journal.new.lines) }
         ensures steps { result ≡ Err OutOfSteps → counted_in journal.new.lines ≡ journal.new.limit }
+        ensures budget { (n : ℕ) → T.may_note self.old.theory store.now n → counted_in journal.new.lines ≤ counted_in journal.old.lines + n }
+        ensures budget_left { result ≡ Err OutOfSteps → (n : ℕ) → T.may_note self.old.theory store.now n → counted_in journal.new.lines < counted_in journal.old.lines + n }
         // A width that stops it is licensed.
         ensures number { (wide : WideAt) → result ≡ Err (Number wide) → (setting : Setting) → IsNamedBy setting store.now journal.old.lines → IsStated setting.problem setting.goal lines.old.items self.old.propagation.clauses self.old.places →
             IsLawfulState setting self.old.propagation.trail self.old.propagation.clauses self.old.expanded lines.old.items journal.old.lines → IsLicensed setting journal.new.lines wide }
-        // No formula comes in but parts of those that are there.
-        ensures formulas { (fs : List Formula) → HasParts fs → AllAmong fs self.old.propagation.clauses → OnOk result (AllAmong fs self.new.propagation.clauses) }
+        ensures enlarges { OnOk result (Enlarges store.now self.old.propagation.clauses lines.old.items self.new.propagation.clauses lines.new.items) }
         ensures journal { Keeps journal.old journal.new }
+        ensures level { OnOk result (last_level self.new.propagation.trail ≡ last_level self.old.propagation.trail) }
         ensures quiet { result ≡ Ok Nothing → IsQuiet self.new.propagation.trail self.new.propagation.clauses }
         ensures told { result ≡ Ok Nothing → self.new.handed ≡ length self.new.propagation.trail }
         ensures expanded { result ≡ Ok Nothing → self.new.expanded ≡ length self.new.propagation.trail }
         ensures rows { result ≡ Ok Nothing → HasRows self.new.propagation.trail (length self.new.propagation.trail) self.new.propagation.clauses }
+        ensures all_true { result ≡ Ok Nothing → IsFresh self.old.propagation.trail self.old.propagation.clauses → (k : ℕ) → k < length self.new.propagation.clauses → HasTrue self.new.propagation.trail (clause self.new.propagation.clauses k) }
         ensures complete { result ≡ Ok Nothing → T.is_complete self.new.theory store.now }
-        ensures found { (k : ℕ) → result ≡ Ok (Clause k) → (k < length self.new.propagation.clauses) × AreFalse self.new.propagation.trail (clause self.new.propagation.clauses k) }
-        // The theory's block is right, and its hypotheses are true.
-        ensures block { (b : Block) → result ≡ Ok (Contradiction b) → IsContradictory store.now.signature b × (clause_ok store.now.signature b.deriv.hyps ≡ true) × AreFalse self.new.propagation.trail (map opposite b.deriv.hyps) }
+        ensures found { (k : ℕ) → result ≡ Ok (finding.Clause k) → (k < length self.new.propagation.clauses) × AreFalse self.new.propagation.trail (clause self.new.propagation.clauses k) }
+        // The theory's block is right, its hypotheses are true, and its lines are equations of terms built of the store's names.
+        ensures block { (b : Block) → result ≡ Ok (Contradiction b) → IsContradictory store.now.signature b × (clause_ok store.now.signature b.deriv.hyps ≡ true)
+            × AreFalse self.new.propagation.trail (map opposite b.deriv.hyps) × AllByRecursion (IsBuiltEquation store.now.signature (terms_in store.now)) b.deriv.lines }
     {
         match self.settle_rows(lines)? {
             Settled::Falsified(k) => return Ok(Found::Clause(k)),
@@ -166,9 +178,10 @@ where
             × OnOk result (IsLawfulState setting self.new.propagation.trail self.new.propagation.clauses self.new.expanded lines.new.items journal.new.lines) }
         ensures steps { result ≡ Err OutOfSteps → counted_in journal.new.lines ≡ journal.new.limit }
         ensures never_wide { (wide : WideAt) → ¬ (result ≡ Err (Number wide)) }
-        // No formula comes in but parts of those that are there.
-        ensures formulas { (fs : List Formula) → HasParts fs → AllAmong fs self.old.propagation.clauses → OnOk result (AllAmong fs self.new.propagation.clauses) }
+        ensures enlarges { OnOk result (Enlarges store.now self.old.propagation.clauses lines.old.items self.new.propagation.clauses lines.new.items) }
         ensures journal { Keeps journal.old journal.new }
+        // Where no decision stands, nothing is noted.
+        ensures base { last_level self.old.propagation.trail ≡ 0 → IsIdle journal.old journal.new result }
         ensures refuted { result ≡ Ok true → EndsEmpty lines.new.items }
         ensures learnt { result ≡ Ok false → Progresses journal.old journal.new }
     {
@@ -193,6 +206,7 @@ where
         requires contradictory { IsContradictory store.now.signature block }
         requires sorted { clause_ok store.now.signature block.deriv.hyps ≡ true }
         requires falsified { AreFalse self.old.propagation.trail (map opposite block.deriv.hyps) }
+        requires built { AllByRecursion (IsBuiltEquation store.now.signature (terms_in store.now)) block.deriv.lines }
         requires alive { IsAlive T.fits T.assumed T.fits_mark T.in_step store.now self.old.theory self.old.marks.items self.old.propagation.trail self.old.propagation.clauses self.old.handed self.old.expanded journal.old.lines }
         ensures alive { OnOk result (IsAlive T.fits T.assumed T.fits_mark T.in_step store.now self.new.theory self.new.marks.items self.new.propagation.trail self.new.propagation.clauses self.new.handed self.new.expanded journal.new.lines) }
         ensures stated { (p : Problem) (g : ℕ) → p.signature ≡ store.now.signature → IsStated p g lines.old.items self.old.propagation.clauses self.old.places →
@@ -205,9 +219,10 @@ where
             × OnOk result (IsLawfulState setting self.new.propagation.trail self.new.propagation.clauses self.new.expanded lines.new.items journal.new.lines) }
         ensures steps { result ≡ Err OutOfSteps → counted_in journal.new.lines ≡ journal.new.limit }
         ensures never_wide { (wide : WideAt) → ¬ (result ≡ Err (Number wide)) }
-        // No formula comes in but parts of those that are there.
-        ensures formulas { (fs : List Formula) → HasParts fs → AllAmong fs self.old.propagation.clauses → OnOk result (AllAmong fs self.new.propagation.clauses) }
+        ensures enlarges { OnOk result (Enlarges store.now self.old.propagation.clauses lines.old.items self.new.propagation.clauses lines.new.items) }
         ensures journal { Keeps journal.old journal.new }
+        // Where no decision stands, nothing is noted.
+        ensures base { last_level self.old.propagation.trail ≡ 0 → IsIdle journal.old journal.new result }
         ensures refuted { result ≡ Ok true → EndsEmpty lines.new.items }
         ensures learnt { result ≡ Ok false → Progresses journal.old journal.new }
     {
@@ -250,9 +265,10 @@ where
             × OnOk result (IsLawfulState setting self.new.propagation.trail self.new.propagation.clauses self.new.expanded lines.new.items journal.new.lines) }
         ensures steps { result ≡ Err OutOfSteps → counted_in journal.new.lines ≡ journal.new.limit }
         ensures never_wide { (wide : WideAt) → ¬ (result ≡ Err (Number wide)) }
-        // No formula comes in but parts of those that are there.
-        ensures formulas { (fs : List Formula) → HasParts fs → AllAmong fs self.old.propagation.clauses → OnOk result (AllAmong fs self.new.propagation.clauses) }
+        ensures enlarges { OnOk result (Enlarges store.now self.old.propagation.clauses lines.old.items self.new.propagation.clauses lines.new.items) }
         ensures journal { Keeps journal.old journal.new }
+        // Where no decision stands, nothing is noted.
+        ensures base { last_level self.old.propagation.trail ≡ 0 → IsIdle journal.old journal.new result }
         ensures refuted { result ≡ Ok true → EndsEmpty lines.new.items }
         ensures learnt { result ≡ Ok false → Progresses journal.old journal.new }
     {
@@ -298,8 +314,7 @@ where
             × OnOk result (IsLawfulState setting self.new.propagation.trail self.new.propagation.clauses self.new.expanded lines.new.items journal.new.lines) }
         ensures steps { result ≡ Err OutOfSteps → counted_in journal.new.lines ≡ journal.new.limit }
         ensures never_wide { (wide : WideAt) → ¬ (result ≡ Err (Number wide)) }
-        // No formula comes in but parts of those that are there.
-        ensures formulas { (fs : List Formula) → HasParts fs → AllAmong fs self.old.propagation.clauses → OnOk result (AllAmong fs self.new.propagation.clauses) }
+        ensures enlarges { OnOk result (Enlarges store.now self.old.propagation.clauses lines.old.items self.new.propagation.clauses lines.new.items) }
         ensures journal { Keeps journal.old journal.new }
         ensures decided { OnOk result (Progresses journal.old journal.new) }
     {
@@ -336,11 +351,18 @@ where
             NotesLegally setting bound journal.old.lines journal.new.lines
             × OnOk result (IsLawfulState setting self.new.propagation.trail self.new.propagation.clauses self.new.expanded lines.new.items journal.new.lines) }
         ensures steps { result ≡ Err OutOfSteps → counted_in journal.new.lines ≡ journal.new.limit }
+        // From a fresh start over clauses that come apart no more lines are noted than the theory may note, and where one more was asked for, the theory may have noted it.
+        ensures budget { (n : ℕ) → IsFresh self.old.propagation.trail self.old.propagation.clauses → T.may_note self.old.theory store.now n → counted_in journal.new.lines ≤ counted_in journal.old.lines + n }
+        ensures budget_left { result ≡ Err OutOfSteps → (n : ℕ) → IsFresh self.old.propagation.trail self.old.propagation.clauses → T.may_note self.old.theory store.now n → counted_in journal.new.lines < counted_in journal.old.lines + n }
         // A width that stops it is licensed.
         ensures number { (wide : WideAt) → result ≡ Err (Number wide) → (setting : Setting) → IsNamedBy setting store.now journal.old.lines → IsStated setting.problem setting.goal lines.old.items self.old.propagation.clauses self.old.places →
             IsLawfulState setting self.old.propagation.trail self.old.propagation.clauses self.old.expanded lines.old.items journal.old.lines → IsLicensed setting journal.new.lines wide }
+        // No clause goes.
+        ensures kept { (c : Clause) → IsOneOf self.old.propagation.clauses c → OnOk result (IsOneOf self.new.propagation.clauses c) }
         // No formula comes in but parts of those that are there.
         ensures formulas { (fs : List Formula) → HasParts fs → AllAmong fs self.old.propagation.clauses → OnOk result (AllAmong fs self.new.propagation.clauses) }
+        // The lines that come in are rows, blocks and clauses of such formulas.
+        ensures lines { (fs : List Formula) → HasParts fs → AllAmong fs self.old.propagation.clauses → OnOk result (AddsLinesOver store.now fs lines.old.items lines.new.items) }
         ensures journal { Keeps journal.old journal.new }
         // The empty clause is the last of the lines.
         ensures refuted { result ≡ Ok Refuted → EndsEmpty lines.new.items }

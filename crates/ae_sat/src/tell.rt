@@ -1,5 +1,5 @@
 //! Telling the theory what is true.
-ghost use Rattle.std.specs.Prelude.{◌≡◌, ◌<◌, ◌+◌, List, length, OnOk};
+ghost use Rattle.std.specs.Prelude.{◌≡◌, ◌<◌, ◌+◌, ℕ, List, length, OnOk};
 ghost use Rattle.ae_explain.specs.Trail.{at};
 ghost use Rattle.ae_journal.specs.declared.lines.Line.{Line};
 ghost use Rattle.ae_theory.specs.Names.{is_atom, AreNamed};
@@ -47,6 +47,7 @@ where
             → IsRunning T.assumed T.fits_mark T.in_step self.new.theory self.new.marks.items self.new.propagation.trail self.new.propagation.clauses self.new.handed standing }
         ensures told { OnOk result (self.new.handed ≡ self.old.handed + 1) }
         ensures fits { T.fits self.new.theory store.now }
+        ensures budget { (n : ℕ) → T.may_note self.old.theory store.now n → T.may_note self.new.theory store.now n }
         ensures trail { self.new.propagation.trail ≡ self.old.propagation.trail }
         ensures clauses { self.new.propagation.clauses ≡ self.old.propagation.clauses }
         ensures places { self.new.places ≡ self.old.places }
@@ -70,6 +71,7 @@ where
         ensures alive { (js : List Line) → IsAlive T.fits T.assumed T.fits_mark T.in_step store.now self.old.theory self.old.marks.items self.old.propagation.trail self.old.propagation.clauses self.old.handed self.old.expanded js →
             OnOk result (IsAlive T.fits T.assumed T.fits_mark T.in_step store.now self.new.theory self.new.marks.items self.new.propagation.trail self.new.propagation.clauses self.new.handed self.new.expanded js) }
         ensures told { OnOk result (self.new.handed ≡ length self.new.propagation.trail) }
+        ensures budget { (n : ℕ) → T.may_note self.old.theory store.now n → T.may_note self.new.theory store.now n }
         ensures trail { self.new.propagation.trail ≡ self.old.propagation.trail }
         ensures clauses { self.new.propagation.clauses ≡ self.old.propagation.clauses }
         ensures places { self.new.places ≡ self.old.places }

@@ -70,3 +70,9 @@ returns-clause-allowed g c p n st =
     let ek : c.push_line.new.lines.items ≡ ks ++ Def c.args.number f ∷ [] = c.in_ok-push_line.ensures.ok ∙ ap (λ (x : Formula). ks ++ Def c.args.number x ∷ []) ef in
     subst (AreAllowed p n []) (sym ek)
     (row_stated s.propagation.trail s.propagation.clauses c.requires.lawful c.requires.stands c.args.place c.args.number c.args.clause c.requires.within c.requires.row p n ks s.places st).allowed
+
+pub returns-clause-line : goal.returns-clause-line
+returns-clause-line g c =
+    let f : Formula = (at c.args.self.now.propagation.trail c.args.place).lit.formula in
+    let ef : c.in_ok-formula.formula ≡ f = c.in_ok-formula.ensures ∙ ap (λ (l : Lit). l.formula) c.lit_at.ensures in
+    c.in_ok-push_line.ensures.ok ∙ ap (λ (x : Formula). c.args.lines.now.items ++ Def c.args.number x ∷ []) ef

@@ -7,7 +7,8 @@ use Rattle.ae_journal.specs.declared.lines.Line.{Line}
 use Rattle.ae_journal.specs.declared.lines.Line.TheVariants as line
 use Rattle.ae_propagation.specs.Settled.{HasTrue}
 use Rattle.ae_propagation.specs.Settled.{last_level}
-use Rattle.ae_sat.specs.Search.{AllNamed, AllAmong, IsLawfulState}
+use Rattle.ae_sat.specs.Search.{AllNamed, IsLawfulState}
+use Rattle.ae_sat.proofs.Enlarging.{enlarges_same, enlarges_to}
 use Rattle.ae_sat.proofs.Legality.{may_decide, decision_keeps, rows_more}
 use Rattle.ae_sat.specs.Standing.{HasRows}
 use Rattle.ae_sat.proofs.Branching.{progresses, keeps_one, keeps_either, notes_one, notes_either}
@@ -101,5 +102,8 @@ decide-requires-clause-of_clause g c =
     let e : c.clause_at.result.now ≡ clause s.propagation.clauses c.args.number = c.clause_at.ensures in
     (c.clause_at.result.now, (c.args.number, c.requires.within, sym e), c.in_ok-lit.ensures.has)
 
-pub returns-clause-formulas : goal.returns-clause-formulas
-returns-clause-formulas g c fs parts among = subst (AllAmong fs) (sym c.in_ok-decide.ensures.clauses) among
+pub returns-clause-enlarges : goal.returns-clause-enlarges
+returns-clause-enlarges g c =
+    let u = c.args.self.now.propagation.clauses in
+    let ks = c.args.lines.now.items in
+    enlarges_to c.args.store.now u u c.decide.new.self.propagation.clauses ks ks ks (enlarges_same c.args.store.now u ks) c.in_ok-decide.ensures.clauses refl

@@ -1,5 +1,6 @@
 use Rattle.std.proofs.Common.{◌≡◌, ◌∙◌, ℕ, List, length, get_or, sym, ap, subst, Some, refl, arith}
 use Rattle.std.specs.List.{Contains}
+use Rattle.std.proofs.lemmas.List.{get_or_default}
 use Rattle.ae_rules.specs.Clauses.{row}
 use Rattle.ae_core.specs.declared.formulas.Lit.{Lit}
 use Rattle.ae_rules.specs.Defining.{called_rows}
@@ -24,6 +25,16 @@ attach_number-requires-clause-within g c = omega (arith, c.requires.left, ap len
 
 pub attach_number-requires-clause-alive : goal.attach_number-requires-clause-alive
 attach_number-requires-clause-alive g c = (c.requires.alive.0, c.requires.alive.1, c.loop-number.invariant.continues.alive c.requires.alive.0 c.requires.alive.1 c.requires.alive.2)
+
+pub attach_number-requires-clause-called : goal.attach_number-requires-clause-called
+attach_number-requires-clause-called g c =
+    let s = c.args.self.now in
+    let l = c.loop-number in
+    let ns = c.as_slice-number-items.result.now in
+    let n = get_or ns l.number-index 0 in
+    let en : ns ≡ called_rows (at s.propagation.trail s.expanded).lit.positive (at s.propagation.trail s.expanded).lit.formula = c.as_slice-number-items.ensures ∙ (c.in_ok-numbers.ensures ∙ ap (λ (x : Lit). called_rows x.positive x.formula) c.lit_at.ensures) in
+    let here : Contains ns n = (l.number-index, c.loop-number-test.true, sym (get_or_default ns l.number-index 0 n c.loop-number-test.true)) in
+    subst (λ (t : List Assigned). Contains (called_rows (at t s.expanded).lit.positive (at t s.expanded).lit.formula) n) (sym l.invariant.trail) (subst (λ (w : List ℕ). Contains w n) en here)
 
 pub loop-number-preserved : goal.loop-number-preserved
 loop-number-preserved g c =

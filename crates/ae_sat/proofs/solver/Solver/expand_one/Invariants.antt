@@ -2,7 +2,7 @@ use Rattle.std.proofs.Common.{◌≡◌, ℕ, ◌<◌, get_or, Some}
 use Rattle.ae_rules.specs.Clauses.{Clause, row}
 use Rattle.ae_explain.specs.Trail.{at}
 use Rattle.ae_sat.specs.Standing.{IsOneOf}
-use Rattle.ae_sat.specs.Search.{Continues}
+use Rattle.ae_sat.specs.Inner.Steps.{Continues}
 use Rattle.ae_sat.proofs.solver.Solver.expand_one.Given as goal
 
 abbrev pub invariant-loop-number : goal.invariant-loop-number

@@ -1,4 +1,4 @@
-use Rattle.std.proofs.Common.{◌≡◌, ◌∙◌, ℕ, ◌++◌, ◌∷◌, [], List, length, map, sym, ap, subst, true}
+use Rattle.std.proofs.Common.{◌≡◌, ◌∙◌, ℕ, ◌++◌, ◌∷◌, [], List, length, map, sym, ap, subst, true, refl}
 use Rattle.std.proofs.Math.Seq.{get_or-append_seam}
 use Rattle.ae_rules.specs.Clauses.{Clause, opposite}
 use Rattle.ae_rules.specs.Derivations.{IsContradictory, clause_ok, AreAllowed}
@@ -7,7 +7,11 @@ use Rattle.ae_core.specs.declared.proofs.ClauseLine.TheVariants.{Rup, Block}
 use Rattle.ae_explain.specs.declared.trail.Assigned.{Assigned}
 use Rattle.ae_explain.specs.Trail.{clause, AreFalse, IsLawful}
 use Rattle.ae_explain.specs.Levels.{greatest_of}
-use Rattle.ae_sat.specs.Search.{IsStated, IsLearnt, IsLawfulState, AllAmong}
+use Rattle.ae_propagation.specs.Settled.{last_level}
+use Rattle.ae_sat.specs.Search.{IsStated, IsLearnt, IsLawfulState}
+use Rattle.ae_sat.proofs.Enlarging.{enlarges_more, enlarges_to, block_enlarges, rup_enlarges}
+use Rattle.ae_sat.proofs.Idling.{idle_memory}
+use Rattle.ae_sat.proofs.Results.{on_ok_more}
 use Rattle.ae_sat.proofs.Attaching.{lawful_clause}
 use Rattle.ae_sat.proofs.Propagating.{line_state}
 use Rattle.ae_sat.proofs.Blocks.{block_stated, first_stated, state_same}
@@ -158,8 +162,37 @@ returns-clause-allowed g c p n sig old =
     subst (λ (w : List Clause). IsStated p n new w d.places) (sym du) (subst (λ (w : List ℕ). IsStated p n new s.propagation.clauses w) (sym dp) (first_stated p n new s.propagation.clauses s.places cl (length ks) then)) in
     c.take_in.ensures.allowed p n sig last
 
-pub returns-clause-formulas : goal.returns-clause-formulas
-returns-clause-formulas g c fs parts among =
+pub returns-clause-enlarges : goal.returns-clause-enlarges
+returns-clause-enlarges g c =
     let s = c.args.self.now in
-    let du : c.detach.new.self.propagation.clauses ≡ s.propagation.clauses = c.detach.ensures.clauses s.propagation.clauses c.in_ok-clause.clause c.in_ok-attach.ensures.clauses in
-    c.take_in.ensures.formulas fs parts (subst (AllAmong fs) (sym du) among)
+    let run = c.requires.alive.running in
+    let t = s.propagation.trail in
+    let u = s.propagation.clauses in
+    let store = c.args.store.now in
+    let b = c.args.block in
+    let ks = c.args.lines.now.items in
+    let mid = c.push_line.new.lines.items in
+    let new = c.derive-derived.new.lines.items in
+    let e = c.in_ok-learnt.ensures in
+    let r = c.in_ok-learnt.learnt in
+    let false_ones : AreFalse t r.clause = subst (λ (w : List Assigned). AreFalse w r.clause) c.in_ok-attach.ensures.trail e.false_ones in
+    let one = enlarges_to store u u u ks (ks ++ Block b ∷ []) mid (block_enlarges t u run.lawful run.stands store b c.requires.falsified c.requires.built ks) refl c.in_ok-push_line.ensures.ok in
+    let du : c.detach.new.self.propagation.clauses ≡ u = c.detach.ensures.clauses u c.in_ok-clause.clause c.in_ok-attach.ensures.clauses in
+    let two = enlarges_to store u u c.detach.new.self.propagation.clauses mid (mid ++ Rup r.clause e.line.0 ∷ []) new (rup_enlarges t u run.lawful run.stands store r.clause e.line.0 false_ones mid) du e.line.1 in
+    let both = enlarges_more store u u c.detach.new.self.propagation.clauses ks mid new one two in
+    on_ok_more _ _ c.take_in.result c.take_in.ensures.enlarges (λ more. enlarges_more store u c.detach.new.self.propagation.clauses c.take_in.new.self.propagation.clauses ks new c.take_in.new.lines.items both more)
+
+pub returns-clause-base : goal.returns-clause-base
+returns-clause-base g c z = c.take_in.ensures.base (ap last_level (c.detach.ensures.trail ∙ c.in_ok-attach.ensures.trail) ∙ z)
+
+pub returns-in_err-clause-clause-base : goal.returns-in_err-clause-clause-base
+returns-in_err-clause-clause-base g c z = idle_memory c.args.journal.now c.from_residual.result c.in_err-clause.field-0.0 c.from_residual.ensures.1
+
+pub returns-in_err-push_line-clause-base : goal.returns-in_err-push_line-clause-base
+returns-in_err-push_line-clause-base g c z = idle_memory c.args.journal.now c.from_residual-in_err-push_line.result c.in_err-push_line.field-0.0 c.from_residual-in_err-push_line.ensures.1
+
+pub returns-in_err-attach-clause-base : goal.returns-in_err-attach-clause-base
+returns-in_err-attach-clause-base g c z = idle_memory c.args.journal.now c.from_residual-in_err-attach.result c.in_err-attach.field-0.0 c.from_residual-in_err-attach.ensures.1
+
+pub returns-in_err-learnt-clause-base : goal.returns-in_err-learnt-clause-base
+returns-in_err-learnt-clause-base g c z = idle_memory c.args.journal.now c.from_residual-in_err-learnt.result c.in_err-learnt.field-0.0 c.from_residual-in_err-learnt.ensures.1

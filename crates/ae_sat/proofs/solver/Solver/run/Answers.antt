@@ -1,6 +1,10 @@
-use Rattle.std.proofs.Common.{rules, refl, ◌∙◌, Ok, ap}
+use Rattle.std.proofs.Common.{rules, refl, ◌∙◌, Ok, ap, arith}
+use Rattle.ae_journal.specs.Noted.{Noted}
+use Rattle.ae_journal.specs.Journals.{counted_in}
+use Rattle.ae_propagation.specs.Settled.{last_level}
+use Rattle.ae_sat.proofs.Enlarging.{enlarges_same, enlarges_more}
 use Rattle.ae_sat.proofs.Failing.{passed_on}
-use Rattle.ae_sat.proofs.Searching.{notes_more, keeps_more, named_still}
+use Rattle.ae_sat.proofs.Searching.{notes_none, notes_more, keeps_same, keeps_more, named_still}
 use Rattle.ae_sat.proofs.solver.Solver.run.Goals as goal
 
 pub returns-in_err-k-clause-legal : goal.returns-in_err-k-clause-legal
@@ -40,7 +44,11 @@ returns-then-branch-clause-legal g c setting bound e s w =
 pub loop-k-preserved-else-branch : goal.loop-k-preserved-else-branch
 loop-k-preserved-else-branch g c = record {
   alive = c.in_ok-learn-in-Clause.ensures.alive;
-  formulas = λ fs parts among. c.in_ok-learn-in-Clause.ensures.formulas fs parts (c.in_ok-k.ensures.formulas fs parts (c.loop-k.invariant.formulas fs parts among));
+  enlarges = enlarges_more c.args.store.now c.args.self.now.propagation.clauses c.propagate.new.self.propagation.clauses c.learn.new.self.propagation.clauses c.args.lines.now.items c.propagate.new.lines.items c.learn.new.lines.items
+      (enlarges_more c.args.store.now c.args.self.now.propagation.clauses c.loop-k.self.propagation.clauses c.propagate.new.self.propagation.clauses c.args.lines.now.items c.loop-k.lines.items c.propagate.new.lines.items c.loop-k.invariant.enlarges c.in_ok-k.ensures.enlarges)
+      c.in_ok-learn-in-Clause.ensures.enlarges;
+  fresh = λ f. absurd ((c.learn.ensures.base (c.in_ok-k.ensures.level ∙ ap last_level (c.loop-k.invariant.fresh f).none)).ended (c.in_ok-learn-in-Clause.was ∙ ap Ok c.if-branch.false));
+  budget = λ f n h. absurd ((c.learn.ensures.base (c.in_ok-k.ensures.level ∙ ap last_level (c.loop-k.invariant.fresh f).none)).ended (c.in_ok-learn-in-Clause.was ∙ ap Ok c.if-branch.false));
   stated = λ p n e s. c.in_ok-learn-in-Clause.ensures.stated p n e (c.in_ok-k.ensures.stated p n e (c.loop-k.invariant.stated p n e s));
   legal = λ setting bound e s w.
       let st = c.loop-k.invariant.stated setting.problem setting.goal e.signature s in
@@ -67,7 +75,11 @@ returns-in-None-clause-legal g c setting bound e s w =
 pub loop-k-preserved : goal.loop-k-preserved
 loop-k-preserved g c = record {
   alive = c.in_ok-branch_on-in-Some.ensures.alive;
-  formulas = λ fs parts among. c.in_ok-branch_on-in-Some.ensures.formulas fs parts (c.in_ok-k.ensures.formulas fs parts (c.loop-k.invariant.formulas fs parts among));
+  enlarges = enlarges_more c.args.store.now c.args.self.now.propagation.clauses c.propagate.new.self.propagation.clauses c.branch_on.new.self.propagation.clauses c.args.lines.now.items c.propagate.new.lines.items c.branch_on.new.lines.items
+      (enlarges_more c.args.store.now c.args.self.now.propagation.clauses c.loop-k.self.propagation.clauses c.propagate.new.self.propagation.clauses c.args.lines.now.items c.loop-k.lines.items c.propagate.new.lines.items c.loop-k.invariant.enlarges c.in_ok-k.ensures.enlarges)
+      c.in_ok-branch_on-in-Some.ensures.enlarges;
+  fresh = λ f. absurd (c.in-Some.ensures.1 (c.propagate.ensures.all_true (c.in_ok-k.was ∙ ap Ok c.in-Nothing.is) (c.loop-k.invariant.fresh f) c.in-Some.k c.in-Some.ensures.0));
+  budget = λ f n h. absurd (c.in-Some.ensures.1 (c.propagate.ensures.all_true (c.in_ok-k.was ∙ ap Ok c.in-Nothing.is) (c.loop-k.invariant.fresh f) c.in-Some.k c.in-Some.ensures.0));
   stated = λ p n e s. c.in_ok-branch_on-in-Some.ensures.stated p n e (c.in_ok-k.ensures.stated p n e (c.loop-k.invariant.stated p n e s));
   legal = λ setting bound e s w.
       let st = c.loop-k.invariant.stated setting.problem setting.goal e.signature s in
@@ -130,7 +142,11 @@ returns-then-branch-2-clause-legal g c setting bound e s w =
 pub loop-k-preserved-else-branch-2 : goal.loop-k-preserved-else-branch-2
 loop-k-preserved-else-branch-2 g c = record {
   alive = c.in_ok-learn_block-in-Contradiction.ensures.alive;
-  formulas = λ fs parts among. c.in_ok-learn_block-in-Contradiction.ensures.formulas fs parts (c.in_ok-k.ensures.formulas fs parts (c.loop-k.invariant.formulas fs parts among));
+  enlarges = enlarges_more c.args.store.now c.args.self.now.propagation.clauses c.propagate.new.self.propagation.clauses c.learn_block.new.self.propagation.clauses c.args.lines.now.items c.propagate.new.lines.items c.learn_block.new.lines.items
+      (enlarges_more c.args.store.now c.args.self.now.propagation.clauses c.loop-k.self.propagation.clauses c.propagate.new.self.propagation.clauses c.args.lines.now.items c.loop-k.lines.items c.propagate.new.lines.items c.loop-k.invariant.enlarges c.in_ok-k.ensures.enlarges)
+      c.in_ok-learn_block-in-Contradiction.ensures.enlarges;
+  fresh = λ f. absurd ((c.learn_block.ensures.base (c.in_ok-k.ensures.level ∙ ap last_level (c.loop-k.invariant.fresh f).none)).ended (c.in_ok-learn_block-in-Contradiction.was ∙ ap Ok c.if-branch-2.false));
+  budget = λ f n h. absurd ((c.learn_block.ensures.base (c.in_ok-k.ensures.level ∙ ap last_level (c.loop-k.invariant.fresh f).none)).ended (c.in_ok-learn_block-in-Contradiction.was ∙ ap Ok c.if-branch-2.false));
   stated = λ p n e s. c.in_ok-learn_block-in-Contradiction.ensures.stated p n e (c.in_ok-k.ensures.stated p n e (c.loop-k.invariant.stated p n e s));
   legal = λ setting bound e s w.
       let st = c.loop-k.invariant.stated setting.problem setting.goal e.signature s in
@@ -193,11 +209,119 @@ returns-in_err-learn_block-in-Contradiction-clause-number g c wide w setting e s
 pub returns-in_err-branch_on-in-Some-clause-number : goal.returns-in_err-branch_on-in-Some-clause-number
 returns-in_err-branch_on-in-Some-clause-number g c wide w setting e s state = absurd (c.in_err-branch_on-in-Some.ensures.never_wide wide (passed_on c.from_residual-in_err-branch_on-in-Some.result c.in_err-branch_on-in-Some.field-0.0 refl c.from_residual-in_err-branch_on-in-Some.ensures.1 w))
 
+pub loop-k-init : goal.loop-k-init
+loop-k-init g c = record {
+  alive = c.requires.alive;
+  stated = λ p n e s. s;
+  legal = λ setting bound e s w. (notes_none setting bound c.args.journal.now.lines, w);
+  enlarges = enlarges_same c.args.store.now c.args.self.now.propagation.clauses c.args.lines.now.items;
+  fresh = λ f. f;
+  budget = λ f n h. (h, refl);
+  journal = keeps_same c.args.journal.now;
+}
+
+pub returns-in-None-clause-kept : goal.returns-in-None-clause-kept
+returns-in-None-clause-kept g c = (enlarges_more c.args.store.now c.args.self.now.propagation.clauses c.loop-k.self.propagation.clauses c.propagate.new.self.propagation.clauses c.args.lines.now.items c.loop-k.lines.items c.propagate.new.lines.items
+    c.loop-k.invariant.enlarges c.in_ok-k.ensures.enlarges).kept
+
 pub returns-in-None-clause-formulas : goal.returns-in-None-clause-formulas
-returns-in-None-clause-formulas g c fs parts among = c.in_ok-k.ensures.formulas fs parts (c.loop-k.invariant.formulas fs parts among)
+returns-in-None-clause-formulas g c = (enlarges_more c.args.store.now c.args.self.now.propagation.clauses c.loop-k.self.propagation.clauses c.propagate.new.self.propagation.clauses c.args.lines.now.items c.loop-k.lines.items c.propagate.new.lines.items
+    c.loop-k.invariant.enlarges c.in_ok-k.ensures.enlarges).formulas
+
+pub returns-in-None-clause-lines : goal.returns-in-None-clause-lines
+returns-in-None-clause-lines g c = (enlarges_more c.args.store.now c.args.self.now.propagation.clauses c.loop-k.self.propagation.clauses c.propagate.new.self.propagation.clauses c.args.lines.now.items c.loop-k.lines.items c.propagate.new.lines.items
+    c.loop-k.invariant.enlarges c.in_ok-k.ensures.enlarges).written
+
+pub returns-then-branch-clause-kept : goal.returns-then-branch-clause-kept
+returns-then-branch-clause-kept g c = (enlarges_more c.args.store.now c.args.self.now.propagation.clauses c.propagate.new.self.propagation.clauses c.learn.new.self.propagation.clauses c.args.lines.now.items c.propagate.new.lines.items c.learn.new.lines.items
+    (enlarges_more c.args.store.now c.args.self.now.propagation.clauses c.loop-k.self.propagation.clauses c.propagate.new.self.propagation.clauses c.args.lines.now.items c.loop-k.lines.items c.propagate.new.lines.items
+    c.loop-k.invariant.enlarges c.in_ok-k.ensures.enlarges) c.in_ok-learn-in-Clause.ensures.enlarges).kept
 
 pub returns-then-branch-clause-formulas : goal.returns-then-branch-clause-formulas
-returns-then-branch-clause-formulas g c fs parts among = c.in_ok-learn-in-Clause.ensures.formulas fs parts (c.in_ok-k.ensures.formulas fs parts (c.loop-k.invariant.formulas fs parts among))
+returns-then-branch-clause-formulas g c = (enlarges_more c.args.store.now c.args.self.now.propagation.clauses c.propagate.new.self.propagation.clauses c.learn.new.self.propagation.clauses c.args.lines.now.items c.propagate.new.lines.items c.learn.new.lines.items
+    (enlarges_more c.args.store.now c.args.self.now.propagation.clauses c.loop-k.self.propagation.clauses c.propagate.new.self.propagation.clauses c.args.lines.now.items c.loop-k.lines.items c.propagate.new.lines.items
+    c.loop-k.invariant.enlarges c.in_ok-k.ensures.enlarges) c.in_ok-learn-in-Clause.ensures.enlarges).formulas
+
+pub returns-then-branch-clause-lines : goal.returns-then-branch-clause-lines
+returns-then-branch-clause-lines g c = (enlarges_more c.args.store.now c.args.self.now.propagation.clauses c.propagate.new.self.propagation.clauses c.learn.new.self.propagation.clauses c.args.lines.now.items c.propagate.new.lines.items c.learn.new.lines.items
+    (enlarges_more c.args.store.now c.args.self.now.propagation.clauses c.loop-k.self.propagation.clauses c.propagate.new.self.propagation.clauses c.args.lines.now.items c.loop-k.lines.items c.propagate.new.lines.items
+    c.loop-k.invariant.enlarges c.in_ok-k.ensures.enlarges) c.in_ok-learn-in-Clause.ensures.enlarges).written
+
+pub returns-then-branch-2-clause-kept : goal.returns-then-branch-2-clause-kept
+returns-then-branch-2-clause-kept g c = (enlarges_more c.args.store.now c.args.self.now.propagation.clauses c.propagate.new.self.propagation.clauses c.learn_block.new.self.propagation.clauses c.args.lines.now.items c.propagate.new.lines.items c.learn_block.new.lines.items
+    (enlarges_more c.args.store.now c.args.self.now.propagation.clauses c.loop-k.self.propagation.clauses c.propagate.new.self.propagation.clauses c.args.lines.now.items c.loop-k.lines.items c.propagate.new.lines.items
+    c.loop-k.invariant.enlarges c.in_ok-k.ensures.enlarges) c.in_ok-learn_block-in-Contradiction.ensures.enlarges).kept
 
 pub returns-then-branch-2-clause-formulas : goal.returns-then-branch-2-clause-formulas
-returns-then-branch-2-clause-formulas g c fs parts among = c.in_ok-learn_block-in-Contradiction.ensures.formulas fs parts (c.in_ok-k.ensures.formulas fs parts (c.loop-k.invariant.formulas fs parts among))
+returns-then-branch-2-clause-formulas g c = (enlarges_more c.args.store.now c.args.self.now.propagation.clauses c.propagate.new.self.propagation.clauses c.learn_block.new.self.propagation.clauses c.args.lines.now.items c.propagate.new.lines.items c.learn_block.new.lines.items
+    (enlarges_more c.args.store.now c.args.self.now.propagation.clauses c.loop-k.self.propagation.clauses c.propagate.new.self.propagation.clauses c.args.lines.now.items c.loop-k.lines.items c.propagate.new.lines.items
+    c.loop-k.invariant.enlarges c.in_ok-k.ensures.enlarges) c.in_ok-learn_block-in-Contradiction.ensures.enlarges).formulas
+
+pub returns-then-branch-2-clause-lines : goal.returns-then-branch-2-clause-lines
+returns-then-branch-2-clause-lines g c = (enlarges_more c.args.store.now c.args.self.now.propagation.clauses c.propagate.new.self.propagation.clauses c.learn_block.new.self.propagation.clauses c.args.lines.now.items c.propagate.new.lines.items c.learn_block.new.lines.items
+    (enlarges_more c.args.store.now c.args.self.now.propagation.clauses c.loop-k.self.propagation.clauses c.propagate.new.self.propagation.clauses c.args.lines.now.items c.loop-k.lines.items c.propagate.new.lines.items
+    c.loop-k.invariant.enlarges c.in_ok-k.ensures.enlarges) c.in_ok-learn_block-in-Contradiction.ensures.enlarges).written
+
+pub learn_block-requires-clause-built : goal.learn_block-requires-clause-built
+learn_block-requires-clause-built g c = (c.propagate.ensures.block c.in-Contradiction.block (c.in_ok-k.was ∙ ap Ok c.in-Contradiction.is)).3
+
+-- ---- the lines that the theory may note
+pub returns-in_err-k-clause-budget : goal.returns-in_err-k-clause-budget
+returns-in_err-k-clause-budget g c n f h =
+    let b = c.loop-k.invariant.budget f n h in
+    omega (arith, c.in_err-k.ensures.budget n b.0, b.1)
+
+pub returns-in-None-clause-budget : goal.returns-in-None-clause-budget
+returns-in-None-clause-budget g c n f h =
+    let b = c.loop-k.invariant.budget f n h in
+    omega (arith, c.in_ok-k.ensures.budget n b.0, b.1)
+
+pub returns-in_err-learn-in-Clause-clause-budget : goal.returns-in_err-learn-in-Clause-clause-budget
+returns-in_err-learn-in-Clause-clause-budget g c n f h =
+    let b = c.loop-k.invariant.budget f n h in
+    let idle = c.in_err-learn-in-Clause.ensures.base (c.in_ok-k.ensures.level ∙ ap last_level (c.loop-k.invariant.fresh f).none) in
+    omega (arith, c.in_ok-k.ensures.budget n b.0, b.1, ap (λ (x : Noted). counted_in x.lines) idle.noted)
+
+pub returns-then-branch-clause-budget : goal.returns-then-branch-clause-budget
+returns-then-branch-clause-budget g c n f h =
+    let b = c.loop-k.invariant.budget f n h in
+    let idle = c.in_ok-learn-in-Clause.ensures.base (c.in_ok-k.ensures.level ∙ ap last_level (c.loop-k.invariant.fresh f).none) in
+    omega (arith, c.in_ok-k.ensures.budget n b.0, b.1, ap (λ (x : Noted). counted_in x.lines) idle.noted)
+
+pub returns-in_err-learn_block-in-Contradiction-clause-budget : goal.returns-in_err-learn_block-in-Contradiction-clause-budget
+returns-in_err-learn_block-in-Contradiction-clause-budget g c n f h =
+    let b = c.loop-k.invariant.budget f n h in
+    let idle = c.in_err-learn_block-in-Contradiction.ensures.base (c.in_ok-k.ensures.level ∙ ap last_level (c.loop-k.invariant.fresh f).none) in
+    omega (arith, c.in_ok-k.ensures.budget n b.0, b.1, ap (λ (x : Noted). counted_in x.lines) idle.noted)
+
+pub returns-then-branch-2-clause-budget : goal.returns-then-branch-2-clause-budget
+returns-then-branch-2-clause-budget g c n f h =
+    let b = c.loop-k.invariant.budget f n h in
+    let idle = c.in_ok-learn_block-in-Contradiction.ensures.base (c.in_ok-k.ensures.level ∙ ap last_level (c.loop-k.invariant.fresh f).none) in
+    omega (arith, c.in_ok-k.ensures.budget n b.0, b.1, ap (λ (x : Noted). counted_in x.lines) idle.noted)
+
+pub returns-in_err-branch_on-in-Some-clause-budget : goal.returns-in_err-branch_on-in-Some-clause-budget
+returns-in_err-branch_on-in-Some-clause-budget g c n f h =
+    absurd (c.in-Some.ensures.1 (c.propagate.ensures.all_true (c.in_ok-k.was ∙ ap Ok c.in-Nothing.is) (c.loop-k.invariant.fresh f) c.in-Some.k c.in-Some.ensures.0))
+
+pub returns-in_err-k-clause-budget_left : goal.returns-in_err-k-clause-budget_left
+returns-in_err-k-clause-budget_left g c e n f h =
+    let b = c.loop-k.invariant.budget f n h in
+    omega (arith, c.in_err-k.ensures.budget_left (passed_on c.from_residual.result c.in_err-k.field-0.0 refl c.from_residual.ensures.1 e) n b.0, b.1)
+
+pub returns-in_err-learn-in-Clause-clause-budget_left : goal.returns-in_err-learn-in-Clause-clause-budget_left
+returns-in_err-learn-in-Clause-clause-budget_left g c e n f h =
+    let idle = c.in_err-learn-in-Clause.ensures.base (c.in_ok-k.ensures.level ∙ ap last_level (c.loop-k.invariant.fresh f).none) in
+    absurd (idle.asked (passed_on c.from_residual-in_err-learn-in-Clause.result c.in_err-learn-in-Clause.field-0.0 refl c.from_residual-in_err-learn-in-Clause.ensures.1 e))
+
+pub returns-in_err-learn_block-in-Contradiction-clause-budget_left : goal.returns-in_err-learn_block-in-Contradiction-clause-budget_left
+returns-in_err-learn_block-in-Contradiction-clause-budget_left g c e n f h =
+    let idle = c.in_err-learn_block-in-Contradiction.ensures.base (c.in_ok-k.ensures.level ∙ ap last_level (c.loop-k.invariant.fresh f).none) in
+    absurd (idle.asked (passed_on c.from_residual-in_err-learn_block-in-Contradiction.result c.in_err-learn_block-in-Contradiction.field-0.0 refl c.from_residual-in_err-learn_block-in-Contradiction.ensures.1 e))
+
+pub returns-in_err-branch_on-in-Some-clause-budget_left : goal.returns-in_err-branch_on-in-Some-clause-budget_left
+returns-in_err-branch_on-in-Some-clause-budget_left g c e n f h =
+    absurd (c.in-Some.ensures.1 (c.propagate.ensures.all_true (c.in_ok-k.was ∙ ap Ok c.in-Nothing.is) (c.loop-k.invariant.fresh f) c.in-Some.k c.in-Some.ensures.0))
+
+pub returns-in-None-clause-open_clauses : goal.returns-in-None-clause-open_clauses
+returns-in-None-clause-open_clauses g c e = record { clauses_true = c.in-None.ensures; rows = c.propagate.ensures.rows (c.in_ok-k.was ∙ ap Ok c.in-Nothing.is) }

@@ -1,8 +1,9 @@
-use Rattle.std.proofs.Common.{◌≡◌, ℕ, ◌-◌, List}
-use Rattle.ae_core.specs.declared.formulas.Formula.{Formula}
+use Rattle.std.proofs.Common.{◌≡◌, ℕ, ◌-◌}
 use Rattle.ae_core.specs.declared.problems.Problem.{Problem}
 use Rattle.ae_journal.specs.Journals.{counted_in}
-use Rattle.ae_sat.specs.Search.{IsAlive, IsStated, IsLawfulState, HasParts, AllAmong, NotesLegally, Keeps}
+use Rattle.ae_sat.specs.Apart.{IsFresh}
+use Rattle.ae_sat.specs.Inner.Steps.{Enlarges}
+use Rattle.ae_sat.specs.Search.{IsAlive, IsStated, IsLawfulState, NotesLegally, Keeps}
 use Rattle.ae_sat.proofs.solver.Solver.run.Given as goal
 use Rattle.ae_journal.specs.Standing.{Setting}
 use Rattle.ae_theory.specs.Names.{IsNamedBy}
@@ -14,7 +15,11 @@ invariant-loop-k g l = record {
   legal : (setting : Setting) (bound : ℕ) → IsNamedBy setting l.store l.fn.journal.lines → IsStated setting.problem setting.goal l.fn.lines.items l.fn.self.propagation.clauses l.fn.self.places
       → IsLawfulState setting l.fn.self.propagation.trail l.fn.self.propagation.clauses l.fn.self.expanded l.fn.lines.items l.fn.journal.lines
       → NotesLegally setting bound l.fn.journal.lines l.journal.lines × IsLawfulState setting l.self.propagation.trail l.self.propagation.clauses l.self.expanded l.lines.items l.journal.lines;
-  formulas : (fs : List Formula) → HasParts fs → AllAmong fs l.fn.self.propagation.clauses → AllAmong fs l.self.propagation.clauses;
+  enlarges : Enlarges l.store l.fn.self.propagation.clauses l.fn.lines.items l.self.propagation.clauses l.lines.items;
+  -- from a fresh start the search ends in its first turn
+  fresh : IsFresh l.fn.self.propagation.trail l.fn.self.propagation.clauses → IsFresh l.self.propagation.trail l.self.propagation.clauses;
+  budget : IsFresh l.fn.self.propagation.trail l.fn.self.propagation.clauses → (n : ℕ) → g.T.Theory.may_note l.fn.self.theory l.store n
+      → g.T.Theory.may_note l.self.theory l.store n × (counted_in l.journal.lines ≡ counted_in l.fn.journal.lines);
   journal : Keeps l.fn.journal l.journal;
 }
 

@@ -51,3 +51,9 @@ returns-clause-number g c wide e setting lines named state =
     atoms_stand (MayStand setting j.lines) 0 s.propagation.trail (trail_may_stand setting s.propagation.trail s.propagation.clauses j.lines c.requires.alive.running.lawful c.requires.alive.running.decided state.possible) l
     (subst (λ (w : List Tagged). Contains (literals w) l) all h) in
     c.saturate.ensures.number wide e setting named may
+
+pub returns-clause-budget : goal.returns-clause-budget
+returns-clause-budget g c = c.saturate.ensures.budget
+
+pub returns-clause-budget_left : goal.returns-clause-budget_left
+returns-clause-budget_left g c = c.saturate.ensures.budget_steps

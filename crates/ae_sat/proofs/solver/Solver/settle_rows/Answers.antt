@@ -67,7 +67,7 @@ loop-k-smaller g c =
     c.settle_trail.ensures.expanded) in
     let w = (r.alive c.requires.alive.0 c.requires.alive.1 c.requires.alive.2).running in
     let short : length a.propagation.trail ≤ length (all_formulas s.propagation.clauses) =
-    trail_within a.propagation.trail a.propagation.clauses w.lawful w.stands (all_formulas s.propagation.clauses) (r.formulas (all_formulas s.propagation.clauses) (all_parts s.propagation.clauses) (all_among s.propagation.clauses)) in
+    trail_within a.propagation.trail a.propagation.clauses w.lawful w.stands (all_formulas s.propagation.clauses) ((r.enlarges c.requires.alive.0).formulas (all_formulas s.propagation.clauses) (all_parts s.propagation.clauses) (all_among s.propagation.clauses)) in
     let left : a.expanded < length a.propagation.trail = search rules in
     omega (arith, short, left, c.in_ok-expand_one.ensures.next, c.settle_trail.ensures.expanded)
 

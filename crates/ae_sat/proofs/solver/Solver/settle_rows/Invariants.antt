@@ -1,5 +1,5 @@
 use Rattle.std.proofs.Common.{◌-◌, length}
-use Rattle.ae_sat.specs.Search.{Continues}
+use Rattle.ae_sat.specs.Inner.Steps.{Continues}
 use Rattle.ae_sat.proofs.Closure.{all_formulas}
 use Rattle.ae_sat.proofs.solver.Solver.settle_rows.Given as goal
 

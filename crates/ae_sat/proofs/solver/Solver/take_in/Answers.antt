@@ -4,8 +4,9 @@ use Rattle.ae_core.specs.declared.proofs.ClauseLine.TheVariants.{Rup}
 use Rattle.ae_journal.specs.Noted.{Noted}
 use Rattle.ae_journal.specs.declared.lines.Line.TheVariants as line
 use Rattle.ae_explain.specs.Fronts.{IsFront}
-use Rattle.ae_sat.specs.Search.{IsStated, AllNamed, AllAmong}
-use Rattle.ae_sat.proofs.Closure.{false_among}
+use Rattle.ae_sat.specs.Search.{IsStated, AllNamed}
+use Rattle.ae_sat.proofs.Enlarging.{enlarges_same, enlarges_to, false_enlarges}
+use Rattle.ae_sat.proofs.Idling.{idle_true}
 use Rattle.ae_sat.proofs.LearnSteps.{HasTop, has_top, keeps_learn, progresses_learn, stated_more, learn_notes, learn_leaves, lines_either}
 use Rattle.ae_sat.specs.Standing.{HasRows}
 use Rattle.ae_sat.proofs.Propagating.{rows_clause, rows_front, prefix_state}
@@ -171,9 +172,59 @@ returns-clause-legal g c setting bound sig old state2 =
           c.requires.alive.running.stands a.propagation.trail a.propagation.clauses a.expanded c.note.new.journal.lines c.go_back.new.journal.lines front small eu (ap (λ (x : Noted). x.lines) mid) (ap (λ (x : Noted). x.lines) c.in_ok-go_back.ensures.noted),
     )
 
-pub returns-clause-formulas : goal.returns-clause-formulas
-returns-clause-formulas g c fs parts among =
+pub returns-then-is_empty-clause-enlarges : goal.returns-then-is_empty-clause-enlarges
+returns-then-is_empty-clause-enlarges g c = enlarges_same c.args.store.now c.args.self.now.propagation.clauses c.args.lines.now.items
+
+pub returns-clause-enlarges : goal.returns-clause-enlarges
+returns-clause-enlarges g c =
+    let u = c.args.self.now.propagation.clauses in
+    let r = c.args.learnt in
+    let run = c.requires.alive.running in
+    let store = c.args.store.now in
+    let ks = c.args.lines.now.items in
+    let eu : c.attach.new.self.propagation.clauses ≡ u ++ r.clause ∷ [] = c.in_ok-attach.ensures.clauses ∙ ap (λ (v : List Clause). v ++ r.clause ∷ []) c.in_ok-go_back.ensures.clauses in
+    enlarges_to store u (u ++ r.clause ∷ []) c.attach.new.self.propagation.clauses ks ks ks
+    (false_enlarges c.args.self.now.propagation.trail u run.lawful run.stands store r.clause c.requires.learnt.1.false_ones ks) eu refl
+
+pub returns-then-is_empty-clause-base : goal.returns-then-is_empty-clause-base
+returns-then-is_empty-clause-base g c z = idle_true c.args.journal.now
+
+pub returns-in_err-noted-clause-base : goal.returns-in_err-noted-clause-base
+returns-in_err-noted-clause-base g c z =
     let s = c.args.self.now in
     let r = c.args.learnt in
-    let eu : c.attach.new.self.propagation.clauses ≡ s.propagation.clauses ++ r.clause ∷ [] = c.in_ok-attach.ensures.clauses ∙ ap (λ (v : List Clause). v ++ r.clause ∷ []) c.in_ok-go_back.ensures.clauses in
-    subst (AllAmong fs) (sym eu) (false_among s.propagation.trail s.propagation.clauses c.requires.alive.running.lawful c.requires.alive.running.stands r.clause c.requires.learnt.1.false_ones fs among)
+    let some : r.clause ≢ [] = λ e. true≢false (sym (c.if-is_empty.ensures.1 e)) in
+    let l = c.requires.learnt.1 in
+    absurd (omega (arith, z, (has_top s.propagation.trail s.propagation.clauses r.clause c.requires.learnt.0 r.level c.requires.alive.running.lawful l.false_ones l.empty l.one l.highest some l.level).below))
+
+pub returns-in_err-note-clause-base : goal.returns-in_err-note-clause-base
+returns-in_err-note-clause-base g c z =
+    let s = c.args.self.now in
+    let r = c.args.learnt in
+    let some : r.clause ≢ [] = λ e. true≢false (sym (c.if-is_empty.ensures.1 e)) in
+    let l = c.requires.learnt.1 in
+    absurd (omega (arith, z, (has_top s.propagation.trail s.propagation.clauses r.clause c.requires.learnt.0 r.level c.requires.alive.running.lawful l.false_ones l.empty l.one l.highest some l.level).below))
+
+pub returns-in_err-go_back-clause-base : goal.returns-in_err-go_back-clause-base
+returns-in_err-go_back-clause-base g c z =
+    let s = c.args.self.now in
+    let r = c.args.learnt in
+    let some : r.clause ≢ [] = λ e. true≢false (sym (c.if-is_empty.ensures.1 e)) in
+    let l = c.requires.learnt.1 in
+    absurd (omega (arith, z, (has_top s.propagation.trail s.propagation.clauses r.clause c.requires.learnt.0 r.level c.requires.alive.running.lawful l.false_ones l.empty l.one l.highest some l.level).below))
+
+pub returns-in_err-attach-clause-base : goal.returns-in_err-attach-clause-base
+returns-in_err-attach-clause-base g c z =
+    let s = c.args.self.now in
+    let r = c.args.learnt in
+    let some : r.clause ≢ [] = λ e. true≢false (sym (c.if-is_empty.ensures.1 e)) in
+    let l = c.requires.learnt.1 in
+    absurd (omega (arith, z, (has_top s.propagation.trail s.propagation.clauses r.clause c.requires.learnt.0 r.level c.requires.alive.running.lawful l.false_ones l.empty l.one l.highest some l.level).below))
+
+pub returns-clause-base : goal.returns-clause-base
+returns-clause-base g c z =
+    let s = c.args.self.now in
+    let r = c.args.learnt in
+    let some : r.clause ≢ [] = λ e. true≢false (sym (c.if-is_empty.ensures.1 e)) in
+    let l = c.requires.learnt.1 in
+    absurd (omega (arith, z, (has_top s.propagation.trail s.propagation.clauses r.clause c.requires.learnt.0 r.level c.requires.alive.running.lawful l.false_ones l.empty l.one l.highest some l.level).below))

@@ -4,7 +4,7 @@ use Rattle.ae_sat.proofs.Propagating.{told_alive, alive_named}
 use Rattle.ae_sat.proofs.solver.Solver.tell_all.Goals as goal
 
 pub loop-self-init : goal.loop-self-init
-loop-self-init g c = record { alive = λ js a. a; trail = refl; clauses = refl; places = refl; expanded = refl }
+loop-self-init g c = record { alive = λ js a. a; budget = λ n h. h; trail = refl; clauses = refl; places = refl; expanded = refl }
 
 pub tell_one-requires-clause-fits : goal.tell_one-requires-clause-fits
 tell_one-requires-clause-fits g c = (c.loop-self.invariant.alive c.requires.alive.0 c.requires.alive.1).fits_store
@@ -30,6 +30,7 @@ loop-self-preserved g c =
           let b = i.alive js h in
           told_alive g.T.Equalities.fits g.T.Theory.assumed g.T.Theory.fits_mark g.T.Theory.in_step c.args.store.now l.theory a.theory l.marks.items a.marks.items l.propagation.trail a.propagation.trail l.propagation.clauses a.propagation.clauses l.handed a.handed l.expanded
           a.expanded js b (e.running (live js) b.running) e.fits e.trail e.clauses (omega (arith, c.loop-self-test.true, c.len.ensures, e.told)) e.expanded;
+      budget = λ n h. e.budget n (i.budget n h);
       trail = e.trail ∙ i.trail;
       clauses = e.clauses ∙ i.clauses;
       places = e.places ∙ i.places;
@@ -50,3 +51,9 @@ returns-in_err-tell_one-clause-expanded g c = c.in_err-tell_one.ensures.expanded
 
 pub returns-clause-told : goal.returns-clause-told
 returns-clause-told g c = omega (arith, c.len.ensures, c.loop-self-test.false, (c.loop-self.invariant.alive c.requires.alive.0 c.requires.alive.1).told_within)
+
+pub returns-in_err-tell_one-clause-budget : goal.returns-in_err-tell_one-clause-budget
+returns-in_err-tell_one-clause-budget g c n h = c.in_err-tell_one.ensures.budget n (c.loop-self.invariant.budget n h)
+
+pub returns-clause-budget : goal.returns-clause-budget
+returns-clause-budget g c n h = c.loop-self.invariant.budget n h

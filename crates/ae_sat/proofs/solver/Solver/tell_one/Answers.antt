@@ -33,3 +33,12 @@ returns-in_err-assume-clause-running g c standing r =
     let s = c.args.self.now in
     told_runs g.T.Theory.assumed g.T.Theory.fits_mark g.T.Theory.in_step s.theory c.assume.new.self s.marks.items s.propagation.trail s.propagation.clauses s.handed s.handed standing r
     (c.in_err-assume.ensures.err ∙ r.told_all) c.in_err-assume.ensures.marks c.in_err-assume.ensures.step
+
+pub returns-clause-budget : goal.returns-clause-budget
+returns-clause-budget g c n h = c.in_ok-assume.ensures.budget n h
+
+pub returns-then-not-is_an_atom-clause-budget : goal.returns-then-not-is_an_atom-clause-budget
+returns-then-not-is_an_atom-clause-budget g c n h = h
+
+pub returns-in_err-assume-clause-budget : goal.returns-in_err-assume-clause-budget
+returns-in_err-assume-clause-budget g c n h = c.in_err-assume.ensures.budget n h
