@@ -29,6 +29,7 @@ use Rattle.ae_reach.proofs.Blocks.{goal_cases, one_block}
 use Rattle.ae_evaluation.proofs.Literals.{all_not_simple}
 use Rattle.ae_open_states.specs.Finished.{IsGroundOrGoal, ground, the_goal, AreOverGround}
 use Rattle.ae_sat.specs.Search.{IsStated, HasParts, AllAmong}
+use Rattle.ae_sat.proofs.Closure.{HasAllParts, parts_said}
 use Rattle.ae_sat.specs.Standing.{IsOneOf}
 use Rattle.ae_first_clauses.specs.First.{IsFirstLine, AreFirst, a_hypothesis, the_goal as goal_line, the_block}
 use Rattle.ae_first_clauses.proofs.States.{line_of}
@@ -38,7 +39,7 @@ module _ (P : Formula → Type 0) (passes : (f h : Formula) → P f → Contains
   record Parts (f : Formula) : Type 0 where
     pub formulas : List Formula
     pub own : Contains formulas f
-    pub parts : HasParts formulas
+    pub parts : HasAllParts formulas
     pub all : AllByRecursion P formulas
 
   none : (f : Formula) → parts_of f ≡ [] → P f → Parts f
@@ -49,7 +50,7 @@ module _ (P : Formula → Type 0) (passes : (f h : Formula) → P f → Contains
     all = (h, tt);
   }
 
-  joined : (xs ys : List Formula) → HasParts xs → HasParts ys → HasParts (xs ++ ys)
+  joined : (xs ys : List Formula) → HasAllParts xs → HasAllParts ys → HasAllParts (xs ++ ys)
   joined xs ys x y h a k i = elim (Contains-append_cases xs ys h k) as (λ _. Contains (xs ++ ys) a) [
     | inl l ↦ Contains-append_left xs ys a (x h a l i)
     | inr r ↦ Contains-append_right xs ys a (y h a r i)
@@ -107,10 +108,10 @@ module _ (P : Formula → Type 0) (passes : (f h : Formula) → P f → Contains
       (λ q c. tt)
 
   -- of all literals of a clause, and of all clauses
-  record Covers (has : Lit → Type 0) : Type 0 where
+  pub record Covers (has : Lit → Type 0) : Type 0 where
     pub formulas : List Formula
     pub own : (l : Lit) → has l → Contains formulas l.formula
-    pub parts : HasParts formulas
+    pub parts : HasAllParts formulas
     pub all : AllByRecursion P formulas
 
   clause_covered : (c : Clause) → ((l : Lit) → Contains c l → P l.formula) → Covers (Contains c)
@@ -129,10 +130,10 @@ module _ (P : Formula → Type 0) (passes : (f h : Formula) → P f → Contains
       }
 
   -- a literal of one of the clauses
-  abbrev InSome : List Clause → Lit → Type 0
+  abbrev pub InSome : List Clause → Lit → Type 0
   InSome cs l = (k : ℕ) × (k < length cs) × Contains (clause cs k) l
 
-  all_covered : (cs : List Clause) → ((l : Lit) → InSome cs l → P l.formula) → Covers (InSome cs)
+  pub all_covered : (cs : List Clause) → ((l : Lit) → InSome cs l → P l.formula) → Covers (InSome cs)
   all_covered [] h = record { formulas = []; own = λ l k. absurd (let i = k.1 in omega (arith, i)); parts = λ x a k i. absurd (let j = k.1 in omega (arith, j)); all = tt }
   all_covered (c ∷ cs) h =
       let a = clause_covered c (λ l k. h l (0, omega arith, k)) in
@@ -153,7 +154,7 @@ module _ (P : Formula → Type 0) (passes : (f h : Formula) → P f → Contains
       → (c : Clause) (l : Lit) → IsOneOf clauses c → Contains c l → P l.formula
   keeps_to first clauses h among c l o k =
       let w = all_covered first (λ m i. h (clause first i.0) m (i.0, i.1, refl) i.2) in
-      let a = among w.formulas w.parts (λ d m i j. w.own m (i.0, i.1, subst (λ (x : Clause). Contains x m) (sym i.2) j)) in
+      let a = among w.formulas (parts_said w.formulas w.parts) (λ d m i j. w.own m (i.0, i.1, subst (λ (x : Clause). Contains x m) (sym i.2) j)) in
       all_contained P w.formulas l.formula w.all (a c l o k)
 
 module _ (p : Problem) (g : ℕ) (reach : IsInReach p g) where

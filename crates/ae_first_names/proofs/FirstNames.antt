@@ -80,7 +80,7 @@ module _ (p : Problem) (g : ℕ) where
       ]
 
   module _ (lines : List ClauseLine) (clauses : List Clause) (begun : AreFirst p g lines clauses) where
-    first_terms : IsInReach p g → (u : Term) → Contains (all_terms clauses) u → Fine p.signature u
+    pub first_terms : IsInReach p g → (u : Term) → Contains (all_terms clauses) u → Fine p.signature u
     first_terms reach u h =
         let a = out_of clause_terms clauses u h in
         let b = out_of (λ (l : Lit). outside l.formula) a.0 u a.2 in
@@ -102,7 +102,7 @@ module _ (p : Problem) (g : ℕ) where
     entered_of names t (field s ss u w so e c) = of_field [] s ss u t (entered_of names u w) so e c
 
     module _ (old new : Stored) (same : old.signature ≡ p.signature) (empty : terms_in old ≡ []) (n : HasNamed old new (all_terms clauses)) where
-      stands : (t : Term) → Contains (terms_in new) t → StandsIn p.signature (all_terms clauses) t
+      pub stands : (t : Term) → Contains (terms_in new) t → StandsIn p.signature (all_terms clauses) t
       stands t h = elim (n.only t h) as (λ _. StandsIn p.signature (all_terms clauses) t) [
         | inl o ↦ not_in_none t (subst (λ (zs : List Term). Contains zs t) empty o)
         | inr w ↦ subst (λ (sig : Signature). StandsIn sig (all_terms clauses) t) same w

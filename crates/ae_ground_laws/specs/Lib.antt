@@ -1,0 +1,2 @@
+-- Names whose terms are of the ground fragment.
+pub mod Terms

@@ -1,0 +1,4 @@
+pub mod Occurring
+pub mod Formulas
+pub mod Derived
+pub mod Conjunctive
