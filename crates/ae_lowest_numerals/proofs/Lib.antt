@@ -1,0 +1,10 @@
+mod LowestTrees
+mod LowestTokens
+mod LowestTerms
+mod LowestFormulas
+mod LowestParts
+mod LowestDeclarations
+mod LowestFiles
+mod Values
+mod LowestElaborations
+mod LowestProblems

@@ -1,0 +1,2 @@
+-- Numerals in lowest terms: those of terms and of formulas.
+pub mod Lowest
