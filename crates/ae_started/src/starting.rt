@@ -28,6 +28,7 @@ where
     ensures places { IfOk result (λ s. AreOwn (length clauses.now) s.places) }
     ensures trail { IfOk result (λ s. s.propagation.trail ≡ []) }
     ensures expanded { IfOk result (λ s. s.expanded ≡ 0) }
+    ensures theory { IfOk result (λ s. s.theory ≡ theory) }
 {
     let mut solver = Solver::new(alloc, theory);
     for number in 0..clauses.len() {

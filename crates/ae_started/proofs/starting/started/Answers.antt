@@ -14,6 +14,7 @@ loop-number-init g c = record {
   places = subst (AreOwn 0) (sym c.new-solver.ensures.places) none_own;
   trail = c.new-solver.ensures.trail;
   expanded = c.new-solver.ensures.expanded;
+  theory = c.new-solver.ensures.theory;
 }
 
 pub loop-number-preserved : goal.loop-number-preserved
@@ -32,4 +33,5 @@ loop-number-preserved g c =
       places = one_more n c.loop-number.solver.places c.add.new.self.places i.places e.places;
       trail = e.trail ∙ i.trail;
       expanded = e.expanded ∙ i.expanded;
+      theory = e.theory ∙ i.theory;
     }

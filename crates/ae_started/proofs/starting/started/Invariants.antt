@@ -14,4 +14,5 @@ invariant-loop-number g l = record {
   places : AreOwn l.number l.solver.places;
   trail : l.solver.propagation.trail ≡ [];
   expanded : l.solver.expanded ≡ 0;
+  theory : l.solver.theory ≡ l.fn.theory;
 }

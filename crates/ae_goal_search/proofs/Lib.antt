@@ -1,0 +1,5 @@
+pub mod Sorted
+pub mod Begun
+pub mod Left
+pub mod Settling
+pub mod Passing

@@ -1,0 +1,4 @@
+mod Counted
+mod Finishing
+mod Right
+mod Ended

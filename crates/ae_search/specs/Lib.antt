@@ -1,0 +1,2 @@
+-- What the answer to a goal is worth.
+pub mod Promises

@@ -1,0 +1,7 @@
+//! The answer to a goal.
+#![tactic(auto)]
+
+mod ending;
+mod proving;
+
+pub use proving::prove;
