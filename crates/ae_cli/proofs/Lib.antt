@@ -1,3 +1,4 @@
 pub mod Clap
 pub mod RightWords
 pub mod SomeWords
+pub mod Ways

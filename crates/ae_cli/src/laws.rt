@@ -1,5 +1,5 @@
 //! Laws of the words. These functions do nothing: each one's contract is a theorem.
-ghost use Rattle.std.specs.Prelude.{◌≡◌, List};
+ghost use Rattle.std.specs.Prelude.{◌≡◌, ◌<◌, List};
 ghost use Rattle.ae_cli.specs.Examples.{SomeWords};
 ghost use Rattle.ae_cli.specs.Program.{AreRefused, States};
 ghost use Rattle.ae_cli.specs.Words.{AreRight, Text};
@@ -23,4 +23,9 @@ pub fn refused_words_state_nothing()
 /// Right words state one thing.
 pub fn one_answer()
     ensures { (words : List Text) (o p : Options) → AreRight words o → AreRight words p → o ≡ p }
+{}
+
+/// Words state one of the three ways of picking.
+pub fn ways_are_three()
+    ensures { (words : List Text) (o : Options) → States words o → o.which < 3 }
 {}

@@ -1,15 +1,7 @@
 //! Options: what the words of the command line may state.
+use ae_search_options::limits::Limits;
 use std::alloc::AllocError;
 use thiserror::Error;
-
-/// Bounds on the work for one goal.
-#[derive(Clone, Copy, Debug, PartialEq, Eq)]
-pub struct Limits {
-    /// How many lines of a journal may be counted, from 1 to 1,000,000.
-    pub steps: usize,
-    /// Terms below this generation are matched; from 0 to 20.
-    pub generations: u32,
-}
 
 /// What the program is to do.
 #[derive(Clone, Copy, Debug, PartialEq, Eq)]

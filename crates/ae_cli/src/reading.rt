@@ -3,7 +3,8 @@ ghost use Rattle.std.specs.Prelude.{◌≡◌, ℕ, codes, Some};
 ghost use Rattle.clap.specs.Words.{first_value, found_of, one_of, rows_of};
 ghost use Rattle.ae_cli.specs.Program as spec;
 
-use crate::options::{Limits, Mode, Options};
+use crate::options::{Mode, Options};
+use ae_search_options::limits::Limits;
 use clap::ArgMatches;
 
 /// The number of the bound on steps.

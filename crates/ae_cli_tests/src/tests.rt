@@ -1,6 +1,7 @@
 //! Words as a user writes them.
-use ae_cli::options::{CliFail, Limits, Mode, Options};
+use ae_cli::options::{CliFail, Mode, Options};
 use ae_cli::words::options;
+use ae_search_options::limits::Limits;
 use std::alloc::{AllocError, Global};
 use std::test::Fail;
 

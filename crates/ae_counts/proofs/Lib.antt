@@ -1,0 +1,5 @@
+mod TreeRules
+mod ValueRules
+mod LineCounts
+mod Merged
+mod Within

@@ -1,0 +1,2 @@
+-- Stepping stones of the proof, in the code's own terms.
+pub mod Counted

@@ -1,0 +1,3 @@
+-- Stepping stones of the proof, in the code's own terms.
+pub mod Items
+pub mod Shown

@@ -1,0 +1,11 @@
+//! The part of an output for each item of a problem.
+#![tactic(auto)]
+
+mod found;
+mod items;
+pub mod laws;
+mod reach;
+mod valid;
+
+pub use items::item_part;
+pub use reach::goals_in_reach;

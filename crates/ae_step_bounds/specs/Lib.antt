@@ -1,0 +1,1 @@
+-- None of its own: the law is about the words of ae_cli.

@@ -1,0 +1,4 @@
+//! The bound on steps that words state.
+#![tactic(auto)]
+
+pub mod laws;
