@@ -1,19 +1,19 @@
 -- Parts of goals in order, and what a run that proves has written when it ends.
-use Rattle.std.specs.Prelude.{ℕ, suc, ◌+◌, ◌<◌, ◌≤◌, ◌⊎◌, List, [], ◌∷◌, ◌++◌, ◌≡◌, length, take, ◌≢◌, Option, Some, None, IfSome}
-use Rattle.std.proofs.Common.{refl, sym, ap, ◌∙◌, subst, arith, inl, inr, ⊎_elim, append-nil, length-append}
+use Rattle.std.specs.Prelude.{ℕ, zero, suc, ◌+◌, ◌<◌, ◌≤◌, ◌⊎◌, List, [], ◌∷◌, ◌++◌, ◌≡◌, length, take, ◌≢◌, Option, Some, None, IfSome}
+use Rattle.std.proofs.Common.{refl, sym, ap, ◌∙◌, subst, arith, inl, inr, ⊎_elim, append-nil, append_assoc, length-append}
 use Rattle.ae_base.specs.Options.{or_else}
 use Rattle.ae_base.proofs.Options.{never_some}
-use Rattle.ae_chains.specs.Parts.{IsPart, AreParts}
-use Rattle.ae_chains.proofs.Answered.{parts_more}
 use Rattle.ae_core.specs.declared.problems.Problem.{Problem}
+use Rattle.ae_goal_parts.specs.Parts.{IsPart, IsReadable, of_axiom, of_goal}
 use Rattle.ae_io.specs.Moves.{Written, Lost, Untold, Told, Gets, GetsPrefix, Rose}
 use Rattle.ae_io.proofs.Moves.{gets_then}
+use Rattle.ae_search_options.specs.declared.limits.Limits.{Limits}
 use Rattle.ae_driver.specs.declared.program.TheConstants.{INPUT_LIMIT}
 use Rattle.ae_driver.specs.declared.program.Status.{Status}
 use Rattle.ae_driver.specs.declared.program.Status.TheVariants as status
 use Rattle.ae_driver.specs.declared.reasons.Reason.{Reason}
-use Rattle.ae_driver.specs.Inner.Endings.{PartEnds, AreReadBack, HasParts, GoalsEnd, RefusalEnds, TextEnds}
-use Rattle.ae_driver.specs.Output.{IsBegun, IsDone, IsRefused, IsRefusedText, IsOutOfMemory, IsCutOff, IsOffered, IsRead, IsTooLong, Reads, writes_parts, writes_refusal}
+use Rattle.ae_driver.specs.Inner.Endings.{PartEnds, IsPrinted, ArePrinted, HasParts, GoalsEnd, RefusalEnds, TextEnds}
+use Rattle.ae_driver.specs.Output.{AreParts, IsBegun, IsDone, IsRefused, IsRefusedText, IsOutOfMemory, IsCutOff, IsOffered, IsRead, IsTooLong, Reads, writes_parts, writes_refusal}
 use Rattle.ae_driver.specs.Passing.{IsDoneAndPasses}
 use Rattle.ae_driver.proofs.OneProblem.{not_refused}
 
@@ -31,55 +31,72 @@ gets_nothing Lost = tt
 gets_nothing Untold = tt
 gets_nothing (Told xs) = sym (append-nil xs)
 
-module _ (p : Problem) where
-  pub nothing_yet : (a : Written) → HasParts p 0 a a
-  nothing_yet a = record { bytes = []; parts = refl; read_back = refl; written = gets_nothing a }
+-- ---- parts in order
+module _ (p : Problem) (limits : Limits) where
+  -- one part more
+  parts_more : (k n : ℕ) (bytes part : List ℕ) → AreParts p limits k n bytes → IsPart p (k + n) limits part → AreParts p limits k (suc n) (bytes ++ part)
+  parts_more k zero bytes part a h =
+      (part, [], ap (λ z. z ++ part) a ∙ sym (append-nil part), subst (λ j. IsPart p j limits part) (let e : k + 0 ≡ k = omega arith in e) h, refl)
+  parts_more k (suc n) bytes part (first, rest, cut, is, more) h = (
+    first,
+    rest ++ part,
+    ap (λ z. z ++ part) cut ∙ append_assoc first rest part,
+    is,
+    parts_more (suc k) n rest part more (subst (λ j. IsPart p j limits part) (let e : k + suc n ≡ suc k + n = omega arith in e) h),
+  )
 
-  with_part : (i : ℕ) (bytes part : List ℕ) → AreParts p 0 i bytes → IsPart p i part → AreParts p 0 (i + 1) (bytes ++ part)
+  printed : (k : ℕ) (part : List ℕ) → IsPart p k limits part → IsReadable p k part → IsPrinted p k part
+  printed k part (of_axiom name vars body e w) h = inl (name, vars, body, e, w)
+  printed k part (of_goal name vars body answer e r w) h = inr (h name vars body e)
+
+  pub nothing_yet : (a : Written) → HasParts p limits 0 a a
+  nothing_yet a = record { bytes = []; parts = refl; printed = refl; written = gets_nothing a }
+
+  with_part : (i : ℕ) (bytes part : List ℕ) → AreParts p limits 0 i bytes → IsPart p i limits part → AreParts p limits 0 (i + 1) (bytes ++ part)
   with_part i bytes part a h =
-      subst (λ m. AreParts p 0 m (bytes ++ part)) (let n : suc i ≡ i + 1 = omega arith in n)
-      (parts_more p 0 i bytes part a (subst (λ m. IsPart p m part) (let z : i ≡ 0 + i = omega arith in z) h))
+      subst (λ m. AreParts p limits 0 m (bytes ++ part)) (let n : suc i ≡ i + 1 = omega arith in n)
+      (parts_more 0 i bytes part a (subst (λ m. IsPart p m limits part) (let z : i ≡ 0 + i = omega arith in z) h))
 
-  pub part_done : (i : ℕ) (a b c : Written) → HasParts p i a b → PartEnds p i b c status.Done → HasParts p (i + 1) a c
+  pub part_done : (i : ℕ) (a b c : Written) → HasParts p limits i a b → PartEnds p limits i b c status.Done → HasParts p limits (i + 1) a c
   part_done i a b c h (part, is_part, back, got) = record {
     bytes = h.bytes ++ part;
     parts = with_part i h.bytes part h.parts is_part;
-    read_back = subst (λ m. AreReadBack p m (h.bytes ++ part)) (let n : suc i ≡ i + 1 = omega arith in n) (h.bytes, part, refl, h.read_back, back);
+    printed = subst (λ m. ArePrinted p m (h.bytes ++ part)) (let n : suc i ≡ i + 1 = omega arith in n) (h.bytes, part, refl, h.printed, printed i part is_part back);
     written = gets_then a b c h.bytes part h.written got;
   }
 
-  part_cut : (i : ℕ) (a b c : Written) → i < length p.items → HasParts p i a b → PartEnds p i b c status.WriteFault → GoalsEnd p a c status.WriteFault
+  part_cut : (i : ℕ) (a b c : Written) → i < length p.items → HasParts p limits i a b → PartEnds p limits i b c status.WriteFault → GoalsEnd p limits a c status.WriteFault
   part_cut i a b c lt h (part, is_part, got) =
       (i + 1, omega (arith, lt), record { bytes = h.bytes ++ part; parts = with_part i h.bytes part h.parts is_part; written = prefix_then a b c h.bytes part h.written got })
 
-  -- a goal that isn't done ends the answers
-  pub part_ends : (i : ℕ) (a b c : Written) (s : Status) → i < length p.items → HasParts p i a b → PartEnds p i b c s → (s ≡ status.Memory → c ≡ b) → s ≢ status.Done → GoalsEnd p a c s
+  -- an item that isn't done ends the answers
+  pub part_ends : (i : ℕ) (a b c : Written) (s : Status) → i < length p.items → HasParts p limits i a b → PartEnds p limits i b c s → (s ≡ status.Memory → c ≡ b) → s ≢ status.Done → GoalsEnd p limits a c s
   part_ends i a b c status.Done lt h e m n = absurd (n refl)
   part_ends i a b c status.WriteFault lt h e m n = part_cut i a b c lt h e
-  part_ends i a b c status.Memory lt h e m n = (i, omega (arith, lt), subst (λ w. HasParts p i a w) (sym (m refl)) h)
+  part_ends i a b c status.Memory lt h e m n = (i, omega (arith, lt), subst (λ w. HasParts p limits i a w) (sym (m refl)) h)
   part_ends i a b c status.Refused lt h e m n = absurd e
   part_ends i a b c status.ReadFault lt h e m n = absurd e
   part_ends i a b c status.Usage lt h e m n = absurd e
 
 -- what a text's end says of a run
-pub done_is : (left : Option (List ℕ)) (text : List ℕ) (a c : Written) → IsRead left text → TextEnds text a c status.Done → IsDone left a c
-done_is left text a c r (bytes, legal, pass, got) = record { text = text; read = r; bytes = bytes; answers = legal; written = got }
+pub done_is : (limits : Limits) (left : Option (List ℕ)) (text : List ℕ) (a c : Written) → IsRead left text → TextEnds limits text a c status.Done → IsDone limits left a c
+done_is limits left text a c r (bytes, legal, pass, got) = record { text = text; read = r; bytes = bytes; answers = legal; written = got }
 
-pub passes_is : (left : Option (List ℕ)) (text : List ℕ) (a c : Written) → IsRead left text → TextEnds text a c status.Done → IsDoneAndPasses left a c
-passes_is left text a c r (bytes, legal, pass, got) = record { text = text; read = r; bytes = bytes; passes = pass; written = got }
+pub passes_is : (limits : Limits) (left : Option (List ℕ)) (text : List ℕ) (a c : Written) → IsRead left text → TextEnds limits text a c status.Done → IsDoneAndPasses left a c
+passes_is limits left text a c r (bytes, legal, pass, got) = record { text = text; read = r; bytes = bytes; passes = pass; written = got }
 
-pub refused_is : (left : Option (List ℕ)) (text : List ℕ) (a c : Written) → IsRead left text → TextEnds text a c status.Refused → IsRefusedText left a c
-refused_is left text a c r (why, refused, (line, is_line, got)) = record { text = text; read = r; why = why; refused = refused; line = line; is_line = is_line; written = got }
+pub refused_is : (limits : Limits) (left : Option (List ℕ)) (text : List ℕ) (a c : Written) → IsRead left text → TextEnds limits text a c status.Refused → IsRefusedText left a c
+refused_is limits left text a c r (why, refused, (line, is_line, got)) = record { text = text; read = r; why = why; refused = refused; line = line; is_line = is_line; written = got }
 
-pub memory_is : (left : Option (List ℕ)) (text : List ℕ) (a c : Written) → IsRead left text → TextEnds text a c status.Memory → IsOutOfMemory left a c
-memory_is left text a c r (bytes, begun, got) = record { bytes = bytes; begun = ⊎_elim (λ e. inl e) (λ b. inr (text, r, b)) begun; written = got }
+pub memory_is : (limits : Limits) (left : Option (List ℕ)) (text : List ℕ) (a c : Written) → IsRead left text → TextEnds limits text a c status.Memory → IsOutOfMemory limits left a c
+memory_is limits left text a c r (bytes, begun, got) = record { bytes = bytes; begun = ⊎_elim (λ e. inl e) (λ b. inr (text, r, b)) begun; written = got }
 
-pub cut_off_is : (left : Option (List ℕ)) (text : List ℕ) (a c : Written) → IsRead left text → TextEnds text a c status.WriteFault → IsCutOff left a c
-cut_off_is left text a c r (bytes, may, got) =
+pub cut_off_is : (limits : Limits) (left : Option (List ℕ)) (text : List ℕ) (a c : Written) → IsRead left text → TextEnds limits text a c status.WriteFault → IsCutOff limits left a c
+cut_off_is limits left text a c r (bytes, may, got) =
     record { bytes = bytes; may = ⊎_elim (λ b. writes_parts text r b) (λ n. writes_refusal text n.0 r n.1 n.2) may; written = got }
 
-pub no_memory_yet : (left : Option (List ℕ)) (a : Written) → IsOutOfMemory left a a
-no_memory_yet left a = record { bytes = []; begun = inl refl; written = gets_nothing a }
+pub no_memory_yet : (limits : Limits) (left : Option (List ℕ)) (a : Written) → IsOutOfMemory limits left a a
+no_memory_yet limits left a = record { bytes = []; begun = inl refl; written = gets_nothing a }
 
 pub is_read : (left : Option (List ℕ)) (text : List ℕ) → IfSome left (λ xs. text ≡ xs) → length text ≤ INPUT_LIMIT → IsRead left text
 is_read None text told le = record { told = tt; within = le }
@@ -99,26 +116,26 @@ told_is None text told e h = absurd (never_some _ e)
 told_is (Some xs) text told e h = h ∙ ap (λ o. or_else o xs) e
 
 -- how a refusal ends a text's answer
-pub refusal_ends : (text : List ℕ) (why : Reason) (a c : Written) (s : Status) → IsRefused text why → RefusalEnds text why a c s → TextEnds text a c s
-refusal_ends text why a c status.Refused r e = (why, r, e)
-refusal_ends text why a c status.WriteFault r e = (e.0, inr (why, r, e.1), e.2)
-refusal_ends text why a c status.Memory r e = ([], inl refl, e)
-refusal_ends text why a c status.Done r e = absurd e
-refusal_ends text why a c status.ReadFault r e = absurd e
-refusal_ends text why a c status.Usage r e = absurd e
+pub refusal_ends : (limits : Limits) (text : List ℕ) (why : Reason) (a c : Written) (s : Status) → IsRefused text why → RefusalEnds text why a c s → TextEnds limits text a c s
+refusal_ends limits text why a c status.Refused r e = (why, r, e)
+refusal_ends limits text why a c status.WriteFault r e = (e.0, inr (why, r, e.1), e.2)
+refusal_ends limits text why a c status.Memory r e = ([], inl refl, e)
+refusal_ends limits text why a c status.Done r e = absurd e
+refusal_ends limits text why a c status.ReadFault r e = absurd e
+refusal_ends limits text why a c status.Usage r e = absurd e
 
-pub nothing_written : (text : List ℕ) (a : Written) → TextEnds text a a status.Memory
-nothing_written text a = ([], inl refl, gets_nothing a)
+pub nothing_written : (limits : Limits) (text : List ℕ) (a : Written) → TextEnds limits text a a status.Memory
+nothing_written limits text a = ([], inl refl, gets_nothing a)
 
 -- a text whose problem is answered is answered where no write fails
-pub complete_is : (left : Option (List ℕ)) (text : List ℕ) (a c : Written) (s : Status) (R : Type 0) → IsOffered left → IfSome left (λ xs. text ≡ xs) → TextEnds text a c s → (s ≡ status.WriteFault → R) → ¬ R
+pub complete_is : (limits : Limits) (left : Option (List ℕ)) (text : List ℕ) (a c : Written) (s : Status) (R : Type 0) → IsOffered left → IfSome left (λ xs. text ≡ xs) → TextEnds limits text a c s → (s ≡ status.WriteFault → R) → ¬ R
     → (s ≡ status.Done) ⊎ (s ≡ status.Memory)
-complete_is left text a c status.Done R o h e f n = inl refl
-complete_is left text a c status.Memory R o h e f n = inr refl
-complete_is left text a c status.WriteFault R o h e f n = absurd (n (f refl))
-complete_is left text a c status.Refused R o h (why, refused, rest) f n = absurd (not_refused text o.problem why (subst (λ t. Reads t o.problem) (sym (told_is left text o.text o.told h)) o.reads) refused)
-complete_is left text a c status.ReadFault R o h e f n = absurd e
-complete_is left text a c status.Usage R o h e f n = absurd e
+complete_is limits left text a c status.Done R o h e f n = inl refl
+complete_is limits left text a c status.Memory R o h e f n = inr refl
+complete_is limits left text a c status.WriteFault R o h e f n = absurd (n (f refl))
+complete_is limits left text a c status.Refused R o h (why, refused, rest) f n = absurd (not_refused text o.problem why (subst (λ t. Reads t o.problem) (sym (told_is left text o.text o.told h)) o.reads) refused)
+complete_is limits left text a c status.ReadFault R o h e f n = absurd e
+complete_is limits left text a c status.Usage R o h e f n = absurd e
 
 -- no text within the limit is too long
 pub not_too_long : (left : Option (List ℕ)) → IsOffered left → IfSome left (λ xs. INPUT_LIMIT < length xs) → ⊥

@@ -51,6 +51,9 @@ use Rattle.ae_driver.proofs.OneProblem.{one_problem, has_problem}
 pub asks_apart : (words : List Text) → Ask Prove words → Ask Check words → ⊥
 asks_apart words a b = let e : Prove ≡ Check = sym a.is ∙ ap (λ (x : Options). x.mode) (one_stated words a.options b.options a.stated b.stated) ∙ b.is in cc
 
+pub asked_proofs : (words : List Text) (o : Options) → States words o × (o.mode ≡ Prove) → Ask Prove words
+asked_proofs words o h = record { options = o; stated = h.0; is = h.1 }
+
 pub asks_neither : (words : List Text) (o : Options) (n : ℕ) → States words o → o.mode ≡ Demo n → AskForNeither words
 asks_neither words o n s is = record {
   no_proofs = λ a. (let e : Prove ≡ Demo n = sym a.is ∙ ap (λ (x : Options). x.mode) (one_stated words a.options o a.stated s) ∙ is in cc);

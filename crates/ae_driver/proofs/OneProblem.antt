@@ -3,8 +3,7 @@ use Rattle.std.proofs.Common.{◌≡◌, ◌≢◌, ◌≤◌, ℕ, List, length
 use Rattle.std.specs.Prelude.{IfSome}
 use Rattle.std.specs.List.{AllByRecursion}
 use Rattle.std.specs.declared.alloc.AllocError.{AllocError}
-use Rattle.ae_chains.specs.Reach.{IsInReach}
-use Rattle.ae_core.specs.Signatures.{IsLawful}
+use Rattle.ae_core.specs.Signatures.{IsLawfulProblem}
 use Rattle.ae_core.specs.declared.problems.Problem.{Problem}
 use Rattle.ae_elab.specs.Names.{IsName, names_in_file}
 use Rattle.ae_elab.specs.Problems.{IsTyped, IsTypeFault}
@@ -15,11 +14,12 @@ use Rattle.ae_elab.proofs.FaultLaws.{one_answer}
 use Rattle.ae_elab.proofs.FileNames.{file_named}
 use Rattle.ae_elab.proofs.ProblemLaws as typing
 use Rattle.ae_fault_lines.specs.Lines.{fault_place}
+use Rattle.ae_goal_parts.specs.Reach.{AreInReach}
+use Rattle.ae_lawful_problems.proofs.LawfulProblems.{problem_lawful}
 use Rattle.ae_lex.proofs.Unique.{one_list, never_both as never_both_in_lexis}
 use Rattle.ae_syntax.proofs.FileLaws.{one_tree, never_both}
 use Rattle.ae_syntax.specs.Files.{IsParsed}
 use Rattle.ae_syntax.specs.declared.decls.File.{File}
-use Rattle.ae_typed_laws.proofs.DeclaredSignatures.{lawful_signature}
 use Rattle.ae_typed_laws.proofs.FilePlaces.{places_stand}
 use Rattle.ae_driver.specs.declared.reasons.Reason.{Reason}
 use Rattle.ae_driver.specs.declared.reasons.Reason.TheVariants.{Untyped}
@@ -41,14 +41,14 @@ has_problem text p why h (by_typing file e f r) = one_answer text file p e (subs
 
 pub not_refused : (text : List ℕ) (p : Problem) (why : Reason) → Reads text p → IsRefused text why → ⊥
 not_refused text p why r (by_text w none) = has_problem text p w r.states none
-not_refused text p why r (by_form q h out) = out (subst (λ z. IsInReach z) (one_problem text p q r.states h) r.reach)
+not_refused text p why r (by_form q h out) = out (subst (λ z. AreInReach z) (one_problem text p q r.states h) r.reach)
 
 -- ---- what holds of a text that was read
 pub names_stand : (text : List ℕ) (file : File) → IsFileOf text file → AllByRecursion (IsName text) (names_in_file file)
 names_stand text file f = file_named text f.tokens file f.tokenized f.parsed
 
-pub lawful : (text : List ℕ) (p : Problem) → IsProblemOf text p → IsLawful p.signature
-lawful text p h = lawful_signature text h.is_file.tokens h.file p h.is_file.tokenized h.is_file.parsed h.typed
+pub lawful : (text : List ℕ) (p : Problem) → IsProblemOf text p → IsLawfulProblem p
+lawful text p h = problem_lawful text h.is_file.tokens h.file p h.is_file.tokenized h.is_file.parsed h.typed
 
 pub fault_stands : (text : List ℕ) (file : File) (e : TypeFault) → IsFileOf text file → IsTypeFault text file e → IfSome (fault_place e) (λ at. at ≤ length text)
 fault_stands text file e f h = places_stand text f.tokens file e f.tokenized f.parsed h

@@ -5,15 +5,12 @@ use Rattle.std.proofs.lemmas.List.{drop_all}
 use Rattle.std.proofs.lemmas.Option.{same_Some}
 use Rattle.ae_base.proofs.Options.{never_some}
 use Rattle.ae_choices.specs.Whole.{ReadsWhole}
-use Rattle.ae_chains.specs.Inner.Chains.{AreChains}
-use Rattle.ae_chains.specs.Parts.{AreParts}
-use Rattle.ae_chains.specs.declared.chains.Chains.{Chains}
-use Rattle.ae_chains.proofs.Existence.{goes_on}
-use Rattle.ae_chains.proofs.Reached.{in_reach}
 use Rattle.ae_core.specs.declared.problems.Item.{Item}
-use Rattle.ae_core.specs.declared.problems.Item.TheVariants.{Goal}
+use Rattle.ae_core.specs.declared.formulas.Formula.{Formula}
+use Rattle.ae_core.specs.declared.problems.Item.TheVariants.{Axiom, Goal}
 use Rattle.ae_core.specs.declared.problems.Problem.{Problem}
 use Rattle.ae_core.specs.declared.problems.Signature.{Signature}
+use Rattle.ae_goal_parts.specs.Reach.{AreInReach}
 use Rattle.ae_io.specs.Moves.{Written}
 use Rattle.ae_parts.specs.Codes.{parts_code}
 use Rattle.ae_parts.specs.Parts.{PartsStand, part_text, parts_text}
@@ -21,6 +18,7 @@ use Rattle.ae_parts.specs.declared.parts.Part.{Part}
 use Rattle.ae_parts.proofs.PartLaws.{parts_fit, parts_spelled}
 use Rattle.ae_printed.specs.ReadBack.{IsReadBack, IsRight}
 use Rattle.ae_printed.proofs.ReadingBack.{right_passes}
+use Rattle.ae_search_options.specs.declared.limits.Limits.{Limits}
 use Rattle.ae_separator.specs.Separators.{HasNoSeparator}
 use Rattle.ae_whole_lines.specs.WholeLines.{IsInLines}
 use Rattle.ae_whole_lines.proofs.Parting.{parted}
@@ -29,12 +27,11 @@ use Rattle.ae_driver.specs.declared.goals.GoalPlace.{GoalPlace}
 use Rattle.ae_driver.specs.declared.program.Status.{Status}
 use Rattle.ae_driver.specs.declared.program.Status.TheVariants as status
 use Rattle.ae_driver.specs.Checking.{AreVerdicts, IsChecked, IsInput, ReadsParts, goals_from, goals_of, names_of}
-use Rattle.ae_driver.specs.Inner.Endings.{AreReadBack, GoalsEnd, TextEnds}
-use Rattle.ae_driver.specs.Output.{IsBegun, Reads}
+use Rattle.ae_driver.specs.Inner.Endings.{IsPrinted, ArePrinted, GoalsEnd, TextEnds}
+use Rattle.ae_driver.specs.Output.{AreParts, IsBegun, Reads}
 use Rattle.ae_driver.specs.Passing.{ArePassed, IsPassedInput, PassFor}
 use Rattle.ae_driver.specs.Problems.{IsProblemOf}
 use Rattle.ae_driver.proofs.Checked.{one_input}
-use Rattle.ae_driver.proofs.OneProblem.{lawful}
 
 -- ---- parts that are read back, one after another
 -- each part is right
@@ -56,8 +53,8 @@ dropped (y ∷ items) zero x e = ap (λ z. z ∷ items) (same_Some y x e)
 dropped (y ∷ items) (suc n) x e = dropped items n x e
 
 module _ (p : Problem) where
-  one_more : (n : ℕ) (part rest : List ℕ) → IsReadBack p n part → Collected p (suc n) (drop (suc n) p.items) rest → Collected p n (drop n p.items) (part ++ rest)
-  one_more n part rest h c =
+  goal_more : (n : ℕ) (part rest : List ℕ) → IsReadBack p n part → Collected p (suc n) (drop (suc n) p.items) rest → Collected p n (drop n p.items) (part ++ rest)
+  goal_more n part rest h c =
       let same = dropped p.items n (Goal h.name h.vars h.body) h.is_goal in
       subst (λ items. Collected p n items (part ++ rest)) (sym same)
       (record {
@@ -67,7 +64,17 @@ module _ (p : Problem) where
         right = (h.right, c.right);
       })
 
-  collect : (n : ℕ) (bytes rest : List ℕ) → AreReadBack p n bytes → Collected p n (drop n p.items) rest → Collected p 0 p.items (bytes ++ rest)
+  -- an axiom has no part
+  axiom_more : (n : ℕ) (name : List ℕ) (vars : ℕ) (body : Formula) (rest : List ℕ) → slice_get p.items n ≡ Some (Axiom name vars body) → Collected p (suc n) (drop (suc n) p.items) rest → Collected p n (drop n p.items) rest
+  axiom_more n name vars body rest e c =
+      subst (λ items. Collected p n items rest) (sym (dropped p.items n (Axiom name vars body) e))
+      (record { parts = c.parts; stand = c.stand; written = c.written; right = c.right })
+
+  one_more : (n : ℕ) (part rest : List ℕ) → IsPrinted p n part → Collected p (suc n) (drop (suc n) p.items) rest → Collected p n (drop n p.items) (part ++ rest)
+  one_more n part rest (inl (name, vars, body, e, w)) c = subst (λ z. Collected p n (drop n p.items) (z ++ rest)) (sym w) (axiom_more n name vars body rest e c)
+  one_more n part rest (inr h) c = goal_more n part rest h c
+
+  collect : (n : ℕ) (bytes rest : List ℕ) → ArePrinted p n bytes → Collected p n (drop n p.items) rest → Collected p 0 p.items (bytes ++ rest)
   collect zero bytes rest e c = subst (λ z. Collected p 0 p.items (z ++ rest)) (sym e) c
   collect (suc n) bytes rest (front, part, cut, before, one) c =
       subst (λ z. Collected p 0 p.items z) (sym (ap (λ z. z ++ rest) cut ∙ append_assoc front part rest)) (collect n front (part ++ rest) before (one_more n part rest one c))
@@ -77,7 +84,7 @@ module _ (p : Problem) where
       subst (λ items. Collected p (length p.items) items []) (sym (drop_all (length p.items) p.items (omega arith)))
       (record { parts = []; stand = tt; written = refl; right = tt })
 
-  collected : (bytes : List ℕ) → AreReadBack p (length p.items) bytes → Collected p 0 p.items bytes
+  collected : (bytes : List ℕ) → ArePrinted p (length p.items) bytes → Collected p 0 p.items bytes
   collected bytes h = subst (λ z. Collected p 0 p.items z) (append-nil bytes) (collect (length p.items) bytes [] h none_left)
 
   -- ---- what the check writes of them
@@ -114,24 +121,22 @@ lines_state text lines p l h =
       typed = lines_problem text lines f.tokens h.file p l f.tokenized f.parsed h.typed;
     }
 
-pass_for : (text : List ℕ) (p : Problem) → IsProblemOf text p → (bytes : List ℕ) → AreReadBack p (length p.items) bytes → PassFor text bytes
+pass_for : (text : List ℕ) (p : Problem) → IsProblemOf text p → (bytes : List ℕ) → ArePrinted p (length p.items) bytes → PassFor text bytes
 pass_for text p h bytes back = λ none lines l.
     let c = collected p bytes back in
     passed_input p (lines ++ (codes "%%\n" ++ bytes)) c.parts c.right
     (record { before = lines; after = bytes; parted = parted text lines bytes l none; states = lines_state text lines p l h; read = parts_read p bytes c })
 
 -- ---- the goals of a text
-module _ (text : List ℕ) (p : Problem) (cs : Chains) (of_text : IsProblemOf text p) (are : AreChains p cs) where
+module _ (limits : Limits) (text : List ℕ) (p : Problem) (of_text : IsProblemOf text p) (reach : AreInReach p) where
   reads : Reads text p
-  reads = record { states = of_text; reach = in_reach p cs are }
+  reads = record { states = of_text; reach = reach }
 
-  begun : (k : ℕ) (bytes : List ℕ) → k ≤ length p.items → AreParts p 0 k bytes → IsBegun text bytes
-  begun k bytes le parts =
-      let r = goes_on p cs (lawful text p of_text) are k bytes le parts in
-      record { problem = p; reads = reads; count = k; at_most = le; parts = parts; rest = r.0; legal = record { problem = p; reads = reads; parts = r.1 } }
+  begun : (k : ℕ) (bytes : List ℕ) → k ≤ length p.items → AreParts p limits 0 k bytes → IsBegun limits text bytes
+  begun k bytes le parts = record { problem = p; reads = reads; count = k; at_most = le; parts = parts }
 
-  pub text_ends : (a c : Written) (s : Status) → GoalsEnd p a c s → TextEnds text a c s
-  text_ends a c status.Done e = (e.bytes, record { problem = p; reads = reads; parts = e.parts }, pass_for text p of_text e.bytes e.read_back, e.written)
+  pub text_ends : (a c : Written) (s : Status) → GoalsEnd p limits a c s → TextEnds limits text a c s
+  text_ends a c status.Done e = (e.bytes, record { problem = p; reads = reads; parts = e.parts }, pass_for text p of_text e.bytes e.printed, e.written)
   text_ends a c status.WriteFault (k, le, h) = (h.bytes, inl (begun k h.bytes le h.parts), h.written)
   text_ends a c status.Memory (k, le, h) = (h.bytes, inr (begun k h.bytes le h.parts), h.written)
   text_ends a c status.Refused e = absurd e

@@ -1,41 +1,45 @@
 -- The answer to a text: what is written, and why it is right.
-use Rattle.std.specs.Prelude.{◌≡◌, ◌⊎◌, ℕ, ◌<◌, ◌≤◌, List, [], ◌++◌, length, Option, Some, None, codes}
-use Rattle.ae_chains.specs.Parts.{AreParts}
-use Rattle.ae_chains.specs.Reach.{IsInReach}
+use Rattle.std.specs.Prelude.{◌≡◌, ◌⊎◌, ℕ, zero, suc, ◌<◌, ◌≤◌, List, [], ◌++◌, length, Option, Some, None, codes}
 use Rattle.ae_core.specs.declared.problems.Problem.{Problem}
+use Rattle.ae_goal_parts.specs.Parts.{IsPart}
+use Rattle.ae_goal_parts.specs.Reach.{AreInReach}
 use Rattle.ae_io.specs.Moves.{Written, Gets, GetsPrefix}
 use Rattle.ae_report.specs.Lines.{IsRefusalLine}
 use Rattle.ae_report.specs.declared.refusal.Refusal.TheVariants as refusal
+use Rattle.ae_search_options.specs.declared.limits.Limits.{Limits}
 use Rattle.ae_driver.specs.declared.program.TheConstants.{INPUT_LIMIT}
 use Rattle.ae_driver.specs.declared.reasons.Reason.{Reason}
 use Rattle.ae_driver.specs.declared.reasons.Reason.TheVariants.{Plain}
 use Rattle.ae_driver.specs.Problems.{HasNoProblem, IsProblemOf, IsReasonLine}
 
--- the text has this problem, and it is one that is answered so far: it has no axiom, and each goal is a chain
+-- the text has this problem, and each of its goals is one that is answered so far
 pub record Reads (text : List ℕ) (p : Problem) : Type 0 where
   pub states : IsProblemOf text p
-  pub reach : IsInReach p
+  pub reach : AreInReach p
 
 -- why a text is refused: it has no problem, or one that isn't answered yet
 pub data IsRefused (text : List ℕ) : Reason → Type 0 where
   by_text : (why : Reason) → HasNoProblem text why → IsRefused text why
-  by_form : (p : Problem) → IsProblemOf text p → ¬ (IsInReach p) → IsRefused text (Plain refusal.NoForm)
+  by_form : (p : Problem) → IsProblemOf text p → ¬ (AreInReach p) → IsRefused text (Plain refusal.NoForm)
 
--- a legal output for a text: one part for each goal of its problem, in order
-pub record IsLegalOutput (text bytes : List ℕ) : Type 0 where
+-- one part for each of n items of a problem, from place k on, in order; an axiom's is empty
+abbrev pub AreParts : Problem → Limits → ℕ → ℕ → List ℕ → Type 0
+AreParts p limits k zero bytes = bytes ≡ []
+AreParts p limits k (suc n) bytes = (part : List ℕ) × (rest : List ℕ) × (bytes ≡ part ++ rest) × IsPart p k limits part × AreParts p limits (suc k) n rest
+
+-- a legal output for a text, with the limits of the search: one part for each goal of its problem, in order
+pub record IsLegalOutput (limits : Limits) (text bytes : List ℕ) : Type 0 where
   pub problem : Problem
   pub reads : Reads text problem
-  pub parts : AreParts problem 0 (length problem.items) bytes
+  pub parts : AreParts problem limits 0 (length problem.items) bytes
 
--- the parts of the first goals of a text, of all of them or of fewer: with some rest they are a legal output
-pub record IsBegun (text bytes : List ℕ) : Type 0 where
+-- the parts of the first goals of a text, of all of them or of fewer
+pub record IsBegun (limits : Limits) (text bytes : List ℕ) : Type 0 where
   pub problem : Problem
   pub reads : Reads text problem
   pub count : ℕ
   pub at_most : count ≤ length problem.items
-  pub parts : AreParts problem 0 count bytes
-  pub rest : List ℕ
-  pub legal : IsLegalOutput text (bytes ++ rest)
+  pub parts : AreParts problem limits 0 count bytes
 
 -- the source told this text, or told nothing
 abbrev pub Tells : Option (List ℕ) → List ℕ → Type 0
@@ -57,11 +61,11 @@ abbrev pub usage_line : List ℕ
 usage_line = codes "usage: altac [--steps-bound N] [--gen-bound G] [--pick first|last|mixed] [--check | --demo N]\n"
 
 -- done: the text is answered, and the sink got the answer behind what it held
-pub record IsDone (left : Option (List ℕ)) (old new : Written) : Type 0 where
+pub record IsDone (limits : Limits) (left : Option (List ℕ)) (old new : Written) : Type 0 where
   pub text : List ℕ
   pub read : IsRead left text
   pub bytes : List ℕ
-  pub answers : IsLegalOutput text bytes
+  pub answers : IsLegalOutput limits text bytes
   pub written : Gets old new bytes
 
 -- a text is refused: the sink got the line that says why, and where
@@ -82,21 +86,21 @@ pub record IsRefusedByLength (left : Option (List ℕ)) (old new : Written) : Ty
   pub written : Gets old new line
 
 -- no memory: the sink got nothing, or the parts of the first goals of the text
-pub record IsOutOfMemory (left : Option (List ℕ)) (old new : Written) : Type 0 where
+pub record IsOutOfMemory (limits : Limits) (left : Option (List ℕ)) (old new : Written) : Type 0 where
   pub bytes : List ℕ
-  pub begun : (bytes ≡ []) ⊎ ((text : List ℕ) × IsRead left text × IsBegun text bytes)
+  pub begun : (bytes ≡ []) ⊎ ((text : List ℕ) × IsRead left text × IsBegun limits text bytes)
   pub written : Gets old new bytes
 
 -- what a run that proves may be writing
-pub data MayWrite (left : Option (List ℕ)) (bytes : List ℕ) : Type 0 where
-  writes_parts : (text : List ℕ) → IsRead left text → IsBegun text bytes → MayWrite left bytes
-  writes_refusal : (text : List ℕ) (why : Reason) → IsRead left text → IsRefused text why → IsReasonLine text why bytes → MayWrite left bytes
-  writes_too_long : IsTooLong left → IsRefusalLine [] refusal.TooLong bytes → MayWrite left bytes
+pub data MayWrite (limits : Limits) (left : Option (List ℕ)) (bytes : List ℕ) : Type 0 where
+  writes_parts : (text : List ℕ) → IsRead left text → IsBegun limits text bytes → MayWrite limits left bytes
+  writes_refusal : (text : List ℕ) (why : Reason) → IsRead left text → IsRefused text why → IsReasonLine text why bytes → MayWrite limits left bytes
+  writes_too_long : IsTooLong left → IsRefusalLine [] refusal.TooLong bytes → MayWrite limits left bytes
 
 -- a write failed: the sink got a part from the front of what was being written, and not all of it
-pub record IsCutOff (left : Option (List ℕ)) (old new : Written) : Type 0 where
+pub record IsCutOff (limits : Limits) (left : Option (List ℕ)) (old new : Written) : Type 0 where
   pub bytes : List ℕ
-  pub may : MayWrite left bytes
+  pub may : MayWrite limits left bytes
   pub written : GetsPrefix old new bytes
 
 -- the source tells a text within the limit on bytes whose problem is answered

@@ -3,27 +3,30 @@
 ghost use Rattle.std.specs.Prelude.{◌≡◌, ◌≢◌, ◌⊎◌, ◌≤◌, ◌<◌, length, map, string_bytes, IfOk};
 ghost use Rattle.std.specs.Io.KnownBytes.{IsAtEnd};
 ghost use Rattle.ae_io.specs.Moves.{Rose, Gets, GetsPrefix};
-ghost use Rattle.ae_chains.specs.Inner.Chains.{AreChains};
-ghost use Rattle.ae_core.specs.Signatures.{IsLawful};
+ghost use Rattle.ae_core.specs.Signatures.{IsLawfulProblem};
+ghost use Rattle.ae_goal_parts.specs.Reach.{AreInReach};
+ghost use Rattle.ae_search_options.specs.declared.limits.Limits.{Limits};
+ghost use Rattle.ae_writable.specs.Numbers.{HasLowestNumerals};
 ghost use Rattle.ae_driver.specs.Output.{IsDone, IsOffered, IsRefusedText, IsRefusedByLength, IsOutOfMemory, IsCutOff, usage_line};
 ghost use Rattle.ae_driver.specs.Passing.{IsDoneAndPasses};
 ghost use Rattle.ae_driver.specs.Problems.{IsProblemOf};
 ghost use Rattle.ae_driver.specs.Checking.{IsDoneChecking, IsOfferedChecking, IsRefusedChecking, IsOutOfMemoryChecking, IsCutOffChecking};
 ghost use Rattle.ae_driver.specs.Words.{AskToProve, AskToCheck, AskForNeither};
-ghost use Rattle.ae_driver.specs.Inner.Endings.{IsAsked, PartEnds, GoalsEnd, PlacesStand, RefusalEnds, TextEnds};
+ghost use Rattle.ae_driver.specs.Inner.Endings.{IsAsked, IsNotRead, PartEnds, GoalsEnd, PlacesStand, RefusalEnds, TextEnds};
 ghost use Rattle.ae_driver.specs.declared.program.Status.TheVariants.{Done, Refused, ReadFault, WriteFault, Memory, Usage};
 
 use crate::checking::check_input;
 use crate::reasons::{Reason, reason_text};
 use crate::texts::{NotRead, read_problem};
-use ae_chains::chains::Chains;
-use ae_chains::{chains_of, goal_part};
-use ae_cli::options::{CliFail, Mode};
+use ae_cli::options::{CliFail, Mode, Options};
 use ae_cli::words::options;
 use ae_core::problems::Problem;
 use ae_elaborate::release_problem;
+use ae_goal_parts::{goals_in_reach, item_part};
 use ae_io::{ReadEnd, Sink, Source, read_all, write_all};
+use ae_lowest_numerals::typed_problems_have_lowest_numerals;
 use ae_report::Refusal;
+use ae_search_options::picks::Picks;
 use std::alloc::{AllocError, Global};
 
 /// The most bytes that one text may have: 16 MiB.
@@ -50,10 +53,13 @@ pub enum Status {
 ///
 /// Where the words ask for proofs:
 ///
-/// - `Done` comes only where the source was read to its end, its text has at most `INPUT_LIMIT` bytes and a problem that is
-///   answered so far (no axiom, and each goal a chain of equations between constants), and one part was written for each goal:
-///   `Valid` with the text of a proof that derives the goal in that problem, with its axioms, or `I don't know` with the text of
-///   a saturated state in which the goal is false; then no proof derives it. What was written passes the check: behind the text,
+/// - `Done` comes only where the source was read to its end, its text has at most `INPUT_LIMIT` bytes and a problem each of whose
+///   goals is answered so far (it, and the axioms before it, have no quantifier but a goal that is one `forall` block, no inequality,
+///   no type variables of an axiom, and no term of `int`, `bool`, `unit` or an enumeration), and one part was written for each goal:
+///   `Valid` with the text of a proof that derives the goal in that problem, with its axioms; `I don't know` with the text of a
+///   saturated state; `Limit steps N` with a legal journal of N counted lines, where N is the words' bound; or `Limit number` with a
+///   step that leaves the limits of numbers, which a legal journal licenses. Of a goal of the ground fragment the proof is a ground
+///   proof, and a saturated state says that none exists. What was written passes the check: behind the text,
 ///   with a line break where it doesn't end with one, and a line of exactly `%%`, it is an output for the same problem, and each
 ///   goal's line is `accepted` or `number` where its part is a proof, and `unchecked` where it isn't. No line of the text may
 ///   itself be `%%`; and where all of it has more than `INPUT_LIMIT` bytes, it is too long to be checked in one run.
@@ -80,10 +86,11 @@ pub enum Status {
 pub fn run<S: Source, K: Sink>(
     alloc: Global,
     words: &[String],
+    picks: &Picks,
     source: &mut S,
     sink: &mut K,
 ) -> Status
-    ensures done { AskToProve (map string_bytes words.now) → result ≡ Done → IsDone (S.left source.old) (K.written sink.old) (K.written sink.new) }
+    ensures done { (ask : AskToProve (map string_bytes words.now)) → result ≡ Done → IsDone ask.options.limits (S.left source.old) (K.written sink.old) (K.written sink.new) }
     ensures passes { AskToProve (map string_bytes words.now) → result ≡ Done → IsDoneAndPasses (S.left source.old) (K.written sink.old) (K.written sink.new) }
     ensures done_checking { AskToCheck (map string_bytes words.now) → result ≡ Done → IsDoneChecking (S.left source.old) (K.written sink.old) (K.written sink.new) }
     ensures end { result ≡ Done → IsAtEnd (S.left source.new) }
@@ -98,15 +105,15 @@ pub fn run<S: Source, K: Sink>(
     ensures read_fault { result ≡ ReadFault → Rose (S.faults source.old) (S.faults source.new) }
     ensures nothing { result ≡ ReadFault → sink.new ≡ sink.old }
     ensures write_fault { result ≡ WriteFault → Rose (K.faults sink.old) (K.faults sink.new) }
-    ensures cut_off { AskToProve (map string_bytes words.now) → result ≡ WriteFault → IsCutOff (S.left source.old) (K.written sink.old) (K.written sink.new) }
+    ensures cut_off { (ask : AskToProve (map string_bytes words.now)) → result ≡ WriteFault → IsCutOff ask.options.limits (S.left source.old) (K.written sink.old) (K.written sink.new) }
     ensures cut_off_checking { AskToCheck (map string_bytes words.now) → result ≡ WriteFault → IsCutOffChecking (S.left source.old) (K.written sink.old) (K.written sink.new) }
     ensures usage_cut_off { AskForNeither (map string_bytes words.now) → result ≡ WriteFault → GetsPrefix (K.written sink.old) (K.written sink.new) usage_line }
-    ensures memory { AskToProve (map string_bytes words.now) → result ≡ Memory → IsOutOfMemory (S.left source.old) (K.written sink.old) (K.written sink.new) }
+    ensures memory { (ask : AskToProve (map string_bytes words.now)) → result ≡ Memory → IsOutOfMemory ask.options.limits (S.left source.old) (K.written sink.old) (K.written sink.new) }
     ensures memory_checking { AskToCheck (map string_bytes words.now) → result ≡ Memory → IsOutOfMemoryChecking (S.left source.old) (K.written sink.old) (K.written sink.new) }
     ensures memory_neither { AskForNeither (map string_bytes words.now) → result ≡ Memory → sink.new ≡ sink.old }
 {
     match task_of(alloc, words) {
-        Ok(Task::Proofs) => prove(alloc, source, sink),
+        Ok(Task::Proofs(asked)) => prove(alloc, picks, asked, source, sink),
         Ok(Task::Check) => check(alloc, source, sink),
         Ok(Task::Neither) => tell(
             sink,
@@ -120,7 +127,8 @@ pub fn run<S: Source, K: Sink>(
 // What words ask for.
 #[derive(Clone, Copy)]
 enum Task {
-    Proofs,
+    // Proofs, with these options.
+    Proofs(Options),
     Check,
     Neither,
 }
@@ -131,7 +139,7 @@ fn task_of(alloc: Global, words: &[String]) -> Result<Task, AllocError>
 {
     match options(alloc, words) {
         Ok(stated) => match stated.mode {
-            Mode::Prove => Ok(Task::Proofs),
+            Mode::Prove => Ok(Task::Proofs(stated)),
             Mode::Check => Ok(Task::Check),
             Mode::Demo(_) => Ok(Task::Neither),
         },
@@ -141,8 +149,17 @@ fn task_of(alloc: Global, words: &[String]) -> Result<Task, AllocError>
 }
 
 // Reads a text, and answers its goals.
-fn prove<S: Source, K: Sink>(alloc: Global, source: &mut S, sink: &mut K) -> Status
-    ensures done { result ≡ Done → IsDone (S.left source.old) (K.written sink.old) (K.written sink.new) }
+fn prove<S: Source, K: Sink>(
+    alloc: Global,
+    picks: &Picks,
+    asked: Options,
+    source: &mut S,
+    sink: &mut K,
+) -> Status
+    requires way { asked.which < 3 }
+    requires least { 1 ≤ asked.limits.steps }
+    requires most { asked.limits.steps ≤ 1000000 }
+    ensures done { result ≡ Done → IsDone asked.limits (S.left source.old) (K.written sink.old) (K.written sink.new) }
     ensures passes { result ≡ Done → IsDoneAndPasses (S.left source.old) (K.written sink.old) (K.written sink.new) }
     ensures end { result ≡ Done → IsAtEnd (S.left source.new) }
     ensures complete { IsOffered (S.left source.old) → ¬ (Rose (S.faults source.old) (S.faults source.new)) → ¬ (Rose (K.faults sink.old) (K.faults sink.new)) → (result ≡ Done) ⊎ (result ≡ Memory) }
@@ -151,11 +168,11 @@ fn prove<S: Source, K: Sink>(alloc: Global, source: &mut S, sink: &mut K) -> Sta
     ensures read_fault { result ≡ ReadFault → Rose (S.faults source.old) (S.faults source.new) }
     ensures nothing { result ≡ ReadFault → sink.new ≡ sink.old }
     ensures write_fault { result ≡ WriteFault → Rose (K.faults sink.old) (K.faults sink.new) }
-    ensures cut_off { result ≡ WriteFault → IsCutOff (S.left source.old) (K.written sink.old) (K.written sink.new) }
-    ensures memory { result ≡ Memory → IsOutOfMemory (S.left source.old) (K.written sink.old) (K.written sink.new) }
+    ensures cut_off { result ≡ WriteFault → IsCutOff asked.limits (S.left source.old) (K.written sink.old) (K.written sink.new) }
+    ensures memory { result ≡ Memory → IsOutOfMemory asked.limits (S.left source.old) (K.written sink.old) (K.written sink.new) }
 {
     match read_all(alloc, source, INPUT_LIMIT) {
-        Ok(text) => answer(alloc, text.as_slice(), sink),
+        Ok(text) => answer(alloc, text.as_slice(), picks, asked, sink),
         Err(ReadEnd::ReadFault) => Status::ReadFault,
         Err(ReadEnd::TooLong) => refuse(alloc, &[], &Reason::Plain(Refusal::TooLong), sink),
         Err(ReadEnd::Memory) => Status::Memory,
@@ -210,43 +227,84 @@ pub(crate) fn refuse<K: Sink>(alloc: Global, text: &[u8], why: &Reason, sink: &m
 }
 
 // Answers a text that was read whole.
-fn answer<K: Sink>(alloc: Global, text: &[u8], sink: &mut K) -> Status
-    ensures ends { TextEnds text.now (K.written sink.old) (K.written sink.new) result }
+fn answer<K: Sink>(
+    alloc: Global,
+    text: &[u8],
+    picks: &Picks,
+    asked: Options,
+    sink: &mut K,
+) -> Status
+    requires way { asked.which < 3 }
+    requires least { 1 ≤ asked.limits.steps }
+    requires most { asked.limits.steps ≤ 1000000 }
+    ensures ends { TextEnds asked.limits text.now (K.written sink.old) (K.written sink.new) result }
     ensures write_fault { result ≡ WriteFault → Rose (K.faults sink.old) (K.faults sink.new) }
 {
     match read_problem(alloc, text) {
         Ok(problem) => {
-            let status = answer_problem(alloc, text, &problem, sink);
+            let status = answer_problem(alloc, text, &problem, picks, asked, sink);
             release_problem(alloc, problem);
             status
         }
-        Err(NotRead::Refused(why)) => refuse(alloc, text, &why, sink),
-        Err(NotRead::Memory) => Status::Memory,
+        Err(none) => answer_unread(alloc, text, &none, sink),
     }
 }
 
-// Answers a text that has this problem.
-fn answer_problem<K: Sink>(alloc: Global, text: &[u8], problem: &Problem, sink: &mut K) -> Status
-    requires { IsProblemOf text.now problem.now }
-    ensures ends { TextEnds text.now (K.written sink.old) (K.written sink.new) result }
+// Answers a text of which no problem was read.
+fn answer_unread<K: Sink>(alloc: Global, text: &[u8], none: &NotRead, sink: &mut K) -> Status
+    requires none { IsNotRead text.now none.now }
+    ensures ends { (limits : Limits) → TextEnds limits text.now (K.written sink.old) (K.written sink.new) result }
     ensures write_fault { result ≡ WriteFault → Rose (K.faults sink.old) (K.faults sink.new) }
 {
-    match chains_of(alloc, problem) {
-        Ok(Some(chains)) => answer_goals(alloc, problem, &chains, sink),
-        Ok(None) => refuse(alloc, text, &Reason::Plain(Refusal::NoForm), sink),
+    match none {
+        NotRead::Refused(why) => refuse(alloc, text, why, sink),
+        NotRead::Memory => Status::Memory,
+    }
+}
+
+// Answers a text that has this problem. Whether its goals are answered so far is settled before the first is answered.
+fn answer_problem<K: Sink>(
+    alloc: Global,
+    text: &[u8],
+    problem: &Problem,
+    picks: &Picks,
+    asked: Options,
+    sink: &mut K,
+) -> Status
+    requires problem { IsProblemOf text.now problem.now }
+    requires way { asked.which < 3 }
+    requires least { 1 ≤ asked.limits.steps }
+    requires most { asked.limits.steps ≤ 1000000 }
+    ensures ends { TextEnds asked.limits text.now (K.written sink.old) (K.written sink.new) result }
+    ensures write_fault { result ≡ WriteFault → Rose (K.faults sink.old) (K.faults sink.new) }
+{
+    typed_problems_have_lowest_numerals();
+    match goals_in_reach(alloc, problem) {
+        Ok(true) => answer_items(alloc, problem, picks, asked, sink),
+        Ok(false) => refuse(alloc, text, &Reason::Plain(Refusal::NoForm), sink),
         Err(_) => Status::Memory,
     }
 }
 
-// Answers the goals of a problem in order, which are these chains.
-fn answer_goals<K: Sink>(alloc: Global, problem: &Problem, chains: &Chains, sink: &mut K) -> Status
-    requires lawful { IsLawful problem.now.signature }
-    requires chains { AreChains problem.now chains.now }
-    ensures ends { GoalsEnd problem.now (K.written sink.old) (K.written sink.new) result }
+// Answers the goals of a problem in order, each of which is in the reach.
+fn answer_items<K: Sink>(
+    alloc: Global,
+    problem: &Problem,
+    picks: &Picks,
+    asked: Options,
+    sink: &mut K,
+) -> Status
+    requires lawful { IsLawfulProblem problem.now }
+    requires lowest { HasLowestNumerals problem.now }
+    requires reach { AreInReach problem.now }
+    requires way { asked.which < 3 }
+    requires least { 1 ≤ asked.limits.steps }
+    requires most { asked.limits.steps ≤ 1000000 }
+    ensures ends { GoalsEnd problem.now asked.limits (K.written sink.old) (K.written sink.new) result }
     ensures write_fault { result ≡ WriteFault → Rose (K.faults sink.old) (K.faults sink.new) }
 {
-    for goal in 0..problem.items.len() {
-        match answer_goal(alloc, problem, chains, goal, sink) {
+    for place in 0..problem.items.len() {
+        match answer_item(alloc, problem, place, picks, asked, sink) {
             Status::Done => {}
             stopped => return stopped,
         }
@@ -254,23 +312,28 @@ fn answer_goals<K: Sink>(alloc: Global, problem: &Problem, chains: &Chains, sink
     Status::Done
 }
 
-// Answers one goal.
-fn answer_goal<K: Sink>(
+// Answers one item: writes nothing for an axiom.
+fn answer_item<K: Sink>(
     alloc: Global,
     problem: &Problem,
-    chains: &Chains,
-    goal: usize,
+    place: usize,
+    picks: &Picks,
+    asked: Options,
     sink: &mut K,
 ) -> Status
-    requires lawful { IsLawful problem.now.signature }
-    requires chains { AreChains problem.now chains.now }
-    requires goal { goal < length problem.now.items }
-    ensures ends { PartEnds problem.now goal (K.written sink.old) (K.written sink.new) result }
+    requires lawful { IsLawfulProblem problem.now }
+    requires lowest { HasLowestNumerals problem.now }
+    requires reach { AreInReach problem.now }
+    requires place { place < length problem.now.items }
+    requires way { asked.which < 3 }
+    requires least { 1 ≤ asked.limits.steps }
+    requires most { asked.limits.steps ≤ 1000000 }
+    ensures ends { PartEnds problem.now asked.limits place (K.written sink.old) (K.written sink.new) result }
     ensures memory { result ≡ Memory → sink.new ≡ sink.old }
     ensures write_fault { result ≡ WriteFault → Rose (K.faults sink.old) (K.faults sink.new) }
     ensures later { K.faults sink.old ≤ K.faults sink.new }
 {
-    match goal_part(alloc, problem, chains, goal) {
+    match item_part(alloc, problem, place, picks, asked.which, &asked.limits) {
         Ok(part) => match write_all(sink, part.as_slice()) {
             Ok(()) => Status::Done,
             Err(_) => Status::WriteFault,

@@ -1,9 +1,10 @@
 //! Runs over a source and a sink in memory.
 
-ghost use Rattle.std.specs.Prelude.{◌≤◌};
+ghost use Rattle.std.specs.Prelude.{◌≤◌, ◌<◌};
 
 use ae_driver::{INPUT_LIMIT, Status, run};
 use ae_io::{MemSink, MemSource};
+use ae_search_options::picks::{Pick, Picks};
 use std::alloc::{AllocError, Global};
 use std::test::Fail;
 
@@ -43,7 +44,25 @@ fn answer_words(
     let mut source = MemSource::new(bytes, reads.piece, failing_calls(alloc, reads)?);
     let room = Vec::with_capacity(alloc, room)?;
     let mut sink = MemSink::new(room, writes.piece, failing_calls(alloc, writes)?);
-    let status = run(alloc, words, &mut source, &mut sink);
+    let last = |n: usize, _turn: usize|
+        requires { 1 ≤ n }
+        ensures { result < n }
+    { n - 1 };
+    let mixed = |n: usize, turn: usize|
+        requires { 1 ≤ n }
+        ensures { result < n }
+    { turn % n };
+    let decide_first = Pick::keep(Box::new(alloc, |_n: usize, _turn: usize| 0)?);
+    let decide_last = Pick::keep(Box::new(alloc, last)?);
+    let decide_mixed = Pick::keep(Box::new(alloc, mixed)?);
+    let rank_first = Pick::keep(Box::new(alloc, |_n: usize, _turn: usize| 0)?);
+    let rank_last = Pick::keep(Box::new(alloc, |_n: usize, _turn: usize| 0)?);
+    let rank_mixed = Pick::keep(Box::new(alloc, |_n: usize, _turn: usize| 0)?);
+    let picks = Picks {
+        decide: [decide_first, decide_last, decide_mixed],
+        rank: [rank_first, rank_last, rank_mixed],
+    };
+    let status = run(alloc, words, &picks, &mut source, &mut sink);
     Ok((status, Vec::from_slice(alloc, sink.kept())?))
 }
 
@@ -63,46 +82,36 @@ fn answer(
 
 const TRANSITIVITY: &[u8] = b"type t\nlogic a, b, c, d, e : t\ngoal g : a = b -> b = c -> a = c\n";
 
-const TRANSITIVITY_PART: &[u8] =
-    b"goal g Valid\nproof 2\naxioms []\ngoal\ndef 4 (@or (@not (= a b)) (@or (@not (= b c)) (= a c)))\ndef 5 (@or (@not (= a b)) (@or (@not (= b c)) (= a c)))\ndef 4 (@or (@not (= b c)) (= a c))\ndef 5 (@or (@not (= b c)) (= a c))\nblock\nh +(= a b)\nh +(= b c)\nh -(= a c)\neq a b hyp 0\neq b c hyp 1\neq a c trans 0 1\nneq 2 2\nrup [] 0 1 2 3 5 4\nend\n";
-
-const ITSELF_PART: &[u8] =
-    b"goal g Valid\nproof 2\naxioms []\ngoal\nblock\nh -(= a a)\neq a a refl\nneq 0 0\nrup [] 1 0\nend\n";
-
-const UNKNOWN_PART: &[u8] =
-    b"goal g I don't know\nstate 1\nlit -(@or (@not (= a b)) (= a c))\nlit +(= a b)\nlit -(= a c)\nname 0 a\nname 1 b\nname 2 c\nvalue 0 0\nvalue 1 0\nvalue 2 2\nend\n";
-
-// Constants of two types beside a record type and an AC symbol: a state names the constants alone.
+// Constants of two types beside a record type and an AC symbol.
 const DECLARED: &[u8] =
     b"type t\ntype u\ntype p = { x : t; y : int }\nlogic ac join : t, t -> t\nlogic z : u\nlogic a, b, c : t\ngoal g : let x = a in x = b -> (x = c)\n";
 
-const DECLARED_PART: &[u8] =
-    b"goal g I don't know\nstate 1\nlit -(@or (@not (= a b)) (= a c))\nlit +(= a b)\nlit -(= a c)\nname 0 z\nname 1 a\nname 2 b\nname 3 c\nvalue 0 0\nvalue 1 1\nvalue 2 1\nvalue 3 3\nend\n";
-
-const UNKNOWN_PARTS: &[u8] =
-    b"goal g1 I don't know\nstate 1\nlit -(= a b)\nname 0 a\nname 1 b\nvalue 0 0\nvalue 1 1\nend\ngoal g2 I don't know\nstate 1\nlit -(= a b)\nname 0 a\nname 1 b\nvalue 0 0\nvalue 1 1\nend\n";
-
-// Texts that are answered, and what is written.
-const ANSWERED: [(&[u8], &[u8]); 10] = [
-    (DECLARED, DECLARED_PART),
+// Texts that are answered, and the lines that tell the answers.
+const ANSWERED: [(&[u8], &[u8]); 12] = [
+    (DECLARED, b"goal g I don't know\n"),
     (b"", b""),
     (b"(* a (* b *) c *)", b""),
-    (b"type t\nlogic a : t\ngoal g : (a = a)", ITSELF_PART),
-    (TRANSITIVITY, TRANSITIVITY_PART),
-    (b"type t\nlogic a : t\ngoal g : a = a", ITSELF_PART),
+    (b"type t\nlogic a : t\ngoal g : (a = a)", b"goal g Valid\n"),
+    (TRANSITIVITY, b"goal g Valid\n"),
+    (b"type t\nlogic a : t\ngoal g : a = a", b"goal g Valid\n"),
     (
         b"type t (* a (* type *) *) logic(**)a : t goal g : a =(* = *)a",
-        ITSELF_PART,
+        b"goal g Valid\n",
     ),
     (
         b"type t\nlogic a, b, c : t\ngoal g : a = b -> a = c\n",
-        UNKNOWN_PART,
+        b"goal g I don't know\n",
     ),
     (
         b"type t\nlogic a, b : t\ngoal g1 : a = b\ngoal g2 : a = b\n",
-        UNKNOWN_PARTS,
+        b"goal g1 I don't know\ngoal g2 I don't know\n",
     ),
     (b"type t\nlogic a, b : t\n", b""),
+    (b"axiom z : true", b""),
+    (
+        b"type t\nlogic a, b : t\naxiom z : a = b\ngoal g1 : b = a\naxiom y : forall x : int. x <= x\n",
+        b"goal g1 Valid\n",
+    ),
 ];
 
 // A text such as a program verifier writes.
@@ -110,7 +119,7 @@ const VERIFIER: &[u8] =
     b"logic match_bool : bool, 'a, 'a -> 'a\naxiom match_bool_True :\n  (forall z:'a. forall z1:'a. (match_bool(true, z, z1) = z))\naxiom match_bool_False :\n  (forall z:'a. forall z1:'a. (match_bool(false, z, z1) = z1))\naxiom CompatOrderMult :\n  (forall x:int. forall y:int. forall z:int. ((x <= y) -> ((0 <= z) ->\n  ((x * z) <= (y * z)))))\ntype 'a ref = { contents : 'a }\nlogic incr : int ref -> int ref\naxiom incr_def :\n  (forall r:int ref [incr(r)]. (incr(r).contents = (r.contents + 1)))\ngoal VC_f :\n  (forall r:int ref. forall y:int. ((r.contents <= y) ->\n  (match_bool(true, incr(r).contents, y) <= (y + 1))))\n";
 
 // Texts that are refused, and the line.
-const REFUSED: [(&[u8], &[u8]); 14] = [
+const REFUSED: [(&[u8], &[u8]); 16] = [
     (b"goal g : a =", b"refused 1:13 unexpected\n"),
     (b"(* a (* b *)", b"refused 1:1 open comment\n"),
     (
@@ -133,10 +142,45 @@ const REFUSED: [(&[u8], &[u8]); 14] = [
     ),
     (VERIFIER, b"refused form\n"),
     (b"logic x : int\ngoal g : x = x", b"refused form\n"),
-    (b"axiom z : true", b"refused form\n"),
+    (b"logic x : real\ngoal g : x < x + 1.0", b"refused form\n"),
+    (
+        b"type c = A | B\nlogic x : c\ngoal g : x = A",
+        b"refused form\n",
+    ),
+    (
+        b"axiom z : forall x : 'a. x = x\ngoal g : true",
+        b"refused form\n",
+    ),
 ];
 
+// The lines of an output that tell answers.
+fn answers_in(alloc: Global, output: &[u8]) -> Result<Vec<u8>, AllocError> {
+    let mut found = Vec::new(alloc);
+    for line in output.split(|byte| *byte == b'\n') {
+        if line.starts_with(b"goal ") {
+            found.extend_from_slice(line)?;
+            found.push(b'\n')?;
+        }
+    }
+    Ok(found)
+}
+
 // The first of these texts that isn't answered so.
+fn first_other_answer(
+    alloc: Global,
+    cases: &[(&[u8], &[u8])],
+) -> Result<Option<usize>, AllocError> {
+    for (i, case) in cases.iter().enumerate() {
+        let (status, written) = answer(alloc, case.0, 4000, WHOLE, WHOLE)?;
+        let answers = answers_in(alloc, written.as_slice())?;
+        if status != Status::Done || answers.as_slice() != case.1 {
+            return Ok(Some(i));
+        }
+    }
+    Ok(None)
+}
+
+// The first of these texts for which a run doesn't end and write so.
 fn first_other(
     alloc: Global,
     cases: &[(&[u8], &[u8])],
@@ -153,10 +197,7 @@ fn first_other(
 
 #[test]
 fn texts_and_their_answers(rt: HostRuntime) -> Result<(), Fail> {
-    assert_eq!(rt;
-        first_other(rt.alloc(), ANSWERED.as_slice(), Status::Done)?,
-        None
-    );
+    assert_eq!(rt; first_other_answer(rt.alloc(), ANSWERED.as_slice())?, None);
     assert_eq!(rt;
         first_other(rt.alloc(), REFUSED.as_slice(), Status::Refused)?,
         None
@@ -219,11 +260,9 @@ fn limit_on_depth(rt: HostRuntime) -> Result<(), Fail> {
         status == Status::Refused && line.as_slice() == b"refused 3:1010 too deep\n".as_slice()
     );
     let (status, part) = bracketed(rt.alloc(), 1000)?;
-    assert!(rt; status == Status::Done && part.as_slice() == ITSELF_PART);
+    assert!(rt; status == Status::Done && part.starts_with(b"goal g Valid\n"));
     let (status, part) = longest_chain(rt.alloc())?;
-    assert!(rt;
-        status == Status::Done && part.starts_with(b"goal g Valid\nproof 2\naxioms []\ngoal\n")
-    );
+    assert!(rt; status == Status::Done && part.starts_with(b"goal g Valid\nproof 2\naxioms []\n"));
     Ok(())
 }
 
@@ -245,21 +284,21 @@ fn cut(
         piece,
         failing: write,
     };
+    let (_, whole) = answer(alloc, TRANSITIVITY, 1000, WHOLE, WHOLE)?;
     let (status, part) = answer(alloc, TRANSITIVITY, 1000, reads, writes)?;
     let count = part.len();
-    Ok((
-        status,
-        TRANSITIVITY_PART
-            .starts_with(part.as_slice())
-            .then_some(count),
-    ))
+    Ok((status, whole.starts_with(part.as_slice()).then_some(count)))
 }
 
 #[test]
 fn pieces_and_faults(rt: HostRuntime) -> Result<(), Fail> {
     let alloc = rt.alloc();
-    let whole = (Status::Done, Some(TRANSITIVITY_PART.len()));
-    assert_eq!(rt; cut(alloc, 7, None, None)?, whole);
+    let (status, whole) = answer(alloc, TRANSITIVITY, 1000, WHOLE, WHOLE)?;
+    assert!(rt; status == Status::Done && whole.starts_with(b"goal g Valid\nproof 2\naxioms []\n"));
+    assert_eq!(rt;
+        cut(alloc, 7, None, None)?,
+        (Status::Done, Some(whole.len()))
+    );
     assert_eq!(rt;
         cut(alloc, 20, Some(2), None)?,
         (Status::ReadFault, Some(0))
@@ -292,7 +331,7 @@ fn words_of_the_command_line(rt: HostRuntime) -> Result<(), Fail> {
     let alloc = rt.alloc();
     let bounded = ["--steps-bound=5", "--pick", "last"];
     let (status, part) = with_words(alloc, bounded.as_slice(), TRANSITIVITY)?;
-    assert!(rt; status == Status::Done && part.as_slice() == TRANSITIVITY_PART);
+    assert!(rt; status == Status::Done && part.starts_with(b"goal g Valid\n"));
     let both = ["--check", "--demo", "8"];
     let (status, line) = with_words(alloc, both.as_slice(), TRANSITIVITY)?;
     assert!(rt; status == Status::Usage && line.as_slice() == USAGE);

@@ -4,6 +4,7 @@
 
 use ae_driver::{Status, run};
 use ae_io::{MemSink, MemSource};
+use ae_search_options::picks::{Pick, Picks};
 use std::alloc::{AllocError, Global};
 use std::io;
 
@@ -23,12 +24,12 @@ fn said(alloc: Global, status: Status, written: &[u8]) -> Result<String, AllocEr
 }
 
 // What is told of a text.
-fn told(alloc: Global, text: &str) -> Result<String, AllocError> {
+fn told(alloc: Global, picks: &Picks, text: &str) -> Result<String, AllocError> {
     let room = Vec::with_capacity(alloc, 4096)?;
     let bytes = Vec::from_slice(alloc, text.as_bytes())?;
     let mut source = MemSource::new(bytes, 4096, Vec::new(alloc));
     let mut sink = MemSink::new(room, 4096, Vec::new(alloc));
-    let status = run(alloc, &[], &mut source, &mut sink);
+    let status = run(alloc, &[], picks, &mut source, &mut sink);
     said(alloc, status, sink.kept())
 }
 
@@ -44,8 +45,13 @@ fn wanted(alloc: Global, below: &str) -> Result<String, AllocError> {
 }
 
 // What is told of a text, where that isn't what the line under it says.
-fn otherwise(alloc: Global, text: &str, below: &str) -> Result<Option<String>, AllocError> {
-    let told = told(alloc, text)?;
+fn otherwise(
+    alloc: Global,
+    picks: &Picks,
+    text: &str,
+    below: &str,
+) -> Result<Option<String>, AllocError> {
+    let told = told(alloc, picks, text)?;
     let wanted = wanted(alloc, below)?;
     if told == wanted {
         return Ok(None);
@@ -54,7 +60,18 @@ fn otherwise(alloc: Global, text: &str, below: &str) -> Result<Option<String>, A
 }
 
 fn main(rt: HostRuntime) -> io::Result<()> {
-    let table = io::read_to_string(rt.alloc(), rt.reader())?;
+    let alloc = rt.alloc();
+    let decide_first = Pick::keep(Box::new(alloc, |_n: usize, _turn: usize| 0)?);
+    let decide_last = Pick::keep(Box::new(alloc, |_n: usize, _turn: usize| 0)?);
+    let decide_mixed = Pick::keep(Box::new(alloc, |_n: usize, _turn: usize| 0)?);
+    let rank_first = Pick::keep(Box::new(alloc, |_n: usize, _turn: usize| 0)?);
+    let rank_last = Pick::keep(Box::new(alloc, |_n: usize, _turn: usize| 0)?);
+    let rank_mixed = Pick::keep(Box::new(alloc, |_n: usize, _turn: usize| 0)?);
+    let picks = Picks {
+        decide: [decide_first, decide_last, decide_mixed],
+        rank: [rank_first, rank_last, rank_mixed],
+    };
+    let table = io::read_to_string(alloc, rt.reader())?;
     let mut text = "";
     let mut count: u64 = 0;
     for line in table.lines() {
@@ -65,7 +82,7 @@ fn main(rt: HostRuntime) -> io::Result<()> {
             text = line;
             continue;
         }
-        if let Some(told) = otherwise(rt.alloc(), text, line)? {
+        if let Some(told) = otherwise(alloc, &picks, text, line)? {
             println!(rt; "{text}\n{told}")?;
         }
         count = count.saturating_add(1);

@@ -1,15 +1,20 @@
 -- How each function below `run` ends.
-use Rattle.std.specs.Prelude.{◌≡◌, ◌⊎◌, ℕ, zero, suc, ◌≤◌, List, [], ◌++◌, length, take, IfSome}
+use Rattle.std.specs.Prelude.{◌≡◌, ◌⊎◌, ℕ, zero, suc, ◌≤◌, List, [], ◌++◌, length, slice_get, take, Some, IfSome}
 use Rattle.std.specs.List.{AllByRecursion}
-use Rattle.ae_chains.specs.Parts.{IsPart, AreParts}
+use Rattle.ae_cli.specs.Program.{States}
 use Rattle.ae_cli.specs.Words.{Text}
+use Rattle.ae_cli.specs.declared.options.Mode.TheVariants.{Prove}
+use Rattle.ae_core.specs.declared.formulas.Formula.{Formula}
+use Rattle.ae_core.specs.declared.problems.Item.TheVariants.{Axiom}
 use Rattle.ae_core.specs.declared.problems.Problem.{Problem}
 use Rattle.ae_elab.specs.Names.{IsName, names_in_file}
 use Rattle.ae_fault_lines.specs.Lines.{fault_place}
+use Rattle.ae_goal_parts.specs.Parts.{IsPart, IsReadable}
 use Rattle.ae_io.specs.Moves.{Written, Gets, GetsPrefix}
 use Rattle.ae_parts.specs.declared.parts.Part.{Part}
 use Rattle.ae_printed.specs.ReadBack.{IsReadBack, proof_in}
 use Rattle.ae_report.specs.Lines.{refused_at}
+use Rattle.ae_search_options.specs.declared.limits.Limits.{Limits}
 use Rattle.ae_verdicts.specs.Verdicts.{IsVerdict, verdict_line}
 use Rattle.ae_verdicts.specs.declared.lines.Verdict.{Verdict}
 use Rattle.ae_driver.specs.declared.goals.GoalPlace.{GoalPlace}
@@ -22,14 +27,14 @@ use Rattle.ae_driver.specs.declared.reasons.Reason.TheVariants.{Plain, Untyped}
 use Rattle.ae_driver.specs.declared.texts.NotRead.{NotRead}
 use Rattle.ae_driver.specs.declared.texts.NotRead.TheVariants as not_read
 use Rattle.ae_driver.specs.Checking.{AreVerdicts, IsChecked, IsCheckingBegun, IsRefusedInput}
-use Rattle.ae_driver.specs.Output.{IsRefused, IsLegalOutput, IsBegun}
+use Rattle.ae_driver.specs.Output.{AreParts, IsRefused, IsLegalOutput, IsBegun}
 use Rattle.ae_driver.specs.Passing.{PassFor}
 use Rattle.ae_driver.specs.Problems.{HasNoProblem, IsReasonLine}
-use Rattle.ae_driver.specs.Words.{AskToProve, AskToCheck, AskForNeither}
+use Rattle.ae_driver.specs.Words.{AskToCheck, AskForNeither}
 
 -- what words ask for
 abbrev pub IsAsked : List Text → Task → Type 0
-IsAsked words task.Proofs = AskToProve words
+IsAsked words (task.Proofs o) = States words o × (o.mode ≡ Prove)
 IsAsked words task.Check = AskToCheck words
 IsAsked words task.Neither = AskForNeither words
 
@@ -38,37 +43,41 @@ abbrev pub PlacesStand : List ℕ → Reason → Type 0
 PlacesStand text (Plain why) = IfSome (refused_at why) (λ at. at ≤ length text)
 PlacesStand text (Untyped file e) = AllByRecursion (IsName text) (names_in_file file) × IfSome (fault_place e) (λ at. at ≤ length text)
 
--- how the goal at a place is answered
-abbrev pub PartEnds : Problem → ℕ → Written → Written → Status → Type 0
-PartEnds p k old new status.Done = (part : List ℕ) × IsPart p k part × IsReadBack p k part × Gets old new part
-PartEnds p k old new status.WriteFault = (part : List ℕ) × IsPart p k part × GetsPrefix old new part
-PartEnds p k old new status.Memory = Unit {0}
-PartEnds p k old new _ = ⊥
+-- how the item at a place is answered
+abbrev pub PartEnds : Problem → Limits → ℕ → Written → Written → Status → Type 0
+PartEnds p limits k old new status.Done = (part : List ℕ) × IsPart p k limits part × IsReadable p k part × Gets old new part
+PartEnds p limits k old new status.WriteFault = (part : List ℕ) × IsPart p k limits part × GetsPrefix old new part
+PartEnds p limits k old new status.Memory = Unit {0}
+PartEnds p limits k old new _ = ⊥
 
--- the bytes of the first goals are parts that are read back
-abbrev pub AreReadBack : Problem → ℕ → List ℕ → Type 0
-AreReadBack p zero bytes = bytes ≡ []
-AreReadBack p (suc n) bytes = (front : List ℕ) × (part : List ℕ) × (bytes ≡ front ++ part) × AreReadBack p n front × IsReadBack p n part
+-- nothing for an axiom, and for a goal a part that is read back
+abbrev pub IsPrinted : Problem → ℕ → List ℕ → Type 0
+IsPrinted p k part = ((name : List ℕ) × (vars : ℕ) × (body : Formula) × (slice_get p.items k ≡ Some (Axiom name vars body)) × (part ≡ [])) ⊎ IsReadBack p k part
 
--- the sink got the parts of so many goals
-pub record HasParts (p : Problem) (count : ℕ) (old new : Written) : Type 0 where
+-- the bytes of the first items
+abbrev pub ArePrinted : Problem → ℕ → List ℕ → Type 0
+ArePrinted p zero bytes = bytes ≡ []
+ArePrinted p (suc n) bytes = (front : List ℕ) × (part : List ℕ) × (bytes ≡ front ++ part) × ArePrinted p n front × IsPrinted p n part
+
+-- the sink got the parts of so many items
+pub record HasParts (p : Problem) (limits : Limits) (count : ℕ) (old new : Written) : Type 0 where
   pub bytes : List ℕ
-  pub parts : AreParts p 0 count bytes
-  pub read_back : AreReadBack p count bytes
+  pub parts : AreParts p limits 0 count bytes
+  pub printed : ArePrinted p count bytes
   pub written : Gets old new bytes
 
--- the sink got a front of the parts of so many goals, and not all of it
-pub record HasFront (p : Problem) (count : ℕ) (old new : Written) : Type 0 where
+-- the sink got a front of the parts of so many items, and not all of it
+pub record HasFront (p : Problem) (limits : Limits) (count : ℕ) (old new : Written) : Type 0 where
   pub bytes : List ℕ
-  pub parts : AreParts p 0 count bytes
+  pub parts : AreParts p limits 0 count bytes
   pub written : GetsPrefix old new bytes
 
--- how the goals of a problem are answered
-abbrev pub GoalsEnd : Problem → Written → Written → Status → Type 0
-GoalsEnd p old new status.Done = HasParts p (length p.items) old new
-GoalsEnd p old new status.WriteFault = (k : ℕ) × (k ≤ length p.items) × HasFront p k old new
-GoalsEnd p old new status.Memory = (k : ℕ) × (k ≤ length p.items) × HasParts p k old new
-GoalsEnd p old new _ = ⊥
+-- how the items of a problem are answered
+abbrev pub GoalsEnd : Problem → Limits → Written → Written → Status → Type 0
+GoalsEnd p limits old new status.Done = HasParts p limits (length p.items) old new
+GoalsEnd p limits old new status.WriteFault = (k : ℕ) × (k ≤ length p.items) × HasFront p limits k old new
+GoalsEnd p limits old new status.Memory = (k : ℕ) × (k ≤ length p.items) × HasParts p limits k old new
+GoalsEnd p limits old new _ = ⊥
 
 -- how a line of refusal is written
 abbrev pub RefusalEnds : List ℕ → Reason → Written → Written → Status → Type 0
@@ -78,16 +87,16 @@ RefusalEnds text why old new status.Memory = Gets old new []
 RefusalEnds text why old new _ = ⊥
 
 -- what is written of a text that was read
-abbrev pub IsOfText : List ℕ → List ℕ → Type 0
-IsOfText text bytes = IsBegun text bytes ⊎ ((why : Reason) × IsRefused text why × IsReasonLine text why bytes)
+abbrev pub IsOfText : Limits → List ℕ → List ℕ → Type 0
+IsOfText limits text bytes = IsBegun limits text bytes ⊎ ((why : Reason) × IsRefused text why × IsReasonLine text why bytes)
 
 -- how a text that was read is answered
-abbrev pub TextEnds : List ℕ → Written → Written → Status → Type 0
-TextEnds text old new status.Done = (bytes : List ℕ) × IsLegalOutput text bytes × PassFor text bytes × Gets old new bytes
-TextEnds text old new status.Refused = (why : Reason) × IsRefused text why × RefusalEnds text why old new status.Refused
-TextEnds text old new status.WriteFault = (bytes : List ℕ) × IsOfText text bytes × GetsPrefix old new bytes
-TextEnds text old new status.Memory = (bytes : List ℕ) × ((bytes ≡ []) ⊎ IsBegun text bytes) × Gets old new bytes
-TextEnds text old new _ = ⊥
+abbrev pub TextEnds : Limits → List ℕ → Written → Written → Status → Type 0
+TextEnds limits text old new status.Done = (bytes : List ℕ) × IsLegalOutput limits text bytes × PassFor text bytes × Gets old new bytes
+TextEnds limits text old new status.Refused = (why : Reason) × IsRefused text why × RefusalEnds text why old new status.Refused
+TextEnds limits text old new status.WriteFault = (bytes : List ℕ) × IsOfText limits text bytes × GetsPrefix old new bytes
+TextEnds limits text old new status.Memory = (bytes : List ℕ) × ((bytes ≡ []) ⊎ IsBegun limits text bytes) × Gets old new bytes
+TextEnds limits text old new _ = ⊥
 
 -- ---- reading a problem
 -- why none is read

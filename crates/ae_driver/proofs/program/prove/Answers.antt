@@ -11,8 +11,8 @@ returns-in-Ok-clause-passes g c =
     let text = c.in-Ok.text.items in
     let a = g.K.Sink.written c.args.sink.now in
     let e = g.K.Sink.written c.answer.new.sink in
-    λ ended. passes_is left text a e (is_read left text c.in-Ok.ensures.whole c.in-Ok.ensures.within)
-    (subst (λ s. TextEnds text a e s) ended (subst (λ t. TextEnds t a e c.answer.result) c.as_slice.ensures.value c.answer.ensures.ends))
+    λ ended. passes_is c.args.asked.limits left text a e (is_read left text c.in-Ok.ensures.whole c.in-Ok.ensures.within)
+    (subst (λ s. TextEnds c.args.asked.limits text a e s) ended (subst (λ t. TextEnds c.args.asked.limits t a e c.answer.result) c.as_slice.ensures.value c.answer.ensures.ends))
 
 pub returns-in-Ok-clause-cut_off : goal.returns-in-Ok-clause-cut_off
 returns-in-Ok-clause-cut_off g c =
@@ -20,8 +20,8 @@ returns-in-Ok-clause-cut_off g c =
     let text = c.in-Ok.text.items in
     let a = g.K.Sink.written c.args.sink.now in
     let e = g.K.Sink.written c.answer.new.sink in
-    λ ended. cut_off_is left text a e (is_read left text c.in-Ok.ensures.whole c.in-Ok.ensures.within)
-    (subst (λ s. TextEnds text a e s) ended (subst (λ t. TextEnds t a e c.answer.result) c.as_slice.ensures.value c.answer.ensures.ends))
+    λ ended. cut_off_is c.args.asked.limits left text a e (is_read left text c.in-Ok.ensures.whole c.in-Ok.ensures.within)
+    (subst (λ s. TextEnds c.args.asked.limits text a e s) ended (subst (λ t. TextEnds c.args.asked.limits t a e c.answer.result) c.as_slice.ensures.value c.answer.ensures.ends))
 
 pub returns-in-Ok-clause-complete : goal.returns-in-Ok-clause-complete
 returns-in-Ok-clause-complete g c =
@@ -29,7 +29,7 @@ returns-in-Ok-clause-complete g c =
     let text = c.in-Ok.text.items in
     let a = g.K.Sink.written c.args.sink.now in
     let e = g.K.Sink.written c.answer.new.sink in
-    λ offered _ calm. complete_is left text a e c.answer.result _ offered c.in-Ok.ensures.whole (subst (λ t. TextEnds t a e c.answer.result) c.as_slice.ensures.value c.answer.ensures.ends) c.answer.ensures.write_fault calm
+    λ offered _ calm. complete_is c.args.asked.limits left text a e c.answer.result _ offered c.in-Ok.ensures.whole (subst (λ t. TextEnds c.args.asked.limits t a e c.answer.result) c.as_slice.ensures.value c.answer.ensures.ends) c.answer.ensures.write_fault calm
 
 pub returns-in-Err-TooLong-clause-complete : goal.returns-in-Err-TooLong-clause-complete
 returns-in-Err-TooLong-clause-complete g c =

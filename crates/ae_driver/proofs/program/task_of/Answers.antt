@@ -2,7 +2,7 @@ use Rattle.ae_driver.proofs.Checked.{asks_neither, asks_nothing}
 use Rattle.ae_driver.proofs.program.task_of.Goals as goal
 
 pub returns-in-Prove : goal.returns-in-Prove
-returns-in-Prove c = record { options = c.in-Ok.stated; stated = c.in-Ok.ensures.stated; is = c.in-Prove.is }
+returns-in-Prove c = (c.in-Ok.ensures.stated, c.in-Prove.is)
 
 pub returns-in-Check : goal.returns-in-Check
 returns-in-Check c = record { options = c.in-Ok.stated; stated = c.in-Ok.ensures.stated; is = c.in-Check.is }
