@@ -113,6 +113,7 @@ module _ (o : Holding) (s : Stored) (t : IsTaken o s) where
         record {
           sort = a.sort;
           symbol = a.symbol;
+          of_names = a.of_names;
           sorted = all_append P names (map (rep_in reps) names) a.sorted (all_of_map P (rep_in reps) names (all_weaker P (λ n. P (rep_in reps n)) (same_sort a.sort) names a.sorted));
         }
 
