@@ -16,7 +16,7 @@ use Rattle.ae_journal.specs.Evaluate.{reduced_by, unassigned, value}
 use Rattle.ae_journal.specs.Evaluation.{constructor_value}
 use Rattle.ae_journal.specs.Ground.{JoinsNoEnumeration, subterms}
 use Rattle.ae_journal.specs.Inner.Numbering.{numbering}
-use Rattle.ae_journal.specs.States.{IsSaturatedBy}
+use Rattle.ae_journal.specs.States.{IsSaturatedBy, Selection}
 use Rattle.ae_journal.specs.Values.{Val}
 use Rattle.ae_journal.specs.declared.systems.Saturated.{Saturated}
 use Rattle.ae_evaluation.proofs.Constructors.{choices_are}
@@ -25,7 +25,7 @@ use Rattle.ae_evaluation.proofs.Main.{no_assignment, nothing_assigned, value_sha
 use Rattle.ae_evaluation.proofs.Rules.{reduction}
 use Rattle.ae_journal.proofs.Splits.{contains_at}
 
-module _ (p : Problem) (g : ℕ) (st : Saturated) (takes : Lit → Lit) (bound : ℕ) (lawful : IsLawful p.signature)
+module _ (p : Problem) (g : ℕ) (st : Saturated) (takes : Selection) (bound : ℕ) (lawful : IsLawful p.signature)
     (saturated : IsSaturatedBy p g st takes bound) where
   abbrev V : Term → Val
   V = value p.signature st.system true unassigned

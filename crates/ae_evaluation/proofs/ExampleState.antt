@@ -44,7 +44,7 @@ use Rattle.ae_core.specs.declared.problems.TypeEntry.{TypeEntry}
 use Rattle.ae_core.specs.declared.problems.FieldEntry.{FieldEntry}
 use Rattle.ae_journal.specs.Values.{Val, once, leaf}
 use Rattle.ae_journal.specs.Systems.{IsNamed, ValueOf, value_at, record_fields, Has}
-use Rattle.ae_journal.specs.States.{IsSaturatedBy, Stands, IsFirst, of_hypothesis, of_goal, Comes, first, by_row, by_block, HasGeneration, Matches, Owner}
+use Rattle.ae_journal.specs.States.{IsSaturatedBy, Stands, IsFirst, of_hypothesis, of_goal, Comes, first, by_row, by_block, HasGeneration, Matches, Owner, all_taken}
 use Rattle.ae_journal.specs.States.{of_literal, of_axiom, Pattern, pattern_of, literal_pattern, outside, quant_of, is_universal_by, inequality, inequality_of}
 use Rattle.ae_journal.specs.Ground.{IsGround, IsFragmentTerm, reals, records, more, none, HoldsEnumeration, itself as holds_itself, in_field, HasFragmentSort}
 use Rattle.ae_journal.specs.Ground.{JoinsNoEnumeration, IsGroundFormula, subterms, subterms_step, is_simple, simple_step, atom_terms, atom_terms_step}
@@ -280,17 +280,17 @@ no_axiom (suc k) q e =
     let o = only_some (nat_lt (suc k) 1) (slice_get problem.items (suc k)) b.0 b.1 in
     no_more k goal b.0 o.1 o.0
 
-reached : (n : ℕ) (l : Lit) → Comes problem 1 state (λ m. m) (HasGeneration problem 1 state (λ l. l) n) l → Stands problem 1 state l
+reached : (n : ℕ) (l : Lit) → Comes problem 1 state all_taken (HasGeneration problem 1 state all_taken n) l → Stands problem 1 state l
 reached n l (first a b) = b
 reached n l (by_row q c a b d e f g) = g
 reached n l (by_block q a b c d) = d
 
 none_matches : (n : ℕ) (o : Owner) (us : List Sort) (ts : List Term)
-    → Matches problem 1 state (λ l. l) (HasGeneration problem 1 state (λ l. l) n) o us ts → ⊥
+    → Matches problem 1 state all_taken (HasGeneration problem 1 state all_taken n) o us ts → ⊥
 none_matches n (of_literal l) us ts m = no_pattern l (reached n l m.owner_comes) m.pattern m.of_owner
 none_matches n (of_axiom k) us ts m = no_axiom k m.pattern m.of_owner
 
-pub saturated_by : (bound : ℕ) → IsSaturatedBy problem 1 state (λ l. l) bound
+pub saturated_by : (bound : ℕ) → IsSaturatedBy problem 1 state all_taken bound
 saturated_by bound = record {
   consistent = consistent;
   completed = completed;

@@ -44,7 +44,7 @@ use Rattle.ae_journal.specs.Systems.{IsNamed, ValueOf}
 use Rattle.ae_journal.specs.Evaluation.{constructor_value}
 use Rattle.ae_journal.specs.Inner.Numbering.{numbering}
 use Rattle.ae_journal.specs.Evaluate.{reduced_by, Assignment, unassigned, value, is_true_at, IsAssignment}
-use Rattle.ae_journal.specs.States.{IsSaturatedBy, Stands, of_hypothesis, of_goal, quant_of, is_universal_by}
+use Rattle.ae_journal.specs.States.{IsSaturatedBy, Stands, of_hypothesis, of_goal, quant_of, is_universal_by, Selection}
 use Rattle.ae_journal.specs.Ground.{IsFragmentTerm, JoinsNoEnumeration, subterms, IsGround, IsGroundFormula, IsGroundBlock, IsGroundGoal, IsGroundLine, IsGroundProof, MayStand, is_simple}
 use Rattle.ae_evaluation.proofs.Decisions.{same_list}
 use Rattle.ae_evaluation.proofs.Main.{value_shapes, value_shape, names_have_values}
@@ -98,7 +98,7 @@ or_next : Option Val → Option Val → Option Val
 or_next (Some v) o = Some v
 or_next None o = o
 
-module _ (p : Problem) (g : ℕ) (st : Saturated) (takes : Lit → Lit) (bound : ℕ) (lawful : IsLawful p.signature)
+module _ (p : Problem) (g : ℕ) (st : Saturated) (takes : Selection) (bound : ℕ) (lawful : IsLawful p.signature)
     (saturated : IsSaturatedBy p g st takes bound) (ground : IsGround p g) (clear : HasNoConstants p g) where
   abbrev V : Term → Val
   V = value p.signature st.system true unassigned
@@ -235,8 +235,8 @@ module _ (p : Problem) (g : ℕ) (st : Saturated) (takes : Lit → Lit) (bound :
       subst (Stands p g st) (ap (literal false) f.1 ∙ literal_all false q)
       (saturated.firsts (no_of ground.goal) (of_goal ground.goal ground.is)) in
       let r = saturated.blocks l q stands (ap (is_universal_by false) (outs-All q)) (ap quant_of (outs-All q)) in
-      let same : literal false (put_formula r.1 q.body) ≡ takes l =
-      same_Some (literal false (put_formula r.1 q.body)) (takes l)
+      let same : literal false (put_formula r.1 q.body) ≡ takes.body l =
+      same_Some (literal false (put_formula r.1 q.body)) (takes.body l)
       (sym (ap (λ (o : Option Quant). o >>= λ q. Some (literal false (put_formula r.1 q.body))) (ap quant_of (outs-All q))) ∙ r.3) in
       let body_stands : Stands p g st (literal false (put_formula r.1 q.body)) = subst (Stands p g st) (sym same) r.0 in
       let sorted = sorts_are (sorts_of p.signature r.1) q.sorts r.2 in

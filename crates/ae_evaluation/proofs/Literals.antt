@@ -34,7 +34,7 @@ use Rattle.ae_journal.specs.Values.{Val, Val_discrete, meaning}
 use Rattle.ae_journal.specs.Systems.{IsNamed, ValueOf, IsPredicateName}
 use Rattle.ae_journal.specs.Truth.{is_said, says_by, all_same}
 use Rattle.ae_journal.specs.Evaluate.{unassigned, value, is_true_at}
-use Rattle.ae_journal.specs.States.{IsSaturatedBy, Stands, by_value, AllSame, outside, outside_step}
+use Rattle.ae_journal.specs.States.{IsSaturatedBy, Stands, by_value, AllSame, outside, outside_step, Selection}
 use Rattle.ae_journal.specs.Ground.{is_simple, simple_step}
 use Rattle.ae_evaluation.proofs.Decisions.{same_list, yes_sorts}
 use Rattle.ae_evaluation.proofs.Main.{names_have_values}
@@ -116,7 +116,7 @@ none_there : {A : Type 0} (z : A) → Contains [] z → ⊥
 none_there z c = omega (arith, c.1)
 
 -- ---- a saturated state
-module _ (p : Problem) (g : ℕ) (st : Saturated) (takes : Lit → Lit) (bound : ℕ) (lawful : IsLawful p.signature)
+module _ (p : Problem) (g : ℕ) (st : Saturated) (takes : Selection) (bound : ℕ) (lawful : IsLawful p.signature)
     (saturated : IsSaturatedBy p g st takes bound) (choosing : Bool) where
   abbrev V : Term → Val
   V = value p.signature st.system choosing unassigned

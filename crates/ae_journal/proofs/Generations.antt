@@ -4,7 +4,7 @@ use Rattle.ae_core.specs.declared.terms.Sort.{Sort}
 use Rattle.ae_core.specs.declared.terms.Term.{Term}
 use Rattle.ae_core.specs.declared.formulas.Lit.{Lit}
 use Rattle.ae_core.specs.declared.problems.Problem.{Problem}
-use Rattle.ae_journal.specs.States.{Stands, IsFirst, Comes, TermComes, Owner, of_literal, of_axiom, OwnerComes, Matches, Begins, HasGeneration, AreSame}
+use Rattle.ae_journal.specs.States.{Stands, IsFirst, Comes, TermComes, Owner, of_literal, of_axiom, OwnerComes, Matches, Begins, HasGeneration, AreSame, Selection}
 use Rattle.ae_journal.specs.States.Comes.{first, by_row, by_block}
 use Rattle.ae_journal.specs.States.TermComes.{stands, part, field}
 use Rattle.ae_journal.specs.States.Begins.{first_of_all, of_match}
@@ -12,7 +12,7 @@ use Rattle.ae_journal.specs.Laws.{FollowsRules, LeastGenerations, GenerationsRis
 use Rattle.ae_journal.proofs.Matching.{match_more}
 use Rattle.ae_journal.specs.declared.systems.Saturated.{Saturated}
 
-module _ (p : Problem) (g : ℕ) (st : Saturated) (takes : Lit → Lit) where
+module _ (p : Problem) (g : ℕ) (st : Saturated) (takes : Selection) where
   module _ (few many : Lit → Type 0) (wider : (l : Lit) → few l → many l) where
     pub come_more : (l : Lit) → Comes p g st takes few l → Comes p g st takes many l
     come_more _ (first a s) = first (wider _ a) s
@@ -40,7 +40,7 @@ module _ (p : Problem) (g : ℕ) (st : Saturated) (takes : Lit → Lit) where
 
     begin_more : (l : Lit) → Begins p g st takes few l → Begins p g st takes many l
     begin_more _ (first_of_all i) = first_of_all i
-    begin_more _ (of_match o us ts m c) = of_match o us ts (matches_more o us ts m) c
+    begin_more _ (of_match o us ts m e c) = of_match o us ts (matches_more o us ts m) e c
 
   rise : (n : ℕ) (l : Lit) → HasGeneration p g st takes n l → HasGeneration p g st takes (suc n) l
   rise zero = come_more (IsFirst p g st) (Begins p g st takes (HasGeneration p g st takes zero)) (λ l i. first_of_all i)
@@ -60,7 +60,7 @@ module _ (p : Problem) (g : ℕ) (st : Saturated) (takes : Lit → Lit) where
       where
         begun : (n : ℕ) → ((l : Lit) → HasGeneration p g st takes n l → holds n l ≡ true) → (l : Lit) → Begins p g st takes (HasGeneration p g st takes n) l → Stands p g st l → holds (suc n) l ≡ true
         begun n h _ (first_of_all i) s = rules.first (suc n) _ i s
-        begun n h _ (of_match o us ts m c) s = rules.of_match n _ o us ts (matches_more (HasGeneration p g st takes n) (λ m. holds n m ≡ true) h o us ts m) c s
+        begun n h _ (of_match o us ts m e c) s = rules.of_match n _ o us ts (matches_more (HasGeneration p g st takes n) (λ m. holds n m ≡ true) h o us ts m) e c s
 
 pub generations_rise : GenerationsRise
 generations_rise p g st takes n l h = rise p g st takes n l h

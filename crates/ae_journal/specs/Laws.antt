@@ -12,7 +12,7 @@ use Rattle.ae_core.specs.declared.problems.Problem.{Problem}
 use Rattle.ae_num.specs.declared.forms.Lin.{Lin}
 use Rattle.ae_journal.specs.Values.{Val, Sum, minus_val, sum_in, sum_of_lin}
 use Rattle.ae_journal.specs.Systems.{own, value_at, ValueOf, IsLeaf, Represents, IsCompleted}
-use Rattle.ae_journal.specs.States.{Stands, IsFirst, HasGeneration, Matches, Owner, instance_literals, quant_of, is_universal}
+use Rattle.ae_journal.specs.States.{Stands, IsFirst, HasGeneration, Matches, Owner, instance_literals, quant_of, is_universal, Selection}
 use Rattle.ae_journal.specs.Journals.{live, decisions, IsBack, MayGoBack}
 use Rattle.ae_journal.specs.TermValues.{leaf_of}
 use Rattle.ae_journal.specs.Standing.{Setting, IsGiven, IsFormula, IsEntered, IsPossible, MayStand, SurelyStands, Represents as RepresentsNow, value_now}
@@ -56,21 +56,21 @@ OneLeaf = (names : List Term) (s t : Term) → leaf_of names s ≡ leaf_of names
 
 -- ---- generations of a state
 -- a test of numbers and literals that follows the rules of generations
-pub record FollowsRules (p : Problem) (g : ℕ) (st : Saturated) (takes : Lit → Lit) (holds : ℕ → Lit → Bool) : Type 0 where
+pub record FollowsRules (p : Problem) (g : ℕ) (st : Saturated) (takes : Selection) (holds : ℕ → Lit → Bool) : Type 0 where
   pub first : (n : ℕ) (l : Lit) → IsFirst p g st l → Stands p g st l → holds n l ≡ true
   pub by_row : (n : ℕ) (l m : Lit) (r : ℕ) (c : Clause) → holds n m ≡ true → row r m.formula ≡ Some c → Contains c (opposite m) → Contains c l → l ≢ opposite m → Stands p g st l → holds n l ≡ true
-  pub by_block : (n : ℕ) (m : Lit) (q : Quant) → holds n m ≡ true → quant_of (out-Formula m.formula) ≡ Some q → is_universal m ≡ false → Stands p g st (takes m) → holds n (takes m) ≡ true
-  pub of_match : (n : ℕ) (l : Lit) (o : Owner) (us : List Sort) (ts : List Term) → Matches p g st takes (λ m. holds n m ≡ true) o us ts → Contains (instance_literals p g o us ts) l → Stands p g st l
+  pub by_block : (n : ℕ) (m : Lit) (q : Quant) → holds n m ≡ true → quant_of (out-Formula m.formula) ≡ Some q → is_universal m ≡ false → Stands p g st (takes.body m) → holds n (takes.body m) ≡ true
+  pub of_match : (n : ℕ) (l : Lit) (o : Owner) (us : List Sort) (ts : List Term) → Matches p g st takes (λ m. holds n m ≡ true) o us ts → takes.instances o us ts ≡ true → Contains (instance_literals p g o us ts) l → Stands p g st l
       → holds (suc n) l ≡ true
 
 -- generations are the least numbers that follow the rules
 abbrev pub LeastGenerations : Type 0
-LeastGenerations = (p : Problem) (g : ℕ) (st : Saturated) (takes : Lit → Lit) (holds : ℕ → Lit → Bool) → FollowsRules p g st takes holds
+LeastGenerations = (p : Problem) (g : ℕ) (st : Saturated) (takes : Selection) (holds : ℕ → Lit → Bool) → FollowsRules p g st takes holds
     → (n : ℕ) (l : Lit) → HasGeneration p g st takes n l → holds n l ≡ true
 
 -- what has a generation of at most n has one of at most n + 1
 abbrev pub GenerationsRise : Type 0
-GenerationsRise = (p : Problem) (g : ℕ) (st : Saturated) (takes : Lit → Lit) (n : ℕ) (l : Lit) → HasGeneration p g st takes n l → HasGeneration p g st takes (suc n) l
+GenerationsRise = (p : Problem) (g : ℕ) (st : Saturated) (takes : Selection) (n : ℕ) (l : Lit) → HasGeneration p g st takes n l → HasGeneration p g st takes (suc n) l
 
 -- ---- journals
 -- the front of legal lines is legal

@@ -26,7 +26,7 @@ use Rattle.ae_rules.proofs.ClauseLaws.{literal_eq, literal_not, literal_or, row_
 use Rattle.ae_num.specs.declared.forms.Value.{Leaf}
 use Rattle.ae_journal.specs.Values.{Val, leaf, meaning}
 use Rattle.ae_journal.specs.Systems.{IsLeaf, IsName, IsNamed, ValueOf, fields_of, record_fields, value_at}
-use Rattle.ae_journal.specs.States.{IsSaturatedBy, SomeStands, IsFirst, outside}
+use Rattle.ae_journal.specs.States.{IsSaturatedBy, SomeStands, IsFirst, outside, all_taken}
 use Rattle.ae_journal.specs.States.IsFirst.{of_hypothesis, of_goal}
 use Rattle.ae_journal.proofs.Splits.{contains_cases, contains_one}
 use Rattle.ae_evaluation.proofs.ExampleSystem.{leaf_at, no_entry}
@@ -187,7 +187,7 @@ its_sort n t s i e = same_Some T s (sym (of_leaves.symbol n t i).sort ∙ e)
 no_choices : choices_of signature (out-Sort T) ≡ None
 no_choices = ap (choices_of signature) (outs-Named 0 [])
 
-pub saturated_by : (bound : ℕ) → IsSaturatedBy problem 0 state (λ l. l) bound
+pub saturated_by : (bound : ℕ) → IsSaturatedBy problem 0 state all_taken bound
 saturated_by bound = record {
   consistent = consistent;
   completed = completed signature plain system of_leaves numbers free subterms is_leaf no_entry;

@@ -39,7 +39,7 @@ use Rattle.ae_num.specs.declared.forms.Value.{Leaf}
 use Rattle.ae_journal.specs.Values.{Val, leaf, meaning}
 use Rattle.ae_journal.specs.Systems.{IsCompleted, IsLeaf, IsName, IsNamed, ValueOf, value_at, record_fields}
 use Rattle.ae_journal.specs.Sizes.{IsSmall, term_size, term_size_step, formula_size, formula_size_step, quant_size_step}
-use Rattle.ae_journal.specs.States.{IsSaturatedBy, SomeStands, Stands, IsFirst, TermComes, HasGeneration, Matches, Owner, of_literal, of_axiom, Pattern, pattern_of, literal_pattern, AllSame, AreSame, instance_literals, instances_of}
+use Rattle.ae_journal.specs.States.{IsSaturatedBy, SomeStands, Stands, IsFirst, TermComes, HasGeneration, Matches, Owner, of_literal, of_axiom, Pattern, pattern_of, literal_pattern, AllSame, AreSame, instance_literals, instances_of, all_taken, Selection}
 use Rattle.ae_journal.specs.States.{outside, outside_step, quant_of, is_universal, is_universal_by, inequality, inequality_of}
 use Rattle.ae_journal.specs.States.IsFirst.{of_hypothesis, of_goal}
 use Rattle.ae_journal.specs.States.Comes.{first as comes_first}
@@ -329,13 +329,13 @@ module _ (known : Term → Type 0) (same : Term → Term → Type 0) (sorts : Li
 -- ---- the terms that come are names
 module _ (n : ℕ) where
   abbrev From : Lit → Type 0
-  From = HasGeneration problem 1 state (λ m. m) n
+  From = HasGeneration problem 1 state all_taken n
 
   abbrev Known : Term → Type 0
-  Known = TermComes problem 1 state (λ m. m) From
+  Known = TermComes problem 1 state all_taken From
 
   all_named : (t : Term) → Known t → IsNamed system t
-  all_named t (stands l c i) = all_contained (IsNamed system) (outside l.formula) t (named l (come problem 1 state (λ m. m) From l c)) i
+  all_named t (stands l c i) = all_contained (IsNamed system) (outside l.formula) t (named l (come problem 1 state all_taken From l c)) i
   all_named t (part h ss us k i) = let d = all_named (Apply h ss us) k in all_contained (IsNamed system) us t (subterms d.0 h ss us d.1) i
   all_named t (field {u} s ss k e g i) = let d = all_named u k in absurd (never_some ss (sym T_fields ∙ ap (record_fields signature) (same_Some T s (sym (of_leaves.symbol d.0 u d.1).sort ∙ e)) ∙ g))
 
@@ -367,7 +367,7 @@ module _ (n : ℕ) where
       put_sort_T : put_sort us T ≡ T
       put_sort_T = put_named us 0 []
 
-  of_one : (l : Lit) (us : List Sort) (ts : List Term) → IsOne l → Matches problem 1 state (λ m. m) From (of_literal l) us ts → Answer (of_literal l) us ts
+  of_one : (l : Lit) (us : List Sort) (ts : List Term) → IsOne l → Matches problem 1 state all_taken From (of_literal l) us ts → Answer (of_literal l) us ts
   of_one l us ts (inr p) m = absurd (no_pattern problem 1 l p m.pattern m.of_owner)
   of_one l us ts (inl d) m =
       let q : literal_pattern signature block ≡ m.pattern = same_Some (literal_pattern signature block) m.pattern (sym pattern_is ∙ ap (λ k. pattern_of problem 1 (of_literal k)) d ∙ m.of_owner) in
@@ -375,8 +375,8 @@ module _ (n : ℕ) where
       let r = subst (λ (w : Pattern). IsMatch signature Known (AreSame signature system) w.type_vars w.vars m.trigger us ts) (sym q) m.matches in
       subst (λ (k : Lit). Answer (of_literal k) us ts) d (by_match us ts m.trigger t r)
 
-  answers : (o : Owner) (us : List Sort) (ts : List Term) → Matches problem 1 state (λ m. m) From o us ts → Answer o us ts
-  answers (of_literal l) us ts m = of_one l us ts (one_of l (come problem 1 state (λ m. m) From l m.owner_comes)) m
+  answers : (o : Owner) (us : List Sort) (ts : List Term) → Matches problem 1 state all_taken From o us ts → Answer o us ts
+  answers (of_literal l) us ts m = of_one l us ts (one_of l (come problem 1 state all_taken From l m.owner_comes)) m
   answers (of_axiom k) us ts m = absurd (no_axiom k m.pattern m.of_owner)
 
 its_sort : (n : ℕ) (t : Term) (s : Sort) → IsName system n t → sort_of signature t ≡ Some s → T ≡ s
@@ -385,7 +385,7 @@ its_sort n t s i e = same_Some T s (sym (of_leaves.symbol n t i).sort ∙ e)
 no_choices : choices_of signature (out-Sort T) ≡ None
 no_choices = ap (choices_of signature) (outs-Named 0 [])
 
-pub saturated_by : (bound : ℕ) → IsSaturatedBy problem 1 state (λ l. l) bound
+pub saturated_by : (bound : ℕ) → IsSaturatedBy problem 1 state all_taken bound
 saturated_by bound = record {
   consistent = consistent;
   completed = is_completed;
@@ -400,11 +400,11 @@ saturated_by bound = record {
   whole = λ n d t g i e h. absurd (not_int (its_sort n t Int i e));
   inequalities = λ l s t strict v w i e p q. absurd (never_inequality l (one_of l i) (s, t, strict) e);
   blocks = λ l q i e h. absurd (never_asks l (one_of l i) q e h);
-  instances = λ n o us ts h m k. answers n o us ts m;
+  instances = λ n o us ts h m k. let r = answers n o us ts m in (r.0, r.1, refl, r.2);
 }
 
 -- ---- the match
-module _ (st : Saturated) (takes : Lit → Lit) (axiom_stands : Contains st.literals (is_true fixed)) (goal_stands : Contains st.literals (is_false goal)) where
+module _ (st : Saturated) (takes : Selection) (axiom_stands : Contains st.literals (is_true fixed)) (goal_stands : Contains st.literals (is_false goal)) where
   abbrev Begin : Lit → Type 0
   Begin = HasGeneration problem 1 st takes 0
 
@@ -454,7 +454,7 @@ module _ (st : Saturated) (takes : Lit → Lit) (axiom_stands : Contains st.lite
           (no_arithmetic a) (f_here, f_here, itself)
 
 pub has_match : HasMatch state
-has_match = match_here state (λ l. l) stands_0 stands_1
+has_match = match_here state all_taken stands_0 stands_1
 
 -- ---- without the instance
 term_size_a : (join : ℕ → ℕ → ℕ) → term_size join a ≡ suc (join 0 0)
@@ -499,4 +499,4 @@ no_instance_is_refused limit bound h (takes, s) =
     let i =
     s.instances 0 (of_literal (is_true fixed)) [] (a ∷ []) h (match_here without_instance takes (0, omega arith, refl) (1, omega arith, refl))
     (subst (AllByRecursion (λ e. IsSmall e.1)) (sym instances_are) (small, tt)) in
-    no_answer i.0 i.1 i.2
+    no_answer i.0 i.1 i.3

@@ -35,7 +35,7 @@ use Rattle.ae_num.specs.declared.forms.Value.TheOpen as value_layer
 use Rattle.ae_num.specs.declared.forms.Value.TheVariants.{outs-Number, rolls-Number}
 use Rattle.ae_journal.specs.Values.{Val, Sum, Parts_discrete, minus_val, sum_in}
 use Rattle.ae_journal.specs.Systems.{Has, IsCompleted, IsName, IsNamed, ValueOf, value_at}
-use Rattle.ae_journal.specs.States.{AllSame, AreSame, HoldsAt, IsFirst, IsSaturated, SomeStands, at_point, inequality, outside}
+use Rattle.ae_journal.specs.States.{AllSame, AreSame, HoldsAt, IsFirst, IsSaturated, SomeStands, at_point, inequality, outside, all_taken}
 use Rattle.ae_journal.specs.States.{Comes, HasGeneration, Matches, Owner, of_literal, of_axiom, quant_of, is_universal_by}
 use Rattle.ae_journal.specs.States.AreSame.{itself, by_value}
 use Rattle.ae_journal.specs.States.IsFirst.{of_hypothesis, of_goal}
@@ -494,12 +494,12 @@ module _ (p : Problem) (g : ℕ) (st : Saturated) where
       (both equal (both unequal (both constructors (both decide_predicates (both exhausted (both whole inequalities)))))))))))
 
   module _ (free : IsQuantifierFree p g st) (bound : ℕ) where
-    reached : (n : ℕ) (l : Lit) → Comes p g st (λ m. m) (HasGeneration p g st (λ m. m) n) l → Contains st.literals l
+    reached : (n : ℕ) (l : Lit) → Comes p g st all_taken (HasGeneration p g st all_taken n) l → Contains st.literals l
     reached n l (comes_first a b) = b
     reached n l (by_row q c a b d e f h) = h
     reached n l (by_block q a b c d) = d
 
-    none_matches : (n : ℕ) (o : Owner) (us : List Sort) (ts : List Term) → Matches p g st (λ m. m) (HasGeneration p g st (λ m. m) n) o us ts → ⊥
+    none_matches : (n : ℕ) (o : Owner) (us : List Sort) (ts : List Term) → Matches p g st all_taken (HasGeneration p g st all_taken n) o us ts → ⊥
     none_matches n (of_axiom k) us ts m = free.axioms k m.pattern m.of_owner
     none_matches n (of_literal l) us ts m =
         let b = bind_some (only (is_universal_by l.positive (out-Formula l.formula)) (quant_of (out-Formula l.formula))) _ m.pattern m.of_owner in
@@ -508,7 +508,7 @@ module _ (p : Problem) (g : ℕ) (st : Saturated) where
 
     pub saturated : Flat → IsSaturated p g st bound
     saturated s = (
-      (λ l. l),
+      all_taken,
       record {
         consistent = s.consistent;
         completed = s.completed;

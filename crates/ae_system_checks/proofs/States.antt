@@ -24,7 +24,7 @@ use Rattle.ae_rules.specs.Clauses.{Clause, is_true, is_false, yes_of, no_of, row
 use Rattle.ae_rules.specs.Instances.{hypothesis}
 use Rattle.ae_rules.specs.declared.rows.TheConstants.{OR_FROM_LEFT, OR_FROM_RIGHT, OR_TO_EITHER}
 use Rattle.ae_rules.proofs.ClauseLaws.{row_or}
-use Rattle.ae_journal.specs.States.{SomeStands, Comes, HasGeneration, Matches, Owner, of_literal, of_axiom, Pattern, pattern_of}
+use Rattle.ae_journal.specs.States.{SomeStands, Comes, HasGeneration, Matches, Owner, of_literal, of_axiom, Pattern, pattern_of, all_taken, Selection}
 use Rattle.ae_journal.specs.States.{outside, outside_step, quant_of, is_universal_by, inequality, inequality_of}
 use Rattle.ae_journal.specs.States.Comes.{first as comes_first, by_row, by_block}
 use Rattle.ae_journal.specs.declared.systems.Saturated.{Saturated}
@@ -123,14 +123,14 @@ no_pattern p g l i q e =
     no_quant l i b.0 o.1
 
 -- what comes from other literals stands
-pub come : (p : Problem) (g : ℕ) (st : Saturated) (takes : Lit → Lit) (from : Lit → Type 0) (l : Lit) → Comes p g st takes from l → Contains st.literals l
+pub come : (p : Problem) (g : ℕ) (st : Saturated) (takes : Selection) (from : Lit → Type 0) (l : Lit) → Comes p g st takes from l → Contains st.literals l
 come p g st takes from l (comes_first a b) = b
 come p g st takes from l (by_row q c a b d e f h) = h
 come p g st takes from _ (by_block q a b c d) = d
 
 pub none_matches : (p : Problem) (st : Saturated) → ((l : Lit) → Contains st.literals l → Plain l) → (n : ℕ) (o : Owner) (us : List Sort) (ts : List Term)
-    → Matches p 0 st (λ m. m) (HasGeneration p 0 st (λ m. m) n) o us ts → ⊥
-none_matches p st plain n (of_literal l) us ts m = no_pattern p 0 l (plain l (come p 0 st (λ m. m) (HasGeneration p 0 st (λ m. m) n) l m.owner_comes)) m.pattern m.of_owner
+    → Matches p 0 st all_taken (HasGeneration p 0 st all_taken n) o us ts → ⊥
+none_matches p st plain n (of_literal l) us ts m = no_pattern p 0 l (plain l (come p 0 st all_taken (HasGeneration p 0 st all_taken n) l m.owner_comes)) m.pattern m.of_owner
 none_matches p st plain n (of_axiom k) us ts m = no_axiom p k m.pattern m.of_owner
 
 pub not_int : T ≢ Int

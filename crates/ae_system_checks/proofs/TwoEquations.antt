@@ -30,7 +30,7 @@ use Rattle.ae_rules.proofs.ClauseLaws.{literal_eq, literal_not, literal_or, row_
 use Rattle.ae_num.specs.declared.forms.Value.{Leaf}
 use Rattle.ae_journal.specs.Values.{Val, leaf, meaning}
 use Rattle.ae_journal.specs.Systems.{IsCompleted, IsJoin, IsLeaf, IsName, IsNamed, ValueOf, ValuesOf, fields_of, record_fields, value_at}
-use Rattle.ae_journal.specs.States.{IsSaturatedBy, SomeStands, IsFirst}
+use Rattle.ae_journal.specs.States.{IsSaturatedBy, SomeStands, IsFirst, all_taken}
 use Rattle.ae_journal.specs.States.{outside}
 use Rattle.ae_journal.specs.States.IsFirst.{of_hypothesis, of_goal}
 use Rattle.ae_journal.proofs.Splits.{contains_cases, contains_one}
@@ -481,7 +481,7 @@ no_choices = ap (choices_of signature) (outs-Named 0 [])
 its_sort : (n : ℕ) (t : Term) (s : Sort) → IsName system n t → sort_of signature t ≡ Some s → T ≡ s
 its_sort n t s i e = same_Some T s (sym (of_leaves.symbol n t i).sort ∙ e)
 
-pub saturated_by : (bound : ℕ) → IsSaturatedBy problem 0 state (λ l. l) bound
+pub saturated_by : (bound : ℕ) → IsSaturatedBy problem 0 state all_taken bound
 saturated_by bound = record {
   consistent = consistent;
   completed = completed;

@@ -8,7 +8,7 @@ use Rattle.ae_core.specs.declared.formulas.Lit.{Lit}
 use Rattle.ae_core.specs.declared.problems.Item.TheVariants.{Axiom, Goal}
 use Rattle.ae_core.specs.declared.problems.Problem.{Problem}
 use Rattle.ae_num.specs.declared.forms.Value.{Leaf}
-use Rattle.ae_journal.specs.States.{Matches, HasGeneration, of_literal}
+use Rattle.ae_journal.specs.States.{Matches, HasGeneration, of_literal, all_taken}
 use Rattle.ae_journal.specs.declared.systems.System.{System}
 use Rattle.ae_journal.specs.declared.systems.Saturated.{Saturated}
 use Rattle.ae_system_checks.specs.Examples.{signature, T, a, b, f}
@@ -45,4 +45,4 @@ without_instance = record { literals = is_true fixed ∷ is_false goal ∷ []; s
 
 -- a matches: the axiom's literal, a and f(a) stand from the beginning
 abbrev pub HasMatch : Saturated → Type 0
-HasMatch st = Matches problem 1 st (λ l. l) (HasGeneration problem 1 st (λ l. l) 0) (of_literal (is_true fixed)) [] (a ∷ [])
+HasMatch st = Matches problem 1 st all_taken (HasGeneration problem 1 st all_taken 0) (of_literal (is_true fixed)) [] (a ∷ [])
