@@ -22,27 +22,35 @@ use Rattle.ae_journal.proofs.Splits.{contains_cases, contains_one}
 use Rattle.ae_evaluation.proofs.Literals.{simple-Not, simple-And, simple-Or, simple-Xor, simple-Iff, lt_not_simple, le_not_simple, all_not_simple, ex_not_simple}
 
 -- ---- each form of formula
+pub simple_true : is_simple True ≡ true
+unfolding is_simple
+simple_true = fold_true Bool (Unit {0}) simple_step (λ q. tt)
+
+pub simple_false : is_simple False ≡ true
+unfolding is_simple
+simple_false = fold_false Bool (Unit {0}) simple_step (λ q. tt)
+
 pub simple_eq : (a b : Term) → is_simple (Eq a b) ≡ true
 unfolding is_simple
 simple_eq a b = fold_eq Bool (Unit {0}) simple_step (λ q. tt) a b
 
-simple_lt : (a b : Term) → is_simple (Lt a b) ≡ false
+pub simple_lt : (a b : Term) → is_simple (Lt a b) ≡ false
 unfolding is_simple
 simple_lt a b = fold_lt Bool (Unit {0}) simple_step (λ q. tt) a b
 
-simple_le : (a b : Term) → is_simple (Le a b) ≡ false
+pub simple_le : (a b : Term) → is_simple (Le a b) ≡ false
 unfolding is_simple
 simple_le a b = fold_le Bool (Unit {0}) simple_step (λ q. tt) a b
 
-simple_pred : (n : ℕ) (ss : List Sort) (us : List Term) → is_simple (Pred n ss us) ≡ true
+pub simple_pred : (n : ℕ) (ss : List Sort) (us : List Term) → is_simple (Pred n ss us) ≡ true
 unfolding is_simple
 simple_pred n ss us = fold_pred Bool (Unit {0}) simple_step (λ q. tt) n ss us
 
-simple_all : (q : Quant) → is_simple (All q) ≡ false
+pub simple_all : (q : Quant) → is_simple (All q) ≡ false
 unfolding is_simple
 simple_all q = fold_all Bool (Unit {0}) simple_step (λ q. tt) q
 
-simple_ex : (q : Quant) → is_simple (Ex q) ≡ false
+pub simple_ex : (q : Quant) → is_simple (Ex q) ≡ false
 unfolding is_simple
 simple_ex q = fold_ex Bool (Unit {0}) simple_step (λ q. tt) q
 

@@ -1,5 +1,5 @@
--- Goals for which a search decides nothing, and the terms that bound how many lines it notes.
-use Rattle.std.specs.Prelude.{ℕ, List, [], ◌≡◌, length, Some}
+-- What occurs in a goal; goals for which a search decides nothing, and the terms that bound how many lines it notes.
+use Rattle.std.specs.Prelude.{ℕ, List, [], ◌∷◌, ◌≡◌, length, Some}
 use Rattle.std.specs.List.{Contains}
 use Rattle.ae_core.specs.Sorts.{sort_of}
 use Rattle.ae_core.specs.Putting.{put_formula}
@@ -15,6 +15,7 @@ use Rattle.ae_rules.specs.Defining.{ComesApart}
 use Rattle.ae_rules.specs.Derivations.{goal_body}
 use Rattle.ae_rules.specs.Instances.{hypothesis, count_from}
 use Rattle.ae_rules.specs.Lines.{IsAc}
+use Rattle.ae_journal.specs.Ground.{HoldsEnumeration}
 use Rattle.ae_journal.specs.States.{outside}
 use Rattle.ae_journal.specs.Systems.{record_fields, field_terms}
 
@@ -41,6 +42,16 @@ module _ (p : Problem) (g : ℕ) where
   -- no declared AC symbol is applied
   abbrev pub HasNoSymbols : Type 0
   HasNoSymbols = (k : ℕ) (ss : List Sort) (us : List Term) → Occurs (Apply (head.Symbol k) ss us) → ¬ (IsAc p.signature (head.Symbol k))
+
+  -- no term of a sort that holds an enumeration occurs
+  abbrev pub HasNoEnumerations : Type 0
+  HasNoEnumerations = (t : Term) (s : Sort) → Occurs t → sort_of p.signature t ≡ Some s → ¬ (HoldsEnumeration p.signature s)
+
+  -- no declared AC symbol works on a sort that holds an enumeration, of which a term occurs: none could join the term with itself
+  abbrev pub JoinsNoEnumerations : Type 0
+  JoinsNoEnumerations =
+      (k : ℕ) (ss : List Sort) (t : Term) (s : Sort) → IsAc p.signature (head.Symbol k) → Occurs t → sort_of p.signature (Apply (head.Symbol k) ss (t ∷ t ∷ [])) ≡ Some s
+      → ¬ (HoldsEnumeration p.signature s)
 
   -- the list has all terms that occur, but for predicates' applications
   abbrev pub HoldsTerms : List Term → Type 0

@@ -1,3 +1,3 @@
--- Which goals are answered so far (Reach); of those, for which a search decides nothing, and the terms that bound its lines (Budget).
+-- Which goals are answered so far (Reach); what occurs in a goal, for which goals a search decides nothing, and the terms that bound its lines (Budget).
 pub mod Reach
 pub mod Budget

@@ -1,11 +1,8 @@
--- Goals that are answered so far: those of the ground fragment without enumerations, their terms plain or not.
+-- Goals that are answered so far: without inequality, and without quantifier but for a goal's own block.
 use Rattle.std.specs.Prelude.{ℕ, ◌<◌, true, List, [], ◌≡◌, slice_get, Some}
-use Rattle.std.specs.List.{AllByRecursion, flat_map}
 use Rattle.ae_core.specs.Constants.{formula_constants}
-use Rattle.ae_core.specs.Sorts.{sort_of, formula_ok}
+use Rattle.ae_core.specs.Sorts.{formula_ok}
 use Rattle.ae_core.specs.Putting.{put_formula}
-use Rattle.ae_core.specs.declared.terms.Sort.{Sort}
-use Rattle.ae_core.specs.declared.terms.Term.{Term}
 use Rattle.ae_core.specs.declared.formulas.Formula.{Formula, All}
 use Rattle.ae_core.specs.declared.formulas.Quant.{Quant}
 use Rattle.ae_core.specs.declared.problems.Signature.{Signature}
@@ -13,23 +10,15 @@ use Rattle.ae_core.specs.declared.problems.Problem.{Problem}
 use Rattle.ae_core.specs.declared.problems.Item.TheVariants.{Axiom}
 use Rattle.ae_rules.specs.Instances.{hypothesis, count_from}
 use Rattle.ae_rules.specs.Derivations.{goal_body}
-use Rattle.ae_journal.specs.Ground.{IsFragmentSort, HoldsEnumeration, is_simple, atom_terms, subterms}
-
--- a sort of the ground fragment that holds no enumeration: `real`, a type variable of the goal, an abstract type, a record type whose fields have such sorts
-abbrev pub IsSortInReach : Signature → Sort → Type 0
-IsSortInReach sig s = IsFragmentSort sig s × ¬ HoldsEnumeration sig s
-
-abbrev pub IsTermInReach : Signature → Term → Type 0
-IsTermInReach sig t = (s : Sort) × (sort_of sig t ≡ Some s) × IsSortInReach sig s
+use Rattle.ae_journal.specs.Ground.{is_simple}
 
 -- closed and well sorted, without fresh constants, as each formula of a lawful problem is
 abbrev pub IsClosedFormula : Signature → Formula → Type 0
 IsClosedFormula sig f = (formula_ok sig f ≡ true) × (formula_constants f ≡ [])
 
--- no quantifier and no inequality; every term but a predicate's application is of such a sort
+-- no quantifier and no inequality
 pub record IsFormulaInReach (sig : Signature) (f : Formula) : Type 0 where
   pub simple : is_simple f ≡ true
-  pub terms : AllByRecursion (IsTermInReach sig) (flat_map subterms (atom_terms f))
 
 -- such a formula, or one `forall` block over one, whose variables are read as constants
 pub data IsGoalInReach (sig : Signature) : Formula → Type 0 where

@@ -1,4 +1,2 @@
-pub mod ReachedSorts
-pub mod ReachedTerms
 pub mod ReachedFormulas
 pub mod ReachedGoals

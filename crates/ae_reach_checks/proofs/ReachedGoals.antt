@@ -1,7 +1,7 @@
 -- Goals in the reach, their hypotheses, and that what is computed says which they are.
 use Rattle.std.specs.Prelude.{ℕ, ◌<◌, true, ◌&&◌, nat_eq, nat_lt, List, [], ◌∷◌, ◌≡◌, ◌↔◌, map, slice_get, Option, Some, None}
 use Rattle.std.specs.List.{AllByRecursion}
-use Rattle.std.proofs.Common.{refl, sym, ap, ◌∙◌, subst, arith}
+use Rattle.std.proofs.Common.{refl, sym, ap, ◌∙◌, subst, arith, inl, inr}
 use Rattle.std.proofs.lemmas.Option.{same_Some}
 use Rattle.std.proofs.lemmas.Bool.Decides.{nat_tests}
 use Rattle.ae_base.specs.Options.{◌>>=◌, only}
@@ -9,9 +9,9 @@ use Rattle.ae_base.proofs.Options.{never_some, bind_some, only_some, when_some}
 use Rattle.ae_base.proofs.Tests.{three_parts}
 use Rattle.ae_base.proofs.AllOf.{all_at}
 use Rattle.ae_core.specs.Inner.Induction.{by_sorts, by_terms, by_formulas}
-use Rattle.ae_core.specs.Putting.{put_sort, put_formula, instance, instance_term, instance_quant}
+use Rattle.ae_core.specs.Putting.{put_sort, instance, instance_term, instance_quant}
 use Rattle.ae_core.specs.Sorts.{formula_ok}
-use Rattle.ae_core.specs.Signatures.{IsLawful, IsLawfulItem, IsLawfulProblem}
+use Rattle.ae_core.specs.Signatures.{IsLawfulItem, IsLawfulProblem}
 use Rattle.ae_core.proofs.PuttingLaws.{put_var, put_rigid, put_int, put_real, put_bool, put_unit, put_named, instance_bound, instance_num, instance_fresh, instance_apply, instance_true, instance_false, instance_eq, instance_lt, instance_le}
 use Rattle.ae_core.proofs.PuttingLaws.{instance_pred, instance_not, instance_and, instance_or, instance_xor, instance_iff, instance_all, instance_ex, instance_block}
 use Rattle.ae_core.specs.declared.terms.Sort.{Sort, Named}
@@ -29,8 +29,9 @@ use Rattle.ae_rules.specs.Derivations.{goal_body}
 use Rattle.ae_journal.specs.Ground.{is_simple}
 use Rattle.ae_evaluation.proofs.Literals.{all_not_simple}
 use Rattle.ae_reach.specs.Reach.{IsGoalInReach, plain, block, IsInReach}
-use Rattle.ae_reach_checks.specs.Decisions.{formula_reached, goal_layer, goal_reached, AreItemsReached, AreReached}
-use Rattle.ae_reach_checks.proofs.ReachedFormulas.{formula_decided}
+use Rattle.ae_reach.proofs.Blocks.{goal_cases}
+use Rattle.ae_reach.proofs.Simple.{simple_put}
+use Rattle.ae_reach_checks.specs.Decisions.{goal_layer, goal_reached, AreItemsReached, AreReached}
 
 -- ---- no sorts put change nothing
 sort_kept : (s : Sort) → put_sort [] s ≡ s
@@ -119,75 +120,76 @@ module _ (p : Problem) (g : ℕ) where
   body_at i at = ap (λ (o : Option Item). o >>= λ i. elim i as (λ _. Option Formula) [ Axiom n v f ↦ None | Goal n v f ↦ Some f ]) at
 
 -- ---- the goal
+not_block : (f : Formula) → ((q : Quant) → f ≡ All q → ⊥) → goal_reached f ≡ is_simple f
+not_block f n = go (out-Formula f) refl
+  where
+    go : (o : Formula-F Formula Quant) → out-Formula f ≡ o → goal_layer f o ≡ is_simple f
+    go (layer.All q) e = absurd (n q (sym (roll-out-Formula f) ∙ ap roll-Formula e ∙ rolls-All q))
+    go (layer.Ex q) e = refl
+    go layer.True e = refl
+    go layer.False e = refl
+    go (layer.Eq a b) e = refl
+    go (layer.Lt a b) e = refl
+    go (layer.Le a b) e = refl
+    go (layer.Pred m ss us) e = refl
+    go (layer.Not a) e = refl
+    go (layer.And a b) e = refl
+    go (layer.Or a b) e = refl
+    go (layer.Xor a b) e = refl
+    go (layer.Iff a b) e = refl
+
+of_block : (q : Quant) → goal_reached (All q) ≡ is_simple q.body
+of_block q = ap (goal_layer (All q)) (outs-All q)
+
 module _ (sig : Signature) where
-  pub not_block : (f : Formula) → ((q : Quant) → f ≡ All q → ⊥) → goal_reached sig f ≡ formula_reached sig f
-  not_block f n = go (out-Formula f) refl
+  goal_in : (f : Formula) → goal_reached f ≡ true → IsGoalInReach sig f
+  goal_in f h = go (out-Formula f) refl
     where
-      go : (o : Formula-F Formula Quant) → out-Formula f ≡ o → goal_layer sig f o ≡ formula_reached sig f
-      go (layer.All q) e = absurd (n q (sym (roll-out-Formula f) ∙ ap roll-Formula e ∙ rolls-All q))
-      go (layer.Ex q) e = refl
-      go layer.True e = refl
-      go layer.False e = refl
-      go (layer.Eq a b) e = refl
-      go (layer.Lt a b) e = refl
-      go (layer.Le a b) e = refl
-      go (layer.Pred m ss us) e = refl
-      go (layer.Not a) e = refl
-      go (layer.And a b) e = refl
-      go (layer.Or a b) e = refl
-      go (layer.Xor a b) e = refl
-      go (layer.Iff a b) e = refl
+      as_plain : is_simple f ≡ true → IsGoalInReach sig f
+      as_plain e = plain (record { simple = e })
 
-  pub of_block : (q : Quant) → goal_reached sig (All q) ≡ formula_reached sig (put_formula (count_from 0 q.sorts) q.body)
-  of_block q = ap (goal_layer sig (All q)) (outs-All q)
+      at : (o : Formula-F Formula Quant) → out-Formula f ≡ o → goal_layer f o ≡ true
+      at o e = ap (goal_layer f) (sym e) ∙ h
 
-  module _ (lawful : IsLawful sig) where
-    goal_in : (f : Formula) → goal_reached sig f ≡ true → IsGoalInReach sig f
-    goal_in f h = go (out-Formula f) refl
-      where
-        as_plain : formula_reached sig f ≡ true → IsGoalInReach sig f
-        as_plain e = plain ((formula_decided sig lawful f).0 e)
+      go : (o : Formula-F Formula Quant) → out-Formula f ≡ o → IsGoalInReach sig f
+      go (layer.All q) e =
+          subst (IsGoalInReach sig) (sym (sym (roll-out-Formula f) ∙ ap roll-Formula e ∙ rolls-All q))
+          (block q (record { simple = simple_put (count_from 0 q.sorts) q.body 0 ∙ at (layer.All q) e }))
+      go (layer.Ex q) e = as_plain (at (layer.Ex q) e)
+      go layer.True e = as_plain (at layer.True e)
+      go layer.False e = as_plain (at layer.False e)
+      go (layer.Eq a b) e = as_plain (at (layer.Eq a b) e)
+      go (layer.Lt a b) e = as_plain (at (layer.Lt a b) e)
+      go (layer.Le a b) e = as_plain (at (layer.Le a b) e)
+      go (layer.Pred m ss us) e = as_plain (at (layer.Pred m ss us) e)
+      go (layer.Not a) e = as_plain (at (layer.Not a) e)
+      go (layer.And a b) e = as_plain (at (layer.And a b) e)
+      go (layer.Or a b) e = as_plain (at (layer.Or a b) e)
+      go (layer.Xor a b) e = as_plain (at (layer.Xor a b) e)
+      go (layer.Iff a b) e = as_plain (at (layer.Iff a b) e)
 
-        at : (o : Formula-F Formula Quant) → out-Formula f ≡ o → goal_layer sig f o ≡ true
-        at o e = ap (goal_layer sig f) (sym e) ∙ h
-
-        go : (o : Formula-F Formula Quant) → out-Formula f ≡ o → IsGoalInReach sig f
-        go (layer.All q) e =
-            subst (IsGoalInReach sig) (sym (sym (roll-out-Formula f) ∙ ap roll-Formula e ∙ rolls-All q))
-            (block q ((formula_decided sig lawful (put_formula (count_from 0 q.sorts) q.body)).0 (at (layer.All q) e)))
-        go (layer.Ex q) e = as_plain (at (layer.Ex q) e)
-        go layer.True e = as_plain (at layer.True e)
-        go layer.False e = as_plain (at layer.False e)
-        go (layer.Eq a b) e = as_plain (at (layer.Eq a b) e)
-        go (layer.Lt a b) e = as_plain (at (layer.Lt a b) e)
-        go (layer.Le a b) e = as_plain (at (layer.Le a b) e)
-        go (layer.Pred m ss us) e = as_plain (at (layer.Pred m ss us) e)
-        go (layer.Not a) e = as_plain (at (layer.Not a) e)
-        go (layer.And a b) e = as_plain (at (layer.And a b) e)
-        go (layer.Or a b) e = as_plain (at (layer.Or a b) e)
-        go (layer.Xor a b) e = as_plain (at (layer.Xor a b) e)
-        go (layer.Iff a b) e = as_plain (at (layer.Iff a b) e)
-
-    in_goal : (f : Formula) → IsGoalInReach sig f → goal_reached sig f ≡ true
-    in_goal f (plain r) = not_block f (λ q e. all_not_simple q (ap is_simple (sym e) ∙ r.simple)) ∙ (formula_decided sig lawful f).1 r
-    in_goal f (block q r) = of_block q ∙ (formula_decided sig lawful (put_formula (count_from 0 q.sorts) q.body)).1 r
+  in_goal : (f : Formula) → IsGoalInReach sig f → goal_reached f ≡ true
+  in_goal f r = elim (goal_cases sig f r) as (λ _. goal_reached f ≡ true) [
+    | inl s ↦ not_block f (λ q e. all_not_simple q (ap is_simple (sym e) ∙ s)) ∙ s
+    | inr w ↦ ap goal_reached w.1 ∙ of_block w.0 ∙ w.2
+  ]
 
 -- ---- the whole
 module _ (p : Problem) (g : ℕ) (lawful : IsLawfulProblem p) (n : List ℕ) (v : ℕ) (f : Formula) (at : slice_get p.items g ≡ Some (Goal n v f)) where
-  in_reach : formula_ok p.signature f ≡ true → goal_reached p.signature f ≡ true → AreItemsReached p.signature p.items g → IsInReach p g
+  in_reach : formula_ok p.signature f ≡ true → goal_reached f ≡ true → AreItemsReached p.signature p.items g → IsInReach p g
   in_reach s r is = record {
     not_varied = λ k m w h l e. let t = (parts k m w h l e).0 in grind (arith, nat_tests, t);
-    hypotheses = λ k h e. let y = hypothesis_by p g k h e in (formula_decided p.signature lawful.signature h).0 (parts k y.name y.vars h y.below y.at).2;
+    hypotheses = λ k h e. let y = hypothesis_by p g k h e in record { simple = (parts k y.name y.vars h y.below y.at).2 };
     closed = λ k h e. let y = hypothesis_by p g k h e in ((parts k y.name y.vars h y.below y.at).1, (all_at (IsLawfulItem p.signature) p.items k (Axiom y.name y.vars h) lawful.items y.at).2);
     goal = f;
     is = body_at p g (Goal n v f) at;
-    ground = goal_in p.signature lawful.signature f r;
+    ground = goal_in p.signature f r;
     goal_closed = (s, (all_at (IsLawfulItem p.signature) p.items g (Goal n v f) lawful.items at).2);
   }
     where
       parts : (k : ℕ) (m : List ℕ) (w : ℕ) (h : Formula) → k < g → slice_get p.items k ≡ Some (Axiom m w h)
-          → (nat_eq w 0 ≡ true) × (formula_ok p.signature h ≡ true) × (formula_reached p.signature h ≡ true)
-      parts k m w h l e = three_parts (nat_eq w 0) (formula_ok p.signature h) (formula_reached p.signature h) (is k (Axiom m w h) l e)
+          → (nat_eq w 0 ≡ true) × (formula_ok p.signature h ≡ true) × (is_simple h ≡ true)
+      parts k m w h l e = three_parts (nat_eq w 0) (formula_ok p.signature h) (is_simple h) (is k (Axiom m w h) l e)
 
   same_goal : (r : IsInReach p g) → r.goal ≡ f
   same_goal r = sym (same_Some f r.goal (sym (body_at p g (Goal n v f) at) ∙ r.is))
@@ -195,8 +197,8 @@ module _ (p : Problem) (g : ℕ) (lawful : IsLawfulProblem p) (n : List ℕ) (v 
   goal_sorted : IsInReach p g → formula_ok p.signature f ≡ true
   goal_sorted r = ap (formula_ok p.signature) (sym (same_goal r)) ∙ r.goal_closed.0
 
-  goal_is_reached : IsInReach p g → goal_reached p.signature f ≡ true
-  goal_is_reached r = in_goal p.signature lawful.signature f (subst (IsGoalInReach p.signature) (same_goal r) r.ground)
+  goal_is_reached : IsInReach p g → goal_reached f ≡ true
+  goal_is_reached r = in_goal p.signature f (subst (IsGoalInReach p.signature) (same_goal r) r.ground)
 
   items_are_reached : IsInReach p g → AreItemsReached p.signature p.items g
   items_are_reached r k (Goal m w h) l e = refl
@@ -204,8 +206,8 @@ module _ (p : Problem) (g : ℕ) (lawful : IsLawfulProblem p) (n : List ℕ) (v 
       let z : w ≡ 0 = r.not_varied k m w h l e in
       let y = is_hypothesis p g k m h l (e ∙ ap (λ (u : ℕ). Some (Axiom m u h)) z) in
       let s = (r.closed k h y).0 in
-      let x = (formula_decided p.signature lawful.signature h).1 (r.hypotheses k h y) in
-      (λ i. nat_eq (z i) 0 && formula_ok p.signature h && formula_reached p.signature h) ∙ (λ i. s i && x i)
+      let x = (r.hypotheses k h y).simple in
+      (λ i. nat_eq (z i) 0 && formula_ok p.signature h && is_simple h) ∙ (λ i. s i && x i)
 
   pub decided : AreReached p g f ↔ IsInReach p g
   decided = (λ a. in_reach a.0 a.1 a.2, λ r. (goal_sorted r, goal_is_reached r, items_are_reached r))

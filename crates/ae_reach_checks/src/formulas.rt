@@ -1,53 +1,35 @@
 //! Formulas in the reach.
-ghost use Rattle.std.specs.Prelude.{◌≡◌, IfOk};
-ghost use Rattle.ae_core.specs.Signatures.{IsLawful};
-ghost use Rattle.ae_reach_checks.specs.Decisions as spec;
+ghost use Rattle.std.specs.Prelude.{◌≡◌};
+ghost use Rattle.ae_journal.specs.Ground.{is_simple};
 
-use crate::terms::{sort_reached, sorts_reached};
 use ae_core::formulas::Formula;
-use ae_core::problems::Signature;
-use std::alloc::{AllocError, Global};
 
-/// Whether a formula is in the reach.
+/// Whether a formula is without inequality and without quantifier.
 #[tactic(auto, using(crate::proofs::ReachedFormulas::formula_rules))]
-pub fn is_formula_in_reach(
-    alloc: Global,
-    signature: &Signature,
-    formula: &Formula,
-) -> Result<bool, AllocError>
-    requires lawful { IsLawful signature.now }
-    ensures { IfOk result (λ b. b ≡ spec.formula_reached signature.now formula.now) }
+pub fn is_formula_in_reach(formula: &Formula) -> bool
+    ensures { result ≡ is_simple formula.now }
 {
     match formula {
-        Formula::True => Ok(true),
-        Formula::False => Ok(true),
-        Formula::Eq { left, right } => Ok(
-            sort_reached(alloc, signature, left)?.is_some()
-                && sort_reached(alloc, signature, right)?.is_some(),
-        ),
-        Formula::Lt { .. } => Ok(false),
-        Formula::Le { .. } => Ok(false),
-        Formula::Pred { args, .. } => {
-            Ok(sorts_reached(alloc, signature, args.as_slice())?.is_some())
+        Formula::True => true,
+        Formula::False => true,
+        Formula::Eq { .. } => true,
+        Formula::Lt { .. } => false,
+        Formula::Le { .. } => false,
+        Formula::Pred { .. } => true,
+        Formula::Not(part) => is_formula_in_reach(part.get()),
+        Formula::And(left, right) => {
+            is_formula_in_reach(left.get()) && is_formula_in_reach(right.get())
         }
-        Formula::Not(part) => is_formula_in_reach(alloc, signature, part.get()),
-        Formula::And(left, right) => Ok(
-            is_formula_in_reach(alloc, signature, left.get())?
-                && is_formula_in_reach(alloc, signature, right.get())?,
-        ),
-        Formula::Or(left, right) => Ok(
-            is_formula_in_reach(alloc, signature, left.get())?
-                && is_formula_in_reach(alloc, signature, right.get())?,
-        ),
-        Formula::Xor(left, right) => Ok(
-            is_formula_in_reach(alloc, signature, left.get())?
-                && is_formula_in_reach(alloc, signature, right.get())?,
-        ),
-        Formula::Iff(left, right) => Ok(
-            is_formula_in_reach(alloc, signature, left.get())?
-                && is_formula_in_reach(alloc, signature, right.get())?,
-        ),
-        Formula::All(_) => Ok(false),
-        Formula::Ex(_) => Ok(false),
+        Formula::Or(left, right) => {
+            is_formula_in_reach(left.get()) && is_formula_in_reach(right.get())
+        }
+        Formula::Xor(left, right) => {
+            is_formula_in_reach(left.get()) && is_formula_in_reach(right.get())
+        }
+        Formula::Iff(left, right) => {
+            is_formula_in_reach(left.get()) && is_formula_in_reach(right.get())
+        }
+        Formula::All(_) => false,
+        Formula::Ex(_) => false,
     }
 }

@@ -5,30 +5,19 @@ ghost use Rattle.ae_reach.specs.Reach.{IsInReach};
 ghost use Rattle.ae_reach_checks.specs.Decisions as spec;
 
 use crate::formulas::is_formula_in_reach;
-use ae_base::lists::{Boxed, at};
-use ae_calc::instances::count_from;
+use ae_base::lists::at;
 use ae_core::formulas::Formula;
 use ae_core::problems::{Item, Problem, Signature};
-use ae_core::putting::substitute;
 use ae_core::sorts::formula_ok;
 use std::alloc::{AllocError, Global};
 
-/// Whether a goal's formula is in the reach: the variables of a `forall` block are read as constants.
-fn is_goal_in_reach(
-    alloc: Global,
-    signature: &Signature,
-    formula: &Formula,
-) -> Result<bool, AllocError>
-    requires lawful { IsLawful signature.now }
-    ensures { IfOk result (λ b. b ≡ spec.goal_reached signature.now formula.now) }
+/// Whether a goal's formula is in the reach: of a `forall` block its body, whose variables are read as constants.
+fn is_goal_in_reach(formula: &Formula) -> bool
+    ensures { result ≡ spec.goal_reached formula.now }
 {
     match formula {
-        Formula::All(quant) => {
-            let terms = count_from(alloc, 0, quant.sorts.as_slice())?;
-            let body = Boxed::new(alloc, substitute(alloc, quant, terms.as_slice())?)?;
-            is_formula_in_reach(alloc, signature, body.get())
-        }
-        _ => is_formula_in_reach(alloc, signature, formula),
+        Formula::All(quant) => is_formula_in_reach(quant.body.get()),
+        _ => is_formula_in_reach(formula),
     }
 }
 
@@ -38,11 +27,9 @@ fn is_item_in_reach(alloc: Global, signature: &Signature, item: &Item) -> Result
     ensures { IfOk result (λ b. b ≡ spec.item_reached signature.now item.now) }
 {
     match item {
-        Item::Axiom { vars, body, .. } => Ok(
-            *vars == 0
-                && formula_ok(alloc, signature, body)?
-                && is_formula_in_reach(alloc, signature, body)?,
-        ),
+        Item::Axiom { vars, body, .. } => {
+            Ok(*vars == 0 && formula_ok(alloc, signature, body)? && is_formula_in_reach(body))
+        }
         Item::Goal { .. } => Ok(true),
     }
 }
@@ -83,7 +70,7 @@ fn is_all_in_reach(
     if !formula_ok(alloc, &problem.signature, body)? {
         return Ok(false);
     }
-    if !is_goal_in_reach(alloc, &problem.signature, body)? {
+    if !is_goal_in_reach(body) {
         return Ok(false);
     }
     are_items_in_reach(alloc, &problem.signature, problem.items.as_slice(), goal)

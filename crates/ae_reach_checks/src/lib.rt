@@ -3,7 +3,5 @@
 
 mod formulas;
 mod goals;
-mod sorts;
-mod terms;
 
 pub use goals::is_in_reach;
