@@ -192,12 +192,21 @@ module _ (p : Problem) (g : ℕ) (reach : IsInReach p g) where
             (over_literal _ (put_formula (count_from 0 q.sorts) q.body) (ground (simple_put (count_from 0 q.sorts) q.body 0 ∙ simple_body q e)))
       ]
 
-  pub goes_on_over : (firsts lines : List ClauseLine) (first clauses : List Clause) (places : List ℕ) → AreFirst p g firsts first → ((fs : List Formula) → HasParts fs → AllAmong fs first → AllAmong fs clauses)
-      → IsStated p g lines clauses places → AreOverGround p g clauses
-  goes_on_over firsts lines first clauses places are among stated = record {
-    ground = keeps_to (IsGroundOrGoal p g) over_part first clauses
-        (λ c l o k. let w = line_of p g firsts first are.states o.0 o.1 in first_over w.0 (clause first o.0) w.1.0 l (subst (λ (x : Clause). Contains x l) (sym o.2) k)) among;
+  -- the clauses that a search begins with are over the goal and simple formulas
+  pub firsts_over : (firsts : List ClauseLine) (first : List Clause) → AreFirst p g firsts first → (c : Clause) (l : Lit) → IsOneOf first c → Contains c l → IsGroundOrGoal p g l.formula
+  firsts_over firsts first are c l o k =
+      let w = line_of p g firsts first are.states o.0 o.1 in first_over w.0 (clause first o.0) w.1.0 l (subst (λ (x : Clause). Contains x l) (sym o.2) k)
+
+  -- and so are those that it goes on to
+  pub over_from : (lines : List ClauseLine) (first clauses : List Clause) (places : List ℕ) → ((c : Clause) (l : Lit) → IsOneOf first c → Contains c l → IsGroundOrGoal p g l.formula)
+      → ((fs : List Formula) → HasParts fs → AllAmong fs first → AllAmong fs clauses) → IsStated p g lines clauses places → AreOverGround p g clauses
+  over_from lines first clauses places over among stated = record {
+    ground = keeps_to (IsGroundOrGoal p g) over_part first clauses over among;
     sorted = λ c l o k.
         sorted_one (λ (m : Lit). formula_ok p.signature m.formula) (clause clauses o.0) l (clause_sorted p g lines clauses places stated o.0 o.1)
         (subst (λ (x : Clause). Contains x l) (sym o.2) k);
   }
+
+  pub goes_on_over : (firsts lines : List ClauseLine) (first clauses : List Clause) (places : List ℕ) → AreFirst p g firsts first → ((fs : List Formula) → HasParts fs → AllAmong fs first → AllAmong fs clauses)
+      → IsStated p g lines clauses places → AreOverGround p g clauses
+  goes_on_over firsts lines first clauses places are among stated = over_from lines first clauses places (firsts_over firsts first are) among stated

@@ -34,8 +34,12 @@ fn push_line(lines: &mut Vec<ClauseLine>, line: ClauseLine) -> Result<(), AllocE
     }
 }
 
-/// Puts a line with its clause behind the others.
-fn keep_line(first: &mut FirstClauses, line: ClauseLine, clause: Clause) -> Result<(), AllocError>
+/// Puts a line with its clause behind the others. `Err` where there is no memory.
+pub fn keep_line(
+    first: &mut FirstClauses,
+    line: ClauseLine,
+    clause: Clause,
+) -> Result<(), AllocError>
     ensures { OnOk result ((first.new.lines.items ≡ first.old.lines.items ++ line ∷ []) × (first.new.clauses ≡ first.old.clauses ++ clause ∷ [])) }
 {
     push_line(&mut first.lines, line)?;

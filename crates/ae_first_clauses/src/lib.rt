@@ -4,4 +4,4 @@
 mod beginning;
 pub mod laws;
 
-pub use beginning::{FirstClauses, begin};
+pub use beginning::{FirstClauses, begin, keep_line};

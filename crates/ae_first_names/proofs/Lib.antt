@@ -1,4 +1,3 @@
 pub mod Lists
 pub mod Stripped
-pub mod Reaching
 pub mod FirstNames

@@ -1,3 +1,4 @@
+pub mod Choices
 pub mod Trails
 pub mod Formulas
 pub mod Constants

@@ -1,5 +1,5 @@
 -- What a search shows that has nothing left to do is a saturated state, clause by clause.
-use Rattle.std.specs.Prelude.{ℕ, ◌<◌, Bool, true, false, not, nat_lt, List, [], ◌∷◌, ◌≡◌, slice_get, Option, Some, None}
+use Rattle.std.specs.Prelude.{ℕ, ◌<◌, Bool, true, false, not, nat_lt, List, [], ◌∷◌, ◌≡◌, map, slice_get, Option, Some, None}
 use Rattle.std.specs.List.{AllByRecursion, Contains}
 use Rattle.std.proofs.Common.{refl, sym, ap, ◌∙◌, subst, inl, inr}
 use Rattle.std.proofs.lemmas.Bool.{ltb-true}
@@ -9,8 +9,9 @@ use Rattle.ae_base.proofs.Options.{never_some, bind_some, only_some}
 use Rattle.ae_base.proofs.Tests.{false_true}
 use Rattle.ae_core.specs.Putting.{put_formula}
 use Rattle.ae_core.specs.Sorts.{formula_ok}
-use Rattle.ae_core.specs.declared.terms.Sort.{Sort}
-use Rattle.ae_core.specs.declared.terms.Term.{Term}
+use Rattle.ae_core.specs.declared.terms.Sort.{Sort, out-Sort}
+use Rattle.ae_core.specs.declared.terms.Term.{Term, Apply}
+use Rattle.ae_core.specs.declared.terms.Head.{Head}
 use Rattle.ae_core.specs.declared.formulas.Formula.{Eq, Pred, All, out-Formula}
 use Rattle.ae_core.specs.declared.formulas.Formula.TheVariants.{outs-All}
 use Rattle.ae_core.specs.declared.formulas.Lit.{Lit}
@@ -20,14 +21,15 @@ use Rattle.ae_core.specs.declared.problems.Item.{Item}
 use Rattle.ae_core.specs.declared.problems.Item.TheVariants.{Axiom, Goal}
 use Rattle.ae_rules.specs.Clauses.{Clause, literal, yes_of, no_of, is_true, is_false, opposite, row}
 use Rattle.ae_rules.specs.Defining.{called_rows}
-use Rattle.ae_rules.specs.Instances.{count_from, have_sorts}
+use Rattle.ae_rules.specs.Instances.{choices_of, count_from, have_sorts}
 use Rattle.ae_rules.specs.Derivations.{goal_body}
 use Rattle.ae_rules.proofs.ClauseLaws.{literal_all}
 use Rattle.ae_explain.specs.declared.trail.Assigned.{Assigned}
 use Rattle.ae_explain.specs.Trail.{clause}
 use Rattle.ae_propagation.proofs.Trails.{consistent}
-use Rattle.ae_journal.specs.Systems.{IsNamed}
-use Rattle.ae_journal.specs.States.{IsSaturated, IsSaturatedBy, Stands, SomeStands, IsFirst, of_hypothesis, of_goal, Comes, first, by_row, by_block, Matches, HasGeneration}
+use Rattle.ae_journal.specs.Systems.{IsNamed, Has, ValueOf, value_at}
+use Rattle.ae_journal.specs.Values.{Val}
+use Rattle.ae_journal.specs.States.{IsSaturated, IsSaturatedBy, Stands, SomeStands, IsFirst, of_hypothesis, of_goal, Comes, first, by_row, by_block, Matches, HasGeneration, Selection, all_taken}
 use Rattle.ae_journal.specs.States.{Owner, of_literal, of_axiom, Pattern, pattern_of, axiom_pattern, is_universal, is_universal_by, quant_of, body_literal, outside}
 use Rattle.ae_journal.specs.declared.systems.System.{System}
 use Rattle.ae_journal.proofs.Splits.{contains_cases, contains_one}
@@ -39,8 +41,10 @@ use Rattle.ae_sat.specs.Standing.{IsOneOf}
 use Rattle.ae_sat.proofs.Atoms.{atom_eq, atom_pred}
 use Rattle.ae_sat.proofs.Called.{called_or_own}
 use Rattle.ae_sat.proofs.Deriving.{in_clause}
+use Rattle.ae_open_states.specs.Choices.{IsChoiceOf}
 use Rattle.ae_open_states.specs.Finished.{IsFinished}
 use Rattle.ae_open_states.specs.Shown.{shown}
+use Rattle.ae_open_states.proofs.Choices.{choice, of_head, exhaustion_is}
 use Rattle.ae_open_states.proofs.Trails.{place_of, stands_so, atom_told, all_of_each}
 use Rattle.ae_open_states.proofs.Formulas.{no_order, quantified}
 use Rattle.ae_reach.proofs.Blocks.{block_or_not, one_block}
@@ -93,6 +97,34 @@ module _ (p : Problem) (g : ℕ) (s : Stored) (t : List Assigned) (clauses : Lis
         | inr k ↦ (l, k, h)
       ]
 
+  -- ---- enumerations: a name is a constructor, or its clause has a true literal
+  -- a constructor has the value
+  abbrev HasChoice : List Head → Val → Type 0
+  HasChoice hs v = (h : Head) × Contains hs h × ValueOf y (Apply h [] []) v
+
+  constructor_exhausted : (o : Sort) (v : Val) (n : ℕ) (hs : List Head) (has : Has p.signature y o v n) → choices_of p.signature (out-Sort o) ≡ Some hs → IsChoiceOf p.signature has.term has.term
+      → HasChoice hs v
+  constructor_exhausted o v n hs has e k =
+      let same : k.sort ≡ o = same_Some k.sort o (sym k.sorted ∙ has.sort) in
+      let those : k.heads ≡ hs = same_Some k.heads hs (sym k.choices ∙ ap (λ (s : Sort). choices_of p.signature (out-Sort s)) same ∙ e) in
+      (k.head, subst (λ (ws : List Head). Contains ws k.head) those k.one, (n, has.is ∙ ap (λ (z : Term). Some z) k.is, has.value))
+
+  clause_exhausted : (o : Sort) (v : Val) (n : ℕ) (hs : List Head) (has : Has p.signature y o v n) → IsOneOf clauses (map (choice has.term) hs) → HasChoice hs v
+  clause_exhausted o v n hs has c =
+      let u = has.term in
+      let w = true_in (map (choice u) hs) c in
+      let h = of_head (choice u) hs w.0 w.1 in
+      let e = done.satisfied.equal u (Apply h.0 [] []) (atom_holds (choice u h.0) (atom_eq u (Apply h.0 [] [])) (subst Is (sym h.2) w.2)) in
+      let same : e.0 ≡ v = same_Some e.0 v (sym (e.1).2 ∙ ap (value_at y) (done.completed.apart (e.1).0 n u (e.1).1 has.is) ∙ has.value) in
+      (h.0, h.1, subst (ValueOf y (Apply h.0 [] [])) same e.2)
+
+  name_exhausted : (o : Sort) (v : Val) (n : ℕ) (hs : List Head) → Has p.signature y o v n → choices_of p.signature (out-Sort o) ≡ Some hs → HasChoice hs v
+  name_exhausted o v n hs has e =
+      elim (done.choices n has.term (map (choice has.term) hs) has.is (exhaustion_is p.signature has.term o hs has.sort e)) as (λ _. HasChoice hs v) [
+        | inl k ↦ constructor_exhausted o v n hs has e k
+        | inr c ↦ clause_exhausted o v n hs has c
+      ]
+
   -- ---- quantified literals: the goal, which is false
   is_goal : (l : Lit) → Is l → (q : Quant) → quant_of (out-Formula l.formula) ≡ Some q → (l.formula ≡ All q) × (goal_body p g ≡ Some (All q))
   is_goal l h q e = let c = of_clause l h in quantified p g l.formula (done.over.ground c.0 l c.1 c.2) q e
@@ -124,7 +156,7 @@ module _ (p : Problem) (g : ℕ) (s : Stored) (t : List Assigned) (clauses : Lis
           false_true (ap (nat_lt 0) (sym (done.not_varied k n v f lt at)) ∙ w.0)
       by_item (Goal n v f) lt at h = never_some q h
 
-  module _ (takes : Lit → Lit) where
+  module _ (takes : Selection) where
     comes_so : (m : ℕ) (l : Lit) → Comes p g (shown t y) takes (HasGeneration p g (shown t y) takes m) l → Is l
     comes_so m l (first a b) = b
     comes_so m l (by_row r c a b d e h i) = i
@@ -140,7 +172,7 @@ module _ (p : Problem) (g : ℕ) (s : Stored) (t : List Assigned) (clauses : Lis
     -- what is taken for a quantified literal that asks for terms
     abbrev Takes : Type 0
     Takes = (l : Lit) (q : Quant) → Is l → is_universal l ≡ false → quant_of (out-Formula l.formula) ≡ Some q
-        → Is (takes l) × (ts : List Term) × (have_sorts p.signature ts q.sorts ≡ true) × (body_literal l ts ≡ Some (takes l))
+        → Is (takes.body l) × (ts : List Term) × (have_sorts p.signature ts q.sorts ≡ true) × (body_literal l ts ≡ Some (takes.body l))
 
     saturated_by : Takes → (bound : ℕ) → IsSaturatedBy p g (shown t y) takes bound
     saturated_by taken bound = record {
@@ -154,7 +186,7 @@ module _ (p : Problem) (g : ℕ) (s : Stored) (t : List Assigned) (clauses : Lis
       constructors = done.satisfied.constructors;
       predicates = λ q ss ts us h o.
           done.satisfied.predicates q ss ts us (atom_holds (is_true (Pred q ss ts)) (atom_pred q ss ts) h) (atom_holds (is_false (Pred q ss us)) (atom_pred q ss us) o);
-      exhausted = λ o v n hs h e. absurd (done.no_choices n h.term o hs h.is h.sort e);
+      exhausted = name_exhausted;
       whole = done.satisfied.whole;
       inequalities = λ l a b strict v w h e i j. absurd (let c = of_clause l h in no_order p g l.formula (done.over.ground c.0 l c.1 c.2) l.positive (a, b, strict) e);
       blocks = taken;
@@ -165,6 +197,9 @@ module _ (p : Problem) (g : ℕ) (s : Stored) (t : List Assigned) (clauses : Lis
   abbrev body_of : (q : Quant) → goal_body p g ≡ Some (All q) → Lit
   body_of q e = no_of (put_formula (count_from (done.firsts.block q e).0 q.sorts) q.body)
 
+  block_taken : (q : Quant) → goal_body p g ≡ Some (All q) → Selection
+  block_taken q e = record { body = λ l. body_of q e; instances = λ o us ts. true }
+
   body_stands : (q : Quant) (e : goal_body p g ≡ Some (All q)) → Is (body_of q e)
   body_stands q e =
       let b = done.firsts.block q e in
@@ -174,7 +209,8 @@ module _ (p : Problem) (g : ℕ) (s : Stored) (t : List Assigned) (clauses : Lis
         | inr i ↦ subst Is (sym (contains_one (body_of q e) h.0 i)) h.2
       ]
 
-  body_taken : (q : Quant) (e : goal_body p g ≡ Some (All q)) → Takes (λ l. body_of q e)
+  body_taken : (q : Quant) (e : goal_body p g ≡ Some (All q)) → Takes (block_taken q e)
+  unfolding block_taken literal
   body_taken q e l r h u i =
       let x = is_goal l h r i in
       let sign = sign_of l r false x.0 u in
@@ -192,6 +228,6 @@ module _ (p : Problem) (g : ℕ) (s : Stored) (t : List Assigned) (clauses : Lis
   pub saturated : (bound : ℕ) → IsSaturated p g (shown t y) bound
   saturated bound =
       elim (block_or_not (goal_body p g)) as (λ _. IsSaturated p g (shown t y) bound) [
-        | inl w ↦ ((λ l. body_of w.0 w.1), saturated_by (λ l. body_of w.0 w.1) (body_taken w.0 w.1) bound)
-        | inr n ↦ ((λ l. l), saturated_by (λ l. l) (λ l q h u e. absurd (n q (is_goal l h q e).1)) bound)
+        | inl w ↦ (block_taken w.0 w.1, saturated_by (block_taken w.0 w.1) (body_taken w.0 w.1) bound)
+        | inr n ↦ (all_taken, saturated_by all_taken (λ l q h u e. absurd (n q (is_goal l h q e).1)) bound)
       ]

@@ -1,18 +1,16 @@
 -- A search for a goal without inequality and inner quantifier that has nothing left to do.
-use Rattle.std.specs.Prelude.{ℕ, ◌<◌, true, List, [], ◌∷◌, ◌≡◌, length, slice_get, Some, None}
+use Rattle.std.specs.Prelude.{ℕ, ◌<◌, true, List, [], ◌∷◌, ◌≡◌, ◌⊎◌, length, slice_get, Some, None}
 use Rattle.std.specs.List.{Contains}
-use Rattle.ae_core.specs.Sorts.{sort_of, formula_ok}
+use Rattle.ae_core.specs.Sorts.{formula_ok}
 use Rattle.ae_core.specs.Putting.{put_formula}
-use Rattle.ae_core.specs.declared.terms.Sort.{Sort, out-Sort}
 use Rattle.ae_core.specs.declared.terms.Term.{Term}
-use Rattle.ae_core.specs.declared.terms.Head.{Head}
 use Rattle.ae_core.specs.declared.formulas.Formula.{Formula, All}
 use Rattle.ae_core.specs.declared.formulas.Lit.{Lit}
 use Rattle.ae_core.specs.declared.formulas.Quant.{Quant}
 use Rattle.ae_core.specs.declared.problems.Problem.{Problem}
 use Rattle.ae_core.specs.declared.problems.Item.TheVariants.{Axiom}
 use Rattle.ae_rules.specs.Clauses.{Clause, yes_of, no_of, is_true}
-use Rattle.ae_rules.specs.Instances.{hypothesis, choices_of, count_from}
+use Rattle.ae_rules.specs.Instances.{hypothesis, exhaustion, count_from}
 use Rattle.ae_rules.specs.Derivations.{goal_body}
 use Rattle.ae_explain.specs.declared.trail.Assigned.{Assigned}
 use Rattle.ae_explain.specs.Trail.{at, IsLawful}
@@ -26,6 +24,7 @@ use Rattle.ae_theory.specs.Noting.{literals}
 use Rattle.ae_sat.specs.Marked.{atoms}
 use Rattle.ae_sat.specs.Search.{AllNamed, IsOpen}
 use Rattle.ae_sat.specs.Standing.{IsOneOf}
+use Rattle.ae_open_states.specs.Choices.{IsChoiceOf}
 
 module _ (p : Problem) (g : ℕ) where
   -- a formula without quantifier and inequality, or the goal where that is one `forall` block
@@ -45,7 +44,7 @@ module _ (p : Problem) (g : ℕ) where
     pub sorted : (c : Clause) (l : Lit) → IsOneOf clauses c → Contains c l → formula_ok p.signature l.formula ≡ true
 
   -- the hypotheses have no type variables; the clauses of the search; its trail, in which each clause has a true literal; and a completed system of all names,
-  -- none of them of an enumeration, in which the atoms of the trail hold
+  -- each of which is a constructor, or has its clause where its sort is an enumeration, in which the atoms of the trail hold
   pub record IsFinished (s : Stored) (t : List Assigned) (clauses : List Clause) (y : System) : Type 0 where
     pub not_varied : (k : ℕ) (name : List ℕ) (v : ℕ) (f : Formula) → k < g → slice_get p.items k ≡ Some (Axiom name v f) → v ≡ 0
     pub firsts : HasFirstClauses clauses
@@ -55,6 +54,6 @@ module _ (p : Problem) (g : ℕ) where
     pub all_true : IsOpen t clauses
     pub named : AllNamed s clauses
     pub names : y.names ≡ terms_in s
-    pub no_choices : (n : ℕ) (u : Term) (o : Sort) (hs : List Head) → IsName y n u → sort_of p.signature u ≡ Some o → ¬ (choices_of p.signature (out-Sort o) ≡ Some hs)
+    pub choices : (n : ℕ) (u : Term) (c : Clause) → IsName y n u → exhaustion p.signature u ≡ Some c → IsChoiceOf p.signature u u ⊎ IsOneOf clauses c
     pub completed : IsCompleted p.signature y
     pub satisfied : Satisfies p.signature y (literals (atoms t))

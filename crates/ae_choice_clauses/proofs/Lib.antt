@@ -1,0 +1,4 @@
+pub mod Kept
+pub mod Constructors
+pub mod Growth
+pub mod Begun

@@ -1,2 +1,0 @@
--- What the names of a search are.
-pub mod Reached
