@@ -1,54 +1,31 @@
--- Terms and formulas of the fragment: those that are plain and in reach, the first formulas of a goal, and parts of formulas.
+-- Formulas of the fragment: parts of formulas, and the first formulas of a goal.
 use Rattle.std.specs.Prelude.{ℕ, true, List, [], ◌∷◌, ◌++◌, ◌≡◌, Some}
-use Rattle.std.specs.List.{AllByRecursion, Contains, flat_map}
+use Rattle.std.specs.List.{AllByRecursion, Contains, list_all}
 use Rattle.std.proofs.Common.{sym, ap, ◌∙◌, subst, inl, inr}
 use Rattle.std.proofs.lemmas.Option.{same_Some}
-use Rattle.ae_base.proofs.AllOf.{all_front, all_back, all_weaker}
+use Rattle.ae_base.proofs.AllOf.{all_front, all_back}
 use Rattle.ae_base.proofs.Options.{never_some}
 use Rattle.ae_core.specs.Inner.Induction.{by_formulas}
-use Rattle.ae_core.specs.Putting.{put_formula}
-use Rattle.ae_core.specs.declared.terms.Sort.{Sort}
+use Rattle.ae_core.specs.Sorts.{formula_ok, is_closed_sort}
 use Rattle.ae_core.specs.declared.terms.Term.{Term}
 use Rattle.ae_core.specs.declared.formulas.Formula.{Formula, True, False, Eq, Lt, Le, Pred, And, Or, Xor, Iff, All, Ex}
 use Rattle.ae_core.specs.declared.formulas.Formula.TheVariants.{outs-True, outs-False, outs-Eq, outs-Lt, outs-Le, outs-Pred, outs-Not, outs-And, outs-Or, outs-Xor, outs-Iff, outs-All, outs-Ex}
 use Rattle.ae_core.specs.declared.formulas.Quant.{Quant}
 use Rattle.ae_core.specs.declared.problems.Signature.{Signature}
 use Rattle.ae_core.specs.declared.problems.Problem.{Problem}
+use Rattle.ae_core.proofs.SortFacts.{block_parts}
+use Rattle.ae_core.proofs.SortLaws.{formula_in_all}
 use Rattle.ae_rules.specs.Clauses.{Clause, row}
-use Rattle.ae_rules.specs.Instances.{count_from}
 use Rattle.ae_rules.specs.Derivations.{goal_body}
-use Rattle.ae_rules.specs.Linear.{is_plain}
 use Rattle.ae_rules.proofs.ClauseLaws.{row_all}
-use Rattle.ae_journal.specs.Ground.{HoldsEnumeration, is_simple, atom_terms, subterms, HasFragmentSort, JoinsNoEnumeration, IsFragmentTerm, IsGroundFormula, IsGroundGoal, IsGround, MayStand}
+use Rattle.ae_journal.specs.Ground.{atom_terms, IsFragmentTerm, IsGroundFormula, IsGroundGoal, IsGround, MayStand}
 use Rattle.ae_journal.specs.Standing.{parts_by, parts_of}
 use Rattle.ae_journal.proofs.Splits.{contains_cases, contains_one}
-use Rattle.ae_evaluation.proofs.Decisions.{both_all}
-use Rattle.ae_evaluation.proofs.Literals.{all_not_simple}
 use Rattle.ae_reach.specs.Budget.{IsFirst, a_hypothesis, the_goal, the_block}
-use Rattle.ae_reach.specs.Reach.{IsTermInReach, IsFormulaInReach, IsGoalInReach, plain, block, IsInReach}
-use Rattle.ae_reach.proofs.Blocks.{one_block}
+use Rattle.ae_reach.specs.Reach.{IsInReach}
 use Rattle.ae_reach.proofs.Simple.{no_part, simple_part}
-use Rattle.ae_ground_laws.proofs.Plain.{PlainAtoms, Plain, atoms_not, atoms_and, atoms_or, atoms_xor, atoms_iff, body_atoms}
-
--- ---- plain terms in reach are of the fragment
-pub fragment : (sig : Signature) (t : Term) → is_plain t ≡ true → AllByRecursion (IsTermInReach sig) (subterms t) → IsFragmentTerm sig [] t
-fragment sig t p a = record {
-  plain = p;
-  sorted = all_weaker (IsTermInReach sig) (HasFragmentSort sig []) (λ u r. (r.0, r.1, r.2.0)) (subterms t) a;
-  joins = all_weaker (IsTermInReach sig) (JoinsNoEnumeration sig [])
-      (λ u r h ss us s e ac so. subst (λ (z : Sort). ¬ (HoldsEnumeration sig z)) (same_Some r.0 s (sym r.1 ∙ so)) r.2.1) (subterms t) a;
-}
-
-fragments : (sig : Signature) (ts : List Term) → AllByRecursion (IsTermInReach sig) (flat_map subterms ts) → AllByRecursion Plain ts → AllByRecursion (IsFragmentTerm sig []) ts
-fragments sig [] a p = tt
-fragments sig (t ∷ ts) a p = let b = both_all (IsTermInReach sig) (subterms t) (flat_map subterms ts) a in (fragment sig t p.0 b.0, fragments sig ts b.1 p.1)
-
-ground_formula : (sig : Signature) (f : Formula) → IsFormulaInReach sig f → PlainAtoms f → IsGroundFormula sig [] f
-ground_formula sig f r p = record { simple = r.simple; terms = fragments sig (atom_terms f) r.terms p }
-
-block_in_reach : (sig : Signature) (f : Formula) (q : Quant) → IsGoalInReach sig f → f ≡ All q → IsFormulaInReach sig (put_formula (count_from 0 q.sorts) q.body)
-block_in_reach sig f q (plain r) e = absurd (all_not_simple q (ap is_simple (sym e) ∙ r.simple))
-block_in_reach sig _ q (block r w) e = subst (λ (z : Quant). IsFormulaInReach sig (put_formula (count_from 0 z.sorts) z.body)) (one_block r q e) w
+use Rattle.ae_ground_laws.proofs.Plain.{ground_block, atoms_not, atoms_and, atoms_or, atoms_xor, atoms_iff}
+use Rattle.ae_ground_laws.proofs.PutFragment.{formula_put}
 
 -- ---- parts
 module _ (P : Term → Type 0) where
@@ -86,15 +63,18 @@ ground_part sig f h c i = record { simple = simple_part f h i.simple c; terms = 
 
 -- ---- the formulas of a proof
 module _ (p : Problem) (g : ℕ) (ground : IsGround p g) where
+  -- the sorts of a block's variables are closed
+  block_closed : IsInReach p g → (q : Quant) → goal_body p g ≡ Some (All q) → list_all (is_closed_sort p.signature) q.sorts ≡ true
+  block_closed reach q e =
+      let ok = subst (λ (h : Formula). formula_ok p.signature h ≡ true) (same_Some reach.goal (All q) (sym reach.is ∙ e)) reach.goal_closed.0 in
+      (block_parts p.signature q (sym (formula_in_all p.signature (is_closed_sort p.signature) [] q) ∙ ok)).0
+
   pub first_stands : IsInReach p g → (f : Formula) → IsFirst p g f → MayStand p g f
   first_stands reach _ (a_hypothesis k f e) = inl (ground.hypotheses k f e)
   first_stands reach _ (the_goal f e) = inr e
-  first_stands reach _ (the_block q e) =
-      inl
-      (ground_formula p.signature (put_formula (count_from 0 q.sorts) q.body)
-      (block_in_reach p.signature reach.goal q reach.ground (same_Some reach.goal (All q) (sym reach.is ∙ e))) (body_atoms p g ground q e))
+  first_stands reach _ (the_block q e) = inl (formula_put p.signature q.sorts (block_closed reach q e) q.body (ground_block p g ground q e).body)
 
-  goal_is : (f : Formula) → goal_body p g ≡ Some f → f ≡ ground.goal
+  pub goal_is : (f : Formula) → goal_body p g ≡ Some f → f ≡ ground.goal
   goal_is f e = same_Some f ground.goal (sym e ∙ ground.is)
 
   goal_part : (f h : Formula) → f ≡ ground.goal → Contains (parts_of f) h → IsGroundGoal p.signature ground.goal → MayStand p g h

@@ -1,6 +1,10 @@
 pub mod Constants
 pub mod Plain
+pub mod Subterms
+pub mod PutFragment
 pub mod Fragment
+pub mod OccurringTerms
 pub mod Built
+pub mod Chosen
 pub mod Counted
 pub mod Trims

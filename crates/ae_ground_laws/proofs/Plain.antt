@@ -3,6 +3,7 @@ use Rattle.std.specs.Prelude.{ℕ, zero, suc, ◌-◌, ℤ, Bool, true, false, c
 use Rattle.std.specs.List.{AllByRecursion, list_all}
 use Rattle.std.proofs.Common.{refl, sym, ap, ◌∙◌, subst, inl, inr}
 use Rattle.std.proofs.lemmas.Bool.{and_parts, and_from, or_left, or_right}
+use Rattle.std.proofs.lemmas.List.{map-append}
 use Rattle.std.proofs.lemmas.Option.{same_Some}
 use Rattle.ae_base.specs.Options.{or_else}
 use Rattle.ae_base.proofs.AllOf.{all_append, all_front, all_back, all_at, all_reversed, all_weaker, all_of_test}
@@ -15,7 +16,7 @@ use Rattle.ae_core.specs.declared.terms.Head.{Head}
 use Rattle.ae_core.specs.declared.terms.Head.TheVariants as head
 use Rattle.ae_core.specs.declared.terms.Op.TheVariants as op
 use Rattle.ae_core.specs.declared.terms.Term.{Term, Bound, Num, Fresh, Apply, Apply'}
-use Rattle.ae_core.specs.declared.formulas.Formula.{Formula, Eq, Lt, Le, Pred, Not, And, Or, Xor, Iff, All}
+use Rattle.ae_core.specs.declared.formulas.Formula.{Formula, True, False, Eq, Lt, Le, Pred, Not, And, Or, Xor, Iff, All}
 use Rattle.ae_core.specs.declared.formulas.Quant.{Quant}
 use Rattle.ae_core.specs.declared.problems.Signature.{Signature}
 use Rattle.ae_core.specs.declared.problems.Problem.{Problem}
@@ -98,7 +99,7 @@ module _ (ts : List Term) (all : AllByRecursion Plain ts) where
   abbrev put : Term → Term
   put = put_terms 0 ts
 
-  plain_put : (t : Term) → is_plain t ≡ true → is_plain (put t) ≡ true
+  pub plain_put : (t : Term) → is_plain t ≡ true → is_plain (put t) ≡ true
   plain_put =
       by_terms (λ t. is_plain t ≡ true → is_plain (put t) ≡ true)
       (λ i e.
@@ -117,7 +118,7 @@ module _ (ts : List Term) (all : AllByRecursion Plain ts) where
   all_put [] a = tt
   all_put (u ∷ us) a = (plain_put u a.0, all_put us a.1)
 
-constants_plain : (m : ℕ) (ss : List Sort) → AllByRecursion Plain (count_from m ss)
+pub constants_plain : (m : ℕ) (ss : List Sort) → AllByRecursion Plain (count_from m ss)
 constants_plain m [] = tt
 constants_plain m (s ∷ ss) = (plain_fresh m s, constants_plain (suc m) ss)
 
@@ -125,19 +126,19 @@ constants_plain m (s ∷ ss) = (plain_fresh m s, constants_plain (suc m) ss)
 abbrev pub PlainAtoms : Formula → Type 0
 PlainAtoms f = AllByRecursion Plain (atom_terms f)
 
-atoms_eq : (a b : Term) → atom_terms (Eq a b) ≡ a ∷ b ∷ []
+pub atoms_eq : (a b : Term) → atom_terms (Eq a b) ≡ a ∷ b ∷ []
 unfolding atom_terms
 atoms_eq a b = fold_eq (List Term) (Unit {0}) atom_terms_step (λ q. tt) a b
 
-atoms_lt : (a b : Term) → atom_terms (Lt a b) ≡ a ∷ b ∷ []
+pub atoms_lt : (a b : Term) → atom_terms (Lt a b) ≡ a ∷ b ∷ []
 unfolding atom_terms
 atoms_lt a b = fold_lt (List Term) (Unit {0}) atom_terms_step (λ q. tt) a b
 
-atoms_le : (a b : Term) → atom_terms (Le a b) ≡ a ∷ b ∷ []
+pub atoms_le : (a b : Term) → atom_terms (Le a b) ≡ a ∷ b ∷ []
 unfolding atom_terms
 atoms_le a b = fold_le (List Term) (Unit {0}) atom_terms_step (λ q. tt) a b
 
-atoms_pred : (n : ℕ) (ss : List Sort) (us : List Term) → atom_terms (Pred n ss us) ≡ us
+pub atoms_pred : (n : ℕ) (ss : List Sort) (us : List Term) → atom_terms (Pred n ss us) ≡ us
 unfolding atom_terms
 atoms_pred n ss us = fold_pred (List Term) (Unit {0}) atom_terms_step (λ q. tt) n ss us
 
@@ -161,42 +162,45 @@ pub atoms_iff : (a b : Formula) → atom_terms (Iff a b) ≡ atom_terms a ++ ato
 unfolding atom_terms
 atoms_iff a b = fold_iff (List Term) (Unit {0}) atom_terms_step (λ q. tt) a b
 
-module _ (ts : List Term) (all : AllByRecursion Plain ts) where
-  abbrev PutIn : Formula → Type 0
-  PutIn f = is_simple f ≡ true → PlainAtoms f → PlainAtoms (put_formula_in 0 ts f)
+atoms_true : atom_terms True ≡ []
+unfolding atom_terms
+atoms_true = fold_true (List Term) (Unit {0}) atom_terms_step (λ q. tt)
 
-  -- a formula that has the atoms of two parts, and so with the terms put
-  two_put : (f h a b : Formula) → atom_terms f ≡ atom_terms a ++ atom_terms b → atom_terms h ≡ atom_terms (put_formula_in 0 ts a) ++ atom_terms (put_formula_in 0 ts b)
-      → PutIn a → PutIn b → is_simple a && is_simple b ≡ true → PlainAtoms f → PlainAtoms h
-  two_put f h a b e d k l s p =
+atoms_false : atom_terms False ≡ []
+unfolding atom_terms
+atoms_false = fold_false (List Term) (Unit {0}) atom_terms_step (λ q. tt)
+
+-- with terms put for variables
+module _ (ts : List Term) where
+  abbrev PutsAtoms : Formula → Type 0
+  PutsAtoms f = is_simple f ≡ true → atom_terms (put_formula_in 0 ts f) ≡ map (put_terms 0 ts) (atom_terms f)
+
+  of_two : (f h a b : Formula) → atom_terms f ≡ atom_terms a ++ atom_terms b → atom_terms h ≡ atom_terms (put_formula_in 0 ts a) ++ atom_terms (put_formula_in 0 ts b)
+      → PutsAtoms a → PutsAtoms b → is_simple a && is_simple b ≡ true → atom_terms h ≡ map (put_terms 0 ts) (atom_terms f)
+  of_two f h a b e d k l s =
       let c = and_parts (is_simple a) (is_simple b) s in
-      let q = subst (AllByRecursion Plain) e p in
-      subst (AllByRecursion Plain) (sym d)
-      (all_append Plain (atom_terms (put_formula_in 0 ts a)) (atom_terms (put_formula_in 0 ts b)) (k c.0 (all_front Plain (atom_terms a) (atom_terms b) q)) (l c.1 (all_back Plain (atom_terms a) (atom_terms b) q)))
+      d ∙ (λ i. k c.0 i ++ l c.1 i) ∙ sym (map-append (put_terms 0 ts) (atom_terms a) (atom_terms b)) ∙ ap (map (put_terms 0 ts)) (sym e)
 
-  atoms_put : (f : Formula) → PutIn f
-  atoms_put =
-      by_formulas PutIn (λ q. Unit {0})
-      (λ s p. subst PlainAtoms (sym (put_true 0 ts)) p)
-      (λ s p. subst PlainAtoms (sym (put_false 0 ts)) p)
-      (λ a b s p.
-      subst PlainAtoms (sym (put_eq 0 ts a b))
-      (subst (AllByRecursion Plain) (sym (atoms_eq (put_terms 0 ts a) (put_terms 0 ts b))) (all_put ts all (a ∷ b ∷ []) (subst (AllByRecursion Plain) (atoms_eq a b) p))))
-      (λ a b s p. absurd (lt_not_simple a b s))
-      (λ a b s p. absurd (le_not_simple a b s))
-      (λ n ss us s p.
-      subst PlainAtoms (sym (put_pred 0 ts n ss us))
-      (subst (AllByRecursion Plain) (sym (atoms_pred n ss (map (put_terms 0 ts) us))) (all_put ts all us (subst (AllByRecursion Plain) (atoms_pred n ss us) p))))
-      (λ a k s p.
-      subst PlainAtoms (sym (put_not 0 ts a))
-      (subst (AllByRecursion Plain) (sym (atoms_not (put_formula_in 0 ts a))) (k (sym (simple-Not a) ∙ s) (subst (AllByRecursion Plain) (atoms_not a) p))))
-      (λ a b k l s p. two_put (And a b) (put_formula_in 0 ts (And a b)) a b (atoms_and a b) (ap atom_terms (put_and 0 ts a b) ∙ atoms_and _ _) k l (sym (simple-And a b) ∙ s) p)
-      (λ a b k l s p. two_put (Or a b) (put_formula_in 0 ts (Or a b)) a b (atoms_or a b) (ap atom_terms (put_or 0 ts a b) ∙ atoms_or _ _) k l (sym (simple-Or a b) ∙ s) p)
-      (λ a b k l s p. two_put (Xor a b) (put_formula_in 0 ts (Xor a b)) a b (atoms_xor a b) (ap atom_terms (put_xor 0 ts a b) ∙ atoms_xor _ _) k l (sym (simple-Xor a b) ∙ s) p)
-      (λ a b k l s p. two_put (Iff a b) (put_formula_in 0 ts (Iff a b)) a b (atoms_iff a b) (ap atom_terms (put_iff 0 ts a b) ∙ atoms_iff _ _) k l (sym (simple-Iff a b) ∙ s) p)
-      (λ q k s p. absurd (all_not_simple q s))
-      (λ q k s p. absurd (ex_not_simple q s))
+  pub atoms_of_put : (f : Formula) → PutsAtoms f
+  atoms_of_put =
+      by_formulas PutsAtoms (λ q. Unit {0})
+      (λ s. ap atom_terms (put_true 0 ts) ∙ atoms_true ∙ ap (map (put_terms 0 ts)) (sym atoms_true))
+      (λ s. ap atom_terms (put_false 0 ts) ∙ atoms_false ∙ ap (map (put_terms 0 ts)) (sym atoms_false))
+      (λ a b s. ap atom_terms (put_eq 0 ts a b) ∙ atoms_eq (put_terms 0 ts a) (put_terms 0 ts b) ∙ ap (map (put_terms 0 ts)) (sym (atoms_eq a b)))
+      (λ a b s. absurd (lt_not_simple a b s))
+      (λ a b s. absurd (le_not_simple a b s))
+      (λ n ss us s. ap atom_terms (put_pred 0 ts n ss us) ∙ atoms_pred n ss (map (put_terms 0 ts) us) ∙ ap (map (put_terms 0 ts)) (sym (atoms_pred n ss us)))
+      (λ a k s. ap atom_terms (put_not 0 ts a) ∙ atoms_not (put_formula_in 0 ts a) ∙ k (sym (simple-Not a) ∙ s) ∙ ap (map (put_terms 0 ts)) (sym (atoms_not a)))
+      (λ a b k l s. of_two (And a b) (put_formula_in 0 ts (And a b)) a b (atoms_and a b) (ap atom_terms (put_and 0 ts a b) ∙ atoms_and _ _) k l (sym (simple-And a b) ∙ s))
+      (λ a b k l s. of_two (Or a b) (put_formula_in 0 ts (Or a b)) a b (atoms_or a b) (ap atom_terms (put_or 0 ts a b) ∙ atoms_or _ _) k l (sym (simple-Or a b) ∙ s))
+      (λ a b k l s. of_two (Xor a b) (put_formula_in 0 ts (Xor a b)) a b (atoms_xor a b) (ap atom_terms (put_xor 0 ts a b) ∙ atoms_xor _ _) k l (sym (simple-Xor a b) ∙ s))
+      (λ a b k l s. of_two (Iff a b) (put_formula_in 0 ts (Iff a b)) a b (atoms_iff a b) (ap atom_terms (put_iff 0 ts a b) ∙ atoms_iff _ _) k l (sym (simple-Iff a b) ∙ s))
+      (λ q k s. absurd (all_not_simple q s))
+      (λ q k s. absurd (ex_not_simple q s))
       (λ q k. tt)
+
+  atoms_put : AllByRecursion Plain ts → (f : Formula) → is_simple f ≡ true → PlainAtoms f → PlainAtoms (put_formula_in 0 ts f)
+  atoms_put all f s p = subst (AllByRecursion Plain) (sym (atoms_of_put f s)) (all_put ts all (atom_terms f) p)
 
 -- ---- the terms and predicate applications outside quantified parts
 abbrev PlainOutside : Formula → Type 0

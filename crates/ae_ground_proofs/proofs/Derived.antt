@@ -1,10 +1,13 @@
 -- The lines of a derivation that goes on from the first lines by lines over their formulas and over the names are lines of a ground proof.
-use Rattle.std.specs.Prelude.{ℕ, List, [], ◌∷◌, ◌++◌, ◌≡◌}
+use Rattle.std.specs.Prelude.{ℕ, List, [], ◌∷◌, ◌++◌, ◌≡◌, map, Some}
 use Rattle.std.specs.List.{AllByRecursion, Contains}
 use Rattle.std.proofs.Common.{sym, subst}
+use Rattle.ae_base.specs.Options.{◌>>=◌}
 use Rattle.ae_base.specs.Relations.{Pairwise}
 use Rattle.ae_base.proofs.AllOf.{all_append, all_back, all_both, all_weaker}
+use Rattle.ae_base.proofs.Options.{bind_some}
 use Rattle.ae_core.specs.Signatures.{IsLawful}
+use Rattle.ae_core.specs.Sorts.{sort_of}
 use Rattle.ae_core.specs.declared.formulas.Formula.{Formula}
 use Rattle.ae_core.specs.declared.formulas.Lit.{Lit}
 use Rattle.ae_core.specs.declared.problems.Signature.{Signature}
@@ -13,9 +16,12 @@ use Rattle.ae_core.specs.declared.proofs.EqLine.{EqLine}
 use Rattle.ae_core.specs.declared.proofs.ClauseLine.{ClauseLine}
 use Rattle.ae_core.specs.declared.proofs.ClauseLine.TheVariants.{Hyp, Goal, Def, Inst, Fresh as FreshLine, Exh, Tri, Block, Rup}
 use Rattle.ae_core.specs.declared.proofs.Proof.{Proof}
+use Rattle.ae_core.specs.declared.terms.Sort.{out-Sort}
+use Rattle.ae_core.specs.declared.terms.Term.{Term}
 use Rattle.ae_rules.specs.Built.{IsBuiltEquation}
 use Rattle.ae_rules.specs.Clauses.{Clause}
 use Rattle.ae_rules.specs.Derivations.{IsAllowed, AreAllowed, Derives}
+use Rattle.ae_rules.specs.Instances.{choices_of}
 use Rattle.ae_rules.specs.Lines.{AllAllowed, fact_ok}
 use Rattle.ae_rules.proofs.SortedLines.{states_clause}
 use Rattle.ae_journal.specs.Ground.{IsGround, MayStand, IsGroundEquation, IsGroundLine, IsGroundProof}
@@ -24,7 +30,9 @@ use Rattle.ae_store.specs.Stores.{Stored}
 use Rattle.ae_theory.specs.Names.{terms_in}
 use Rattle.ae_sat.specs.Lines.{IsLineOver, AddsLinesOver}
 use Rattle.ae_first_clauses.specs.First.{IsFirstLine, a_hypothesis, the_goal, the_block, States}
-use Rattle.ae_ground_laws.specs.Terms.{AreGroundNames}
+use Rattle.ae_open_states.proofs.Choices.{choice}
+use Rattle.ae_choice_clauses.specs.Choices.{IsChoiceLine, a_choice, StatesChoice}
+use Rattle.ae_ground_laws.specs.Terms.{AreGroundNames, JoinNoEnumeration}
 use Rattle.ae_ground_laws.proofs.Built.{line_ground}
 use Rattle.ae_ground_laws.proofs.Fragment.{row_ground}
 
@@ -35,11 +43,23 @@ module _ (p : Problem) (g : ℕ) where
   first_line _ _ (the_goal f e) = tt
   first_line _ _ (the_block q e) = e
 
-  first_lines : (ls : List ClauseLine) (cs : List Clause) → Pairwise (States p g) ls cs → AllByRecursion (IsGroundLine p g) ls
+  pub first_lines : (ls : List ClauseLine) (cs : List Clause) → Pairwise (States p g) ls cs → AllByRecursion (IsGroundLine p g) ls
   first_lines [] [] h = tt
   first_lines (l ∷ ls) (c ∷ cs) h = (first_line l c h.0.0, first_lines ls cs h.1)
   first_lines [] (c ∷ cs) h = absurd h
   first_lines (l ∷ ls) [] h = absurd h
+
+  -- the lines of enumerations, of names of the fragment
+  choice_line : (ts : List Term) → AreGroundNames p.signature ts → (l : ClauseLine) (c : Clause) → IsChoiceLine p.signature ts l c → IsGroundLine p g l
+  choice_line ts names _ _ (a_choice t c h e) =
+      let s = bind_some (sort_of p.signature t) (λ s. choices_of p.signature (out-Sort s) >>= λ hs. Some (map (choice t) hs)) c e in
+      (names t h).1 s.0 s.1
+
+  pub choice_lines : (ts : List Term) → AreGroundNames p.signature ts → (ls : List ClauseLine) (cs : List Clause) → Pairwise (StatesChoice p g ts) ls cs → AllByRecursion (IsGroundLine p g) ls
+  choice_lines ts names [] [] h = tt
+  choice_lines ts names (l ∷ ls) (c ∷ cs) h = (choice_line ts names l c h.0.0, choice_lines ts names ls cs h.1)
+  choice_lines ts names [] (c ∷ cs) h = absurd h
+  choice_lines ts names (l ∷ ls) [] h = absurd h
 
   -- ---- each line of a derivation is allowed after some lines
   abbrev IsAllowedSomewhere : ClauseLine → Type 0
@@ -50,8 +70,8 @@ module _ (p : Problem) (g : ℕ) where
   each_allowed earlier (l ∷ ls) a = ((earlier, a.0), each_allowed (earlier ++ l ∷ []) ls a.1)
 
   -- ---- lines over formulas that may stand, and over names of the fragment
-  module _ (law : IsLawful p.signature) (ground : IsGround p g) (s : Stored) (same : s.signature ≡ p.signature) (names : AreGroundNames p.signature (terms_in s)) (fs : List Formula)
-      (stand : AllByRecursion (MayStand p g) fs) where
+  module _ (law : IsLawful p.signature) (ground : IsGround p g) (s : Stored) (same : s.signature ≡ p.signature) (names : AreGroundNames p.signature (terms_in s)) (joined : JoinNoEnumeration p.signature (terms_in s))
+      (fs : List Formula) (stand : AllByRecursion (MayStand p g) fs) where
     stands : (f : Formula) → Contains fs f → MayStand p g f
     stands f h = all_contained (MayStand p g) fs f stand h
 
@@ -62,7 +82,7 @@ module _ (p : Problem) (g : ℕ) where
         → AllByRecursion (IsGroundEquation p.signature) ls
     equations_ground hyps earlier [] a b = tt
     equations_ground hyps earlier (l ∷ ls) a b = (
-      line_ground p.signature law (terms_in s) names l a.0.0 (subst (λ (sig : Signature). IsBuiltEquation sig (terms_in s) l) same b.0),
+      line_ground p.signature law (terms_in s) names joined l a.0.0 (subst (λ (sig : Signature). IsBuiltEquation sig (terms_in s) l) same b.0),
       equations_ground hyps (earlier ++ l ∷ []) ls a.1 b.1,
     )
 
@@ -80,11 +100,11 @@ module _ (p : Problem) (g : ℕ) where
     over_ground (Exh t) i a = absurd i
     over_ground (Tri u t) i a = absurd i
 
-    pub derived_ground : (firsts : List ClauseLine) (clauses : List Clause) (proof : Proof) → Pairwise (States p g) firsts clauses → AddsLinesOver s fs firsts proof.lines → Derives p g proof → IsGroundProof p g proof
-    derived_ground firsts clauses proof first (added, is, over) d = record {
+    pub derived_ground : (firsts : List ClauseLine) (proof : Proof) → AllByRecursion (IsGroundLine p g) firsts → AddsLinesOver s fs firsts proof.lines → Derives p g proof → IsGroundProof p g proof
+    derived_ground firsts proof first (added, is, over) d = record {
       derives = d;
       lines = subst (AllByRecursion (IsGroundLine p g)) (sym is)
-          (all_append (IsGroundLine p g) firsts added (first_lines firsts clauses first)
+          (all_append (IsGroundLine p g) firsts added first
           (all_both (IsLineOver s fs) IsAllowedSomewhere (IsGroundLine p g) over_ground added over
           (all_back IsAllowedSomewhere firsts added (subst (AllByRecursion IsAllowedSomewhere) is (each_allowed [] proof.lines d.allowed)))));
     }

@@ -1,45 +1,28 @@
--- The names that a search begins with occur in the goal, and are of the ground fragment where the goal is.
-use Rattle.std.specs.Prelude.{ℕ, ◌≤◌, true, false, List, [], ◌∷◌, ◌≡◌, length, count_by, Some}
+-- The names that the first clauses bring occur in the goal.
+use Rattle.std.specs.Prelude.{ℕ, true, false, List, [], ◌∷◌, ◌≡◌}
 use Rattle.std.specs.List.{Contains}
 use Rattle.std.proofs.Common.{refl, sym, ◌∙◌, subst, inl, inr}
-use Rattle.std.proofs.lemmas.Option.{same_Some}
-use Rattle.ae_base.specs.Options.{known}
-use Rattle.ae_base.proofs.Options.{never_some}
 use Rattle.ae_core.specs.Putting.{put_formula}
-use Rattle.ae_core.specs.Signatures.{IsLawful}
-use Rattle.ae_core.specs.Sorts.{sort_of}
-use Rattle.ae_core.specs.declared.terms.Sort.{Sort}
 use Rattle.ae_core.specs.declared.terms.Term.{Term, Apply}
-use Rattle.ae_core.specs.declared.terms.Head.{Head}
 use Rattle.ae_core.specs.declared.formulas.Formula.{Formula, All}
 use Rattle.ae_core.specs.declared.formulas.Lit.{Lit}
-use Rattle.ae_core.specs.declared.problems.Signature.{Signature}
 use Rattle.ae_core.specs.declared.problems.Problem.{Problem}
 use Rattle.ae_core.specs.declared.proofs.ClauseLine.{ClauseLine}
 use Rattle.ae_rules.specs.Clauses.{Clause, yes_of, no_of, is_true}
 use Rattle.ae_rules.specs.Instances.{count_from}
 use Rattle.ae_explain.specs.Trail.{clause}
-use Rattle.ae_journal.specs.Ground.{IsGround}
 use Rattle.ae_journal.specs.States.{outside}
-use Rattle.ae_journal.specs.Systems.{IsJoin}
 use Rattle.ae_journal.proofs.Splits.{contains_cases, contains_one}
 use Rattle.ae_store.specs.Stores.{Stored}
-use Rattle.ae_store.specs.Terms.{HasOneName}
 use Rattle.ae_theory.specs.Names.{terms_in}
-use Rattle.ae_reach.specs.Budget.{IsFirst, a_hypothesis, the_goal, the_block, Occurs, itself, argument, field, HasNoSymbols, HoldsTerms}
-use Rattle.ae_reach.specs.Reach.{IsSortInReach, IsInReach}
+use Rattle.ae_reach.specs.Budget.{IsFirst, a_hypothesis, the_goal, the_block, Occurs, itself, argument, field}
 use Rattle.ae_goal_names.specs.Named.{StandsIn, itself as stands_itself, argument as stands_argument, field as stands_field, HasNamed, clause_terms, all_terms}
 use Rattle.ae_goal_names.proofs.Outer.{outside_not}
 use Rattle.ae_first_clauses.specs.First.{IsFirstLine, a_hypothesis as hypothesis_line, the_goal as goal_line, the_block as block_line, AreFirst}
 use Rattle.ae_first_clauses.proofs.States.{line_of}
-use Rattle.ae_first_names.proofs.FirstNames.{first_terms, stands}
+use Rattle.ae_first_names.proofs.FirstNames.{stands}
 use Rattle.ae_first_names.proofs.Lists.{out_of, contained_one}
-use Rattle.ae_first_names.proofs.Reaching.{in_reach, application, self, fine_of}
 use Rattle.ae_first_names.proofs.Stripped.{of_literal}
-use Rattle.ae_ground_laws.specs.Terms.{IsGroundName, AreGroundNames}
-use Rattle.ae_ground_laws.proofs.Counted.{occurring_no_joins, occurring_at_most}
-use Rattle.ae_ground_laws.proofs.Fragment.{fragment}
-use Rattle.ae_ground_laws.proofs.Plain.{occurs_plain}
 
 module _ (p : Problem) (g : ℕ) where
   -- the terms of a literal of a first line stand in a first formula
@@ -80,27 +63,5 @@ module _ (p : Problem) (g : ℕ) where
       name_occurs t h = standing_occurs t (stands p g lines clauses begun old new same empty n t h)
 
       -- the store has the problem's signature
-      pub own_signature : new.signature ≡ p.signature
-      own_signature = n.signature ∙ same
-
-      module _ (law : IsLawful p.signature) (reach : IsInReach p g) (ground : IsGround p g) where
-        sorted_ground : (t : Term) → Contains (terms_in new) t → (s : Sort) → sort_of p.signature t ≡ Some s → (IsGroundName p.signature t)
-        sorted_ground t h s so =
-            let plain = occurs_plain p g ground t (name_occurs t h) in
-            elim (fine_of p.signature law (all_terms clauses) (first_terms p g lines clauses begun reach) t (stands p g lines clauses begun old new same empty n t h)) as (λ _. IsGroundName p.signature t) [
-              | in_reach w ↦ (
-                  let r = self p.signature t w in
-                  (plain, λ o q. (fragment p.signature t plain w, subst (IsSortInReach p.signature) (same_Some r.0 o (sym r.1 ∙ q)) r.2)))
-              | application m os vs e unsorted all ↦ never_some s (sym unsorted ∙ so)
-            ]
-
-        pub names_ground : AreGroundNames p.signature (terms_in new)
-        names_ground t h = (occurs_plain p g ground t (name_occurs t h), λ s so. (sorted_ground t h s so).1 s so)
-
-      pub no_joins : IsGround p g → HasNoSymbols p g → (h : Head) (ss : List Sort) (a b : Term) → Contains (terms_in new) (Apply h ss (a ∷ b ∷ [])) → ¬ (IsJoin new.signature h a b)
-      no_joins ground none h ss a b c =
-          subst (λ (sig : Signature). ¬ (IsJoin sig h a b)) (sym own_signature) (occurring_no_joins p g (terms_in new) ground none name_occurs h ss a b c)
-
-      pub at_most : HasOneName (terms_in new) → (us : List Term) → HoldsTerms p g us → count_by (λ t. known (sort_of new.signature t)) (terms_in new) ≤ length us
-      at_most once us holds =
-          subst (λ (sig : Signature). count_by (λ t. known (sort_of sig t)) (terms_in new) ≤ length us) (sym own_signature) (occurring_at_most p g (terms_in new) us once name_occurs holds)
+      pub first_signature : new.signature ≡ p.signature
+      first_signature = n.signature ∙ same

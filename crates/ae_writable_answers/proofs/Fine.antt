@@ -4,10 +4,11 @@ use Rattle.std.specs.List.{AllByRecursion, Contains, flat_map}
 use Rattle.std.proofs.Common.{refl, ap}
 use Rattle.std.proofs.lemmas.Bool.{and_from, and_parts}
 use Rattle.ae_base.proofs.AllOf.{all_append}
-use Rattle.ae_core.specs.declared.formulas.Formula.{Formula, All, out-Formula}
-use Rattle.ae_core.specs.declared.formulas.Formula.TheVariants.{outs-All}
+use Rattle.ae_core.specs.declared.formulas.Formula.{Formula, Eq, All, out-Formula}
+use Rattle.ae_core.specs.declared.formulas.Formula.TheVariants.{outs-Eq, outs-All}
 use Rattle.ae_core.specs.declared.formulas.Lit.{Lit}
 use Rattle.ae_core.specs.declared.formulas.Quant.{Quant}
+use Rattle.ae_core.specs.declared.terms.Term.{Term}
 use Rattle.ae_rules.specs.Clauses.{Clause, literal, yes_of, no_of}
 use Rattle.ae_legal_texts.proofs.Signs.{said_direct}
 use Rattle.ae_legal_texts.specs.Numbers.{Number, literal_numbers}
@@ -36,6 +37,9 @@ direct_literal false f = direct_no f
 
 pub direct_block : (q : Quant) → IsDirect (All q)
 direct_block q = ap (λ l. not (is_negation l)) (outs-All q)
+
+pub direct_equation : (a b : Term) → IsDirect (Eq a b)
+direct_equation a b = ap (λ l. not (is_negation l)) (outs-Eq a b)
 
 -- ---- clauses over such formulas
 pub values_of : (c : Clause) → AllByRecursion (λ (l : Lit). IsFine l.formula) c → AreValuesWithin (flat_map literal_numbers c)

@@ -1,6 +1,6 @@
 pub mod Filtered
 pub mod Fine
-pub mod Firsts
 pub mod Derived
+pub mod Firsts
 pub mod Refuted
 pub mod Settled

@@ -21,7 +21,7 @@ use Rattle.ae_numerals_kept.proofs.Lowest.{goal_lowest}
 use Rattle.ae_writable.specs.Numbers.{IsValueWithin, AreValuesWithin, HasLowestNumerals}
 use Rattle.ae_writable.specs.Writable.{IsWritableProof}
 use Rattle.ae_writable_answers.proofs.Derived.{IsFineLine, over_fine}
-use Rattle.ae_writable_answers.proofs.Firsts.{name_lowest, closed}
+use Rattle.ae_writable_answers.proofs.Firsts.{name_lowest, closed, choice_lines_fine}
 
 values_in : (ls : List ClauseLine) → AllByRecursion IsFineLine ls → AreValuesWithin (flat_map line_numbers ls)
 values_in [] a = tt
@@ -43,14 +43,20 @@ module _ (p : Problem) (g : ℕ) (low : HasLowestNumerals p) where
   firsts_fine [] (c ∷ cs) h = absurd h
   firsts_fine (l ∷ ls) [] h = absurd h
 
-  module _ (firsts : List ClauseLine) (clauses : List Clause) (s : Stored) (start : IsStarted p g firsts clauses s) where
-    lines_fine : (lines : List ClauseLine) → IsRefutation s firsts clauses lines → AllByRecursion IsFineLine lines
+  module _ (begin : List ClauseLine) (clauses : List Clause) (s : Stored) (start : IsStarted p g begin clauses s) where
+    begin_fine : AllByRecursion IsFineLine begin
+    begin_fine =
+        let c = start.choices in
+        subst (AllByRecursion IsFineLine) (sym c.lines_are)
+        (all_append IsFineLine start.firsts c.more_lines (firsts_fine start.firsts start.first start.begun.states) (choice_lines_fine p g low begin clauses s start c.more_lines c.more c.states))
+
+    lines_fine : (lines : List ClauseLine) → IsRefutation s begin clauses lines → AllByRecursion IsFineLine lines
     lines_fine lines r =
-        let w = closed p g low firsts clauses s start in
+        let w = closed p g low begin clauses s start in
         let a = r.over w.formulas w.parts w.among in
         subst (AllByRecursion IsFineLine) (sym a.1)
-        (all_append IsFineLine firsts a.0 (firsts_fine firsts clauses start.first.states)
-        (all_weaker (IsLineOver s w.formulas) IsFineLine (over_fine s (name_lowest p g low firsts clauses s start) w.formulas w.fine) a.0 a.2))
+        (all_append IsFineLine begin a.0 begin_fine
+        (all_weaker (IsLineOver s w.formulas) IsFineLine (over_fine s (name_lowest p g low begin clauses s start) w.formulas w.fine) a.0 a.2))
 
-    pub refutation_writable : (proof : Proof) → IsRefutation s firsts clauses proof.lines → IsWritableProof proof
+    pub refutation_writable : (proof : Proof) → IsRefutation s begin clauses proof.lines → IsWritableProof proof
     refutation_writable proof r = let a = lines_fine proof.lines r in record { values = values_in proof.lines a; direct = signs_in proof.lines a }
