@@ -49,8 +49,8 @@ module _ (p : Problem) (k : ℕ) where
       → IsRightAnswer p k limits (Valid proof) → IsRightAnswer p k limits (Valid trimmed)
   right_trimmed limits proof trimmed t d r = record {
     answer = d p k r.answer;
-    ground = λ g. trimmed_ground p k proof trimmed (r.ground g) t;
-    within = λ g c n ts h. tt;
+    ground = λ g j. trimmed_ground p k proof trimmed (r.ground g j) t;
+    within = λ g c n e ts h. tt;
   }
 
   pub part_is : (limits : Limits) (name : List ℕ) (a : Answer) (bytes : List ℕ) → IsGoalNamed p k name → IsRightAnswer p k limits a → IsShown p.signature name a bytes → IsPart p k limits bytes

@@ -23,7 +23,7 @@ use Rattle.ae_goal_search.proofs.Begun.{same_signature, names_entered, lines_sta
 module _ (p : Problem) (g : ℕ) (lines : List ClauseLine) (clauses : List Clause) (s : Stored) (start : IsStarted p g lines clauses s) (js : List Line) (none : js ≡ []) where
   -- before the first step
   pub left_early : IsLeft p g s js lines
-  left_early = record { allowed = start.first.allowed; legal = λ bound. subst (AreLegal (search_setting p g (terms_in s)) bound []) (sym none) tt }
+  left_early = record { allowed = start.choices.allowed start.begun.allowed; legal = λ bound. subst (AreLegal (search_setting p g (terms_in s)) bound []) (sym none) tt }
 
   left_so : (ks : List Line) (more : List ClauseLine) → AreAllowed p g [] more → ((bound : ℕ) → NotesLegally (search_setting p g (terms_in s)) bound js ks) → IsLeft p g s ks more
   left_so ks more a h = record {

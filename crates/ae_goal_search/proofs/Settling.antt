@@ -6,12 +6,16 @@ use Rattle.ae_rules.specs.Clauses.{Clause, yes_of, no_of}
 use Rattle.ae_store.specs.Stores.{Stored}
 use Rattle.ae_sat.specs.Standing.{IsOneOf}
 use Rattle.ae_open_states.specs.Finished.{HasFirstClauses}
+use Rattle.ae_choice_clauses.proofs.Begun.{still}
 use Rattle.ae_goal_search.specs.Started.{IsStarted}
 
-pub firsts_kept : (p : Problem) (g : ℕ) (lines : List ClauseLine) (clauses : List Clause) (s : Stored) → IsStarted p g lines clauses s → (now : List Clause)
-    → ((c : Clause) → IsOneOf clauses c → IsOneOf now c) → HasFirstClauses p g now
-firsts_kept p g lines clauses s start now kept = record {
-  hypotheses = λ k f e. kept (yes_of f ∷ []) (start.first.firsts.hypotheses k f e);
-  goal = λ f e. kept (no_of f ∷ []) (start.first.firsts.goal f e);
-  block = λ q e. let b = start.first.firsts.block q e in (b.0, kept _ b.1);
-}
+module _ (p : Problem) (g : ℕ) (lines : List ClauseLine) (clauses : List Clause) (s : Stored) (start : IsStarted p g lines clauses s) where
+  pub firsts_kept : (now : List Clause) → ((c : Clause) → IsOneOf clauses c → IsOneOf now c) → HasFirstClauses p g now
+  firsts_kept now kept = record {
+    hypotheses = λ k f e. goes_on (yes_of f ∷ []) (start.begun.firsts.hypotheses k f e);
+    goal = λ f e. goes_on (no_of f ∷ []) (start.begun.firsts.goal f e);
+    block = λ q e. let b = start.begun.firsts.block q e in (b.0, goes_on _ b.1);
+  }
+    where
+      goes_on : (c : Clause) → IsOneOf start.first c → IsOneOf now c
+      goes_on c o = kept c (still p g start.before s start.firsts lines start.first clauses start.choices c o)

@@ -28,8 +28,10 @@ pub record IsRefutation (s : Stored) (firsts : List ClauseLine) (clauses : List 
   pub ends : EndsEmpty lines
   pub over : (fs : List Formula) → HasParts fs → AllAmong fs clauses → AddsLinesOver s fs firsts lines
 
--- each clause has a true literal; what the search began with is among them, and they are over its formulas and their parts
+-- each clause has a true literal; what the search began with is among them, the hypotheses and the goal's negation too, and they are over its formulas and
+-- their parts
 pub record IsSettled (p : Problem) (g : ℕ) (s : Stored) (first : List Clause) (t : List Assigned) (clauses : List Clause) : Type 0 where
+  pub kept : (c : Clause) → IsOneOf first c → IsOneOf clauses c
   pub firsts : HasFirstClauses p g clauses
   pub formulas : (fs : List Formula) → HasParts fs → AllAmong fs first → AllAmong fs clauses
   pub over : AreOverGround p g clauses

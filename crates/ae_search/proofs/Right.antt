@@ -16,6 +16,7 @@ use Rattle.ae_journal.specs.declared.answers.WideAt.{WideAt}
 use Rattle.ae_journal.specs.declared.lines.Line.{Line}
 use Rattle.ae_journal.specs.declared.lines.Story.{Story}
 use Rattle.ae_journal.specs.declared.systems.Saturated.{Saturated}
+use Rattle.ae_reach.specs.Budget.{JoinsNoEnumerations}
 use Rattle.ae_store.specs.Stores.{Stored}
 use Rattle.ae_theory.specs.Names.{terms_in}
 use Rattle.ae_stories.specs.Told.{told}
@@ -29,14 +30,14 @@ use Rattle.ae_goal_search.proofs.Begun.{names_entered}
 use Rattle.ae_search.proofs.Counted.{OfTerms}
 
 module _ (p : Problem) (g : ℕ) (lines : List ClauseLine) (clauses : List Clause) (s : Stored) (start : IsStarted p g lines clauses s) (limits : Limits) where
-  pub valid_right : (proof : Proof) → Derives p g proof → (IsGround p g → IsGroundProof p g proof) → IsRightAnswer p g limits (Valid proof)
-  valid_right proof d h = record { answer = d; ground = h; within = λ gr cj ns ts k. tt }
+  pub valid_right : (proof : Proof) → Derives p g proof → (IsGround p g → JoinsNoEnumerations p g → IsGroundProof p g proof) → IsRightAnswer p g limits (Valid proof)
+  valid_right proof d h = record { answer = d; ground = h; within = λ gr cj ns ne ts k. tt }
 
   pub unknown_right : NoGroundProof → (st : Saturated) → ((bound : ℕ) → IsSaturated p g st bound) → IsRightAnswer p g limits (Unknown st)
   unknown_right none st h = record {
     answer = h limits.generations;
     ground = λ gr proof k. none p g limits.generations st start.lawful (h limits.generations) gr proof k;
-    within = λ gr cj ns ts k. tt;
+    within = λ gr cj ns ne ts k. tt;
   }
 
   module _ (js : List Line) (more : List ClauseLine) (left : IsLeft p g s js more) (story : Story) (is : story ≡ told s js) where
@@ -45,7 +46,7 @@ module _ (p : Problem) (g : ℕ) (lines : List ClauseLine) (clauses : List Claus
         subst (λ (y : Story). IsRightAnswer p g limits (Steps y)) (sym is)
         (record {
           answer = (
-            legal_story p g s (λ f. 0) js limits.generations start.reach start.names.right (names_entered p g lines clauses s start [] refl) (left.legal limits.generations),
+            legal_story p g s (λ f. 0) js limits.generations start.reach start.right (names_entered p g lines clauses s start [] refl) (left.legal limits.generations),
             full,
           );
           ground = λ gr. tt;
@@ -57,7 +58,7 @@ module _ (p : Problem) (g : ℕ) (lines : List ClauseLine) (clauses : List Claus
         subst (λ (y : Story). IsRightAnswer p g limits (Number y at)) (sym is)
         (record {
           answer =
-              legal_width p g s (λ f. 0) js limits.generations start.reach start.names.right (names_entered p g lines clauses s start [] refl) (left.legal limits.generations) limits.steps at within
+              legal_width p g s (λ f. 0) js limits.generations start.reach start.right (names_entered p g lines clauses s start [] refl) (left.legal limits.generations) limits.steps at within
               licensed;
           ground = λ gr. tt;
           within = few;

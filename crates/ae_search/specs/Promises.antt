@@ -10,12 +10,13 @@ use Rattle.ae_journal.specs.declared.answers.Answer.{Answer}
 use Rattle.ae_journal.specs.declared.answers.Answer.TheVariants.{Valid, Unknown, Steps, Number}
 use Rattle.ae_journal.specs.declared.answers.WideAt.{WideAt}
 use Rattle.ae_journal.specs.declared.lines.Story.{Story}
-use Rattle.ae_reach.specs.Budget.{IsConjunctive, HasNoSymbols, HoldsTerms}
+use Rattle.ae_reach.specs.Budget.{IsConjunctive, HasNoSymbols, HasNoEnumerations, JoinsNoEnumerations, HoldsTerms}
 use Rattle.ae_search_options.specs.declared.limits.Limits.{Limits}
 
--- of a goal of the ground fragment: a proof is a ground proof, and where the answer is a saturated state there is none
+-- of a goal of the ground fragment: a proof is a ground proof, where no AC symbol works on a sort that holds an enumeration; and where the answer is a
+-- saturated state there is none
 abbrev pub IsGroundAnswer : Problem → ℕ → Answer → Type 0
-IsGroundAnswer p g (Valid proof) = IsGroundProof p g proof
+IsGroundAnswer p g (Valid proof) = JoinsNoEnumerations p g → IsGroundProof p g proof
 IsGroundAnswer p g (Unknown st) = (proof : Proof) → ¬ (IsGroundProof p g proof)
 IsGroundAnswer p g _ = Unit {0}
 
@@ -28,5 +29,5 @@ IsWithin _ ts = Unit {0}
 pub record IsRightAnswer (p : Problem) (g : ℕ) (limits : Limits) (a : Answer) : Type 0 where
   pub answer : IsAnswer p g limits.steps limits.generations a
   pub ground : IsGround p g → IsGroundAnswer p g a
-  -- where nothing is left to choose and no AC symbol occurs, the terms that occur bound the lines
-  pub within : IsGround p g → IsConjunctive p g → HasNoSymbols p g → (ts : List Term) → HoldsTerms p g ts → IsWithin a ts
+  -- where nothing is left to choose, and no AC symbol and no enumeration occurs, the terms that occur bound the lines
+  pub within : IsGround p g → IsConjunctive p g → HasNoSymbols p g → HasNoEnumerations p g → (ts : List Term) → HoldsTerms p g ts → IsWithin a ts

@@ -7,6 +7,7 @@ ghost use Rattle.ae_writable.specs.Numbers.{HasLowestNumerals};
 ghost use Rattle.ae_writable.specs.Writable.{IsWritable};
 
 use crate::ending::answer_from;
+use ae_choice_clauses::add_choices;
 use ae_core::problems::Problem;
 use ae_first_clauses::begin;
 use ae_goal_search::named_store;
@@ -32,8 +33,10 @@ pub fn prove(
     ensures right { IfOk result (IsRightAnswer problem.now goal limits.now) }
     ensures written { HasLowestNumerals problem.now → IfOk result (IsWritable problem.now.signature) }
 {
-    let first = begin(alloc, problem, goal)?;
-    let store = named_store(alloc, &problem.signature, first.clauses.as_slice())?;
+    let mut first = begin(alloc, problem, goal)?;
+    let mut store = named_store(alloc, &problem.signature, first.clauses.as_slice())?;
+    add_choices(alloc, &problem.signature, &mut store, &mut first)?;
+    let _names = store.len();
     answer_from(
         alloc,
         problem,

@@ -1,7 +1,6 @@
-use Rattle.std.specs.Prelude.{◌≡◌, ℕ, ◌+◌, ◌<◌, ◌≤◌, List, length, take, Ok, Err}
+use Rattle.std.specs.Prelude.{◌≡◌, ℕ, List, take, Ok, Err}
 use Rattle.std.proofs.Common.{sym, ap, ◌∙◌, subst, arith}
 use Rattle.std.proofs.Math.Seq.{take-length}
-use Rattle.ae_core.specs.declared.formulas.Formula.{Formula}
 use Rattle.ae_rules.specs.Clauses.{Clause}
 use Rattle.ae_journal.specs.Journals.{counted_in, live, decisions}
 use Rattle.ae_journal.specs.declared.lines.Line.{Line}
@@ -12,7 +11,7 @@ use Rattle.ae_sat.specs.Marked.{atoms}
 use Rattle.ae_sat.specs.Search.{AllAmong}
 use Rattle.ae_sat.specs.Standing.{IsOneOf}
 use Rattle.ae_sat.specs.declared.run.SatEnd.{SatEnd}
-use Rattle.ae_first_clauses.proofs.Subformulas.{goes_on_over}
+use Rattle.ae_choice_clauses.proofs.Begun.{choices_over}
 use Rattle.ae_goal_search.proofs.Begun.{same_signature, terms_named, lines_state}
 use Rattle.ae_goal_search.proofs.Passing.{passed}
 use Rattle.ae_goal_search.proofs.Left.{left_early, left_after, wide_after}
@@ -80,9 +79,10 @@ returns-in-Open-clause-end g c =
     let run = r.alive.running in
     let st = lines_state p n firsts cs s start v.propagation.clauses v.places e.clauses e.places in (
       record {
+        kept = λ d o. r.kept d (subst (λ (ds : List Clause). IsOneOf ds d) (sym e.clauses) o);
         firsts = firsts_kept p n firsts cs s start w.propagation.clauses (λ d o. r.kept d (subst (λ (ds : List Clause). IsOneOf ds d) (sym e.clauses) o));
         formulas = λ fs h a. r.formulas fs h (subst (AllAmong fs) (sym e.clauses) a);
-        over = goes_on_over p n start.reach firsts c.run.new.lines.items cs w.propagation.clauses w.places start.first
+        over = choices_over p n start.before s start.firsts firsts start.first cs start.choices start.begun start.reach c.run.new.lines.items w.propagation.clauses w.places
             (λ fs h a. r.formulas fs h (subst (AllAmong fs) (sym e.clauses) a)) (r.stated p n (same_signature p n firsts cs s start) st);
         lawful = run.lawful;
         decided = run.stands;

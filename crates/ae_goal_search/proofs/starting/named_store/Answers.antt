@@ -1,5 +1,5 @@
 use Rattle.std.specs.Prelude.{List}
-use Rattle.std.proofs.Common.{sym, ap, ◌∙◌}
+use Rattle.std.proofs.Common.{sym, ap}
 use Rattle.ae_store.specs.declared.nodes.Node.{Node}
 use Rattle.ae_store.specs.Shapes.{shapes}
 use Rattle.ae_store.specs.Terms.{terms}
