@@ -2,6 +2,7 @@
 #![tactic(auto)]
 
 pub mod choose;
+pub mod contradictions;
 pub mod derive;
 pub mod expand;
 pub mod laws;

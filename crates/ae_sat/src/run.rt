@@ -196,7 +196,7 @@ where
     }
 
     /// Learns from a block whose hypotheses are true, and goes back; `true` where what is learnt is empty. The block's clause is none of the clauses then.
-    fn learn_block(
+    pub(crate) fn learn_block(
         &mut self,
         store: &Store,
         journal: &mut Journal,
@@ -206,7 +206,6 @@ where
         requires contradictory { IsContradictory store.now.signature block }
         requires sorted { clause_ok store.now.signature block.deriv.hyps ≡ true }
         requires falsified { AreFalse self.old.propagation.trail (map opposite block.deriv.hyps) }
-        requires built { AllByRecursion (IsBuiltEquation store.now.signature (terms_in store.now)) block.deriv.lines }
         requires alive { IsAlive T.fits T.assumed T.fits_mark T.in_step store.now self.old.theory self.old.marks.items self.old.propagation.trail self.old.propagation.clauses self.old.handed self.old.expanded journal.old.lines }
         ensures alive { OnOk result (IsAlive T.fits T.assumed T.fits_mark T.in_step store.now self.new.theory self.new.marks.items self.new.propagation.trail self.new.propagation.clauses self.new.handed self.new.expanded journal.new.lines) }
         ensures stated { (p : Problem) (g : ℕ) → p.signature ≡ store.now.signature → IsStated p g lines.old.items self.old.propagation.clauses self.old.places →
@@ -219,7 +218,10 @@ where
             × OnOk result (IsLawfulState setting self.new.propagation.trail self.new.propagation.clauses self.new.expanded lines.new.items journal.new.lines) }
         ensures steps { result ≡ Err OutOfSteps → counted_in journal.new.lines ≡ journal.new.limit }
         ensures never_wide { (wide : WideAt) → ¬ (result ≡ Err (Number wide)) }
-        ensures enlarges { OnOk result (Enlarges store.now self.old.propagation.clauses lines.old.items self.new.propagation.clauses lines.new.items) }
+        ensures kept { (c : Clause) → IsOneOf self.old.propagation.clauses c → OnOk result (IsOneOf self.new.propagation.clauses c) }
+        ensures formulas { (fs : List Formula) → HasParts fs → AllAmong fs self.old.propagation.clauses → OnOk result (AllAmong fs self.new.propagation.clauses) }
+        ensures enlarges { AllByRecursion (IsBuiltEquation store.now.signature (terms_in store.now)) block.deriv.lines →
+            OnOk result (Enlarges store.now self.old.propagation.clauses lines.old.items self.new.propagation.clauses lines.new.items) }
         ensures journal { Keeps journal.old journal.new }
         // Where no decision stands, nothing is noted.
         ensures base { last_level self.old.propagation.trail ≡ 0 → IsIdle journal.old journal.new result }

@@ -123,7 +123,7 @@ where
     }
 
     /// Undoes all decisions but the first few.
-    pub(crate) fn go_back(&mut self, journal: &mut Journal, level: usize) -> Result<(), Fail>
+    pub fn go_back(&mut self, journal: &mut Journal, level: usize) -> Result<(), Fail>
         requires running { IsRunning T.assumed T.fits_mark T.in_step self.old.theory self.old.marks.items self.old.propagation.trail self.old.propagation.clauses self.old.handed (live journal.old.lines) }
         requires within { level < length self.old.marks.items }
         ensures running { OnOk result (IsRunning T.assumed T.fits_mark T.in_step self.new.theory self.new.marks.items self.new.propagation.trail self.new.propagation.clauses self.new.handed (live journal.new.lines)) }

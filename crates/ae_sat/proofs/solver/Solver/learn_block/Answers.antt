@@ -8,7 +8,8 @@ use Rattle.ae_explain.specs.declared.trail.Assigned.{Assigned}
 use Rattle.ae_explain.specs.Trail.{clause, AreFalse, IsLawful}
 use Rattle.ae_explain.specs.Levels.{greatest_of}
 use Rattle.ae_propagation.specs.Settled.{last_level}
-use Rattle.ae_sat.specs.Search.{IsStated, IsLearnt, IsLawfulState}
+use Rattle.ae_sat.specs.Search.{AllAmong, IsStated, IsLearnt, IsLawfulState}
+use Rattle.ae_sat.specs.Standing.{IsOneOf}
 use Rattle.ae_sat.proofs.Enlarging.{enlarges_more, enlarges_to, block_enlarges, rup_enlarges}
 use Rattle.ae_sat.proofs.Idling.{idle_memory}
 use Rattle.ae_sat.proofs.Results.{on_ok_more}
@@ -162,8 +163,20 @@ returns-clause-allowed g c p n sig old =
     subst (λ (w : List Clause). IsStated p n new w d.places) (sym du) (subst (λ (w : List ℕ). IsStated p n new s.propagation.clauses w) (sym dp) (first_stated p n new s.propagation.clauses s.places cl (length ks) then)) in
     c.take_in.ensures.allowed p n sig last
 
+pub returns-clause-kept : goal.returns-clause-kept
+returns-clause-kept g c d h =
+    let u = c.args.self.now.propagation.clauses in
+    let du : c.detach.new.self.propagation.clauses ≡ u = c.detach.ensures.clauses u c.in_ok-clause.clause c.in_ok-attach.ensures.clauses in
+    on_ok_more _ _ c.take_in.result c.take_in.ensures.enlarges (λ more. more.kept d (subst (λ (w : List Clause). IsOneOf w d) (sym du) h))
+
+pub returns-clause-formulas : goal.returns-clause-formulas
+returns-clause-formulas g c fs parts among =
+    let u = c.args.self.now.propagation.clauses in
+    let du : c.detach.new.self.propagation.clauses ≡ u = c.detach.ensures.clauses u c.in_ok-clause.clause c.in_ok-attach.ensures.clauses in
+    on_ok_more _ _ c.take_in.result c.take_in.ensures.enlarges (λ more. more.formulas fs parts (subst (AllAmong fs) (sym du) among))
+
 pub returns-clause-enlarges : goal.returns-clause-enlarges
-returns-clause-enlarges g c =
+returns-clause-enlarges g c built =
     let s = c.args.self.now in
     let run = c.requires.alive.running in
     let t = s.propagation.trail in
@@ -176,7 +189,7 @@ returns-clause-enlarges g c =
     let e = c.in_ok-learnt.ensures in
     let r = c.in_ok-learnt.learnt in
     let false_ones : AreFalse t r.clause = subst (λ (w : List Assigned). AreFalse w r.clause) c.in_ok-attach.ensures.trail e.false_ones in
-    let one = enlarges_to store u u u ks (ks ++ Block b ∷ []) mid (block_enlarges t u run.lawful run.stands store b c.requires.falsified c.requires.built ks) refl c.in_ok-push_line.ensures.ok in
+    let one = enlarges_to store u u u ks (ks ++ Block b ∷ []) mid (block_enlarges t u run.lawful run.stands store b c.requires.falsified built ks) refl c.in_ok-push_line.ensures.ok in
     let du : c.detach.new.self.propagation.clauses ≡ u = c.detach.ensures.clauses u c.in_ok-clause.clause c.in_ok-attach.ensures.clauses in
     let two = enlarges_to store u u c.detach.new.self.propagation.clauses mid (mid ++ Rup r.clause e.line.0 ∷ []) new (rup_enlarges t u run.lawful run.stands store r.clause e.line.0 false_ones mid) du e.line.1 in
     let both = enlarges_more store u u c.detach.new.self.propagation.clauses ks mid new one two in

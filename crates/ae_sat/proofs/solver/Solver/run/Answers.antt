@@ -144,7 +144,7 @@ loop-k-preserved-else-branch-2 g c = record {
   alive = c.in_ok-learn_block-in-Contradiction.ensures.alive;
   enlarges = enlarges_more c.args.store.now c.args.self.now.propagation.clauses c.propagate.new.self.propagation.clauses c.learn_block.new.self.propagation.clauses c.args.lines.now.items c.propagate.new.lines.items c.learn_block.new.lines.items
       (enlarges_more c.args.store.now c.args.self.now.propagation.clauses c.loop-k.self.propagation.clauses c.propagate.new.self.propagation.clauses c.args.lines.now.items c.loop-k.lines.items c.propagate.new.lines.items c.loop-k.invariant.enlarges c.in_ok-k.ensures.enlarges)
-      c.in_ok-learn_block-in-Contradiction.ensures.enlarges;
+      (c.in_ok-learn_block-in-Contradiction.ensures.enlarges ((c.propagate.ensures.block c.in-Contradiction.block (c.in_ok-k.was ∙ ap Ok c.in-Contradiction.is)).3));
   fresh = λ f. absurd ((c.learn_block.ensures.base (c.in_ok-k.ensures.level ∙ ap last_level (c.loop-k.invariant.fresh f).none)).ended (c.in_ok-learn_block-in-Contradiction.was ∙ ap Ok c.if-branch-2.false));
   budget = λ f n h. absurd ((c.learn_block.ensures.base (c.in_ok-k.ensures.level ∙ ap last_level (c.loop-k.invariant.fresh f).none)).ended (c.in_ok-learn_block-in-Contradiction.was ∙ ap Ok c.if-branch-2.false));
   stated = λ p n e s. c.in_ok-learn_block-in-Contradiction.ensures.stated p n e (c.in_ok-k.ensures.stated p n e (c.loop-k.invariant.stated p n e s));
@@ -250,20 +250,20 @@ returns-then-branch-clause-lines g c = (enlarges_more c.args.store.now c.args.se
 pub returns-then-branch-2-clause-kept : goal.returns-then-branch-2-clause-kept
 returns-then-branch-2-clause-kept g c = (enlarges_more c.args.store.now c.args.self.now.propagation.clauses c.propagate.new.self.propagation.clauses c.learn_block.new.self.propagation.clauses c.args.lines.now.items c.propagate.new.lines.items c.learn_block.new.lines.items
     (enlarges_more c.args.store.now c.args.self.now.propagation.clauses c.loop-k.self.propagation.clauses c.propagate.new.self.propagation.clauses c.args.lines.now.items c.loop-k.lines.items c.propagate.new.lines.items
-    c.loop-k.invariant.enlarges c.in_ok-k.ensures.enlarges) c.in_ok-learn_block-in-Contradiction.ensures.enlarges).kept
+    c.loop-k.invariant.enlarges c.in_ok-k.ensures.enlarges) (c.in_ok-learn_block-in-Contradiction.ensures.enlarges
+    ((c.propagate.ensures.block c.in-Contradiction.block (c.in_ok-k.was ∙ ap Ok c.in-Contradiction.is)).3))).kept
 
 pub returns-then-branch-2-clause-formulas : goal.returns-then-branch-2-clause-formulas
 returns-then-branch-2-clause-formulas g c = (enlarges_more c.args.store.now c.args.self.now.propagation.clauses c.propagate.new.self.propagation.clauses c.learn_block.new.self.propagation.clauses c.args.lines.now.items c.propagate.new.lines.items c.learn_block.new.lines.items
     (enlarges_more c.args.store.now c.args.self.now.propagation.clauses c.loop-k.self.propagation.clauses c.propagate.new.self.propagation.clauses c.args.lines.now.items c.loop-k.lines.items c.propagate.new.lines.items
-    c.loop-k.invariant.enlarges c.in_ok-k.ensures.enlarges) c.in_ok-learn_block-in-Contradiction.ensures.enlarges).formulas
+    c.loop-k.invariant.enlarges c.in_ok-k.ensures.enlarges) (c.in_ok-learn_block-in-Contradiction.ensures.enlarges
+    ((c.propagate.ensures.block c.in-Contradiction.block (c.in_ok-k.was ∙ ap Ok c.in-Contradiction.is)).3))).formulas
 
 pub returns-then-branch-2-clause-lines : goal.returns-then-branch-2-clause-lines
 returns-then-branch-2-clause-lines g c = (enlarges_more c.args.store.now c.args.self.now.propagation.clauses c.propagate.new.self.propagation.clauses c.learn_block.new.self.propagation.clauses c.args.lines.now.items c.propagate.new.lines.items c.learn_block.new.lines.items
     (enlarges_more c.args.store.now c.args.self.now.propagation.clauses c.loop-k.self.propagation.clauses c.propagate.new.self.propagation.clauses c.args.lines.now.items c.loop-k.lines.items c.propagate.new.lines.items
-    c.loop-k.invariant.enlarges c.in_ok-k.ensures.enlarges) c.in_ok-learn_block-in-Contradiction.ensures.enlarges).written
-
-pub learn_block-requires-clause-built : goal.learn_block-requires-clause-built
-learn_block-requires-clause-built g c = (c.propagate.ensures.block c.in-Contradiction.block (c.in_ok-k.was ∙ ap Ok c.in-Contradiction.is)).3
+    c.loop-k.invariant.enlarges c.in_ok-k.ensures.enlarges) (c.in_ok-learn_block-in-Contradiction.ensures.enlarges
+    ((c.propagate.ensures.block c.in-Contradiction.block (c.in_ok-k.was ∙ ap Ok c.in-Contradiction.is)).3))).written
 
 -- ---- the lines that the theory may note
 pub returns-in_err-k-clause-budget : goal.returns-in_err-k-clause-budget

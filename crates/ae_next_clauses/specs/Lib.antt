@@ -1,0 +1,1 @@
+-- Laws alone: their words stand in ae_searching (Steps) and in ae_goal_names (Named).
