@@ -1,0 +1,2 @@
+-- The constants of the blocks that a search opened.
+pub mod Blocks

@@ -1,0 +1,4 @@
+pub mod Seen
+pub mod Numbers
+pub mod Blocks
+pub mod Opening

@@ -1,0 +1,2 @@
+-- How many quantifiers are left to open.
+pub mod Counts

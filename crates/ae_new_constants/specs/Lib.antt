@@ -1,0 +1,2 @@
+-- Constants that are new.
+pub mod Below

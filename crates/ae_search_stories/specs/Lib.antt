@@ -1,0 +1,2 @@
+-- Searches that were stopped.
+pub mod Stopped

@@ -1,0 +1,4 @@
+//! The story of a search for any goal, which was stopped, is a legal journal.
+#![tactic(auto)]
+
+pub mod laws;
