@@ -1,0 +1,13 @@
+pub mod Pieces
+pub mod Before
+pub mod Phrases
+pub mod Texts
+pub mod Taken
+pub mod Parses
+pub mod Declares
+pub mod Files
+pub mod Elaborated
+pub mod Opening
+pub mod Demos
+pub mod Simple
+pub mod Whole

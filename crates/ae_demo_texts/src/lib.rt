@@ -1,0 +1,4 @@
+//! Each text of the demo has a problem.
+#![tactic(auto)]
+
+pub mod laws;
