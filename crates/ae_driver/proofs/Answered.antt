@@ -13,7 +13,7 @@ use Rattle.ae_driver.specs.declared.program.Status.{Status}
 use Rattle.ae_driver.specs.declared.program.Status.TheVariants as status
 use Rattle.ae_driver.specs.declared.reasons.Reason.{Reason}
 use Rattle.ae_driver.specs.Inner.Endings.{PartEnds, IsPrinted, ArePrinted, HasParts, GoalsEnd, RefusalEnds, TextEnds}
-use Rattle.ae_driver.specs.Output.{AreParts, IsBegun, IsDone, IsRefused, IsRefusedText, IsOutOfMemory, IsCutOff, IsOffered, IsRead, IsTooLong, Reads, writes_parts, writes_refusal}
+use Rattle.ae_driver.specs.Output.{AreParts, IsDone, IsRefused, IsRefusedText, IsOutOfMemory, IsCutOff, IsOffered, IsRead, IsTooLong, Reads, writes_parts, writes_refusal}
 use Rattle.ae_driver.specs.Passing.{IsDoneAndPasses}
 use Rattle.ae_driver.proofs.OneProblem.{not_refused}
 
@@ -45,14 +45,14 @@ module _ (p : Problem) (limits : Limits) where
     parts_more (suc k) n rest part more (subst (λ j. IsPart p j limits part) (let e : k + suc n ≡ suc k + n = omega arith in e) h),
   )
 
-  printed : (k : ℕ) (part : List ℕ) → IsPart p k limits part → IsReadable p k part → IsPrinted p k part
+  pub printed : (k : ℕ) (part : List ℕ) → IsPart p k limits part → IsReadable p k part → IsPrinted p k part
   printed k part (of_axiom name vars body e w) h = inl (name, vars, body, e, w)
   printed k part (of_goal name vars body answer e r w) h = inr (h name vars body e)
 
   pub nothing_yet : (a : Written) → HasParts p limits 0 a a
   nothing_yet a = record { bytes = []; parts = refl; printed = refl; written = gets_nothing a }
 
-  with_part : (i : ℕ) (bytes part : List ℕ) → AreParts p limits 0 i bytes → IsPart p i limits part → AreParts p limits 0 (i + 1) (bytes ++ part)
+  pub with_part : (i : ℕ) (bytes part : List ℕ) → AreParts p limits 0 i bytes → IsPart p i limits part → AreParts p limits 0 (i + 1) (bytes ++ part)
   with_part i bytes part a h =
       subst (λ m. AreParts p limits 0 m (bytes ++ part)) (let n : suc i ≡ i + 1 = omega arith in n)
       (parts_more 0 i bytes part a (subst (λ m. IsPart p m limits part) (let z : i ≡ 0 + i = omega arith in z) h))

@@ -1,6 +1,6 @@
 -- Verdicts in order, and what a run that checks has written when it ends.
 use Rattle.std.proofs.Common.{◌≡◌, ◌≢◌, ◌≤◌, ◌<◌, ◌⊎◌, ℕ, suc, ◌+◌, List, [], ◌∷◌, ◌++◌, length, take, drop, Option}
-use Rattle.std.proofs.Common.{Some, refl, sym, ap, ◌∙◌, subst, arith, inl, inr, ⊎_elim, append_assoc, append-nil, take-append-drop, length-take-le, length-drop, take_all}
+use Rattle.std.proofs.Common.{refl, sym, ap, ◌∙◌, subst, arith, inl, inr, ⊎_elim, append_assoc, append-nil, take-append-drop, length-take-le, length-drop, take_all}
 use lib.ListN.{length-map}
 use Rattle.std.specs.Prelude.{get_or, IfSome, ◌-◌, Result, Ok, Err}
 use Rattle.std.proofs.lemmas.List.{take_more, take_rest}
@@ -8,6 +8,7 @@ use Rattle.ae_choices.specs.Whole.{ReadsWhole}
 use Rattle.ae_cli.proofs.RightWords.{one_stated, refused_states_nothing}
 use Rattle.ae_cli.specs.Program.{AreRefused, States}
 use Rattle.ae_cli.specs.Words.{Text}
+use Rattle.ae_cli.specs.declared.options.Mode.{Mode}
 use Rattle.ae_cli.specs.declared.options.Mode.TheVariants.{Prove, Check, Demo}
 use Rattle.ae_cli.specs.declared.options.Options.{Options}
 use Rattle.ae_codes.specs.Codes.{Code, one_spelling}
@@ -27,8 +28,7 @@ use Rattle.ae_report.specs.Lines.{refused_at}
 use Rattle.ae_report.specs.declared.refusal.Refusal.TheVariants as refusal
 use Rattle.ae_separator.specs.Separators.{IsParted}
 use Rattle.ae_separator.proofs.Scanning.{one_parting}
-use Rattle.ae_verdicts.specs.Verdicts.{IsVerdict, verdict_line}
-use Rattle.ae_verdicts.specs.declared.lines.Verdict.{Verdict}
+use Rattle.ae_verdicts.specs.Verdicts.{verdict_line}
 use Rattle.ae_verdicts.proofs.OneVerdict.{one_verdict}
 use Rattle.ae_driver.specs.declared.goals.GoalPlace.{GoalPlace}
 use Rattle.ae_driver.specs.declared.program.Status.{Status}
@@ -43,25 +43,31 @@ use Rattle.ae_driver.specs.Checking.{writes_verdicts, writes_input_refusal}
 use Rattle.ae_driver.specs.Inner.Endings.{HasLines, InputEnds, IsVerdictLine, LineEnds, LinesEnd, RefusalEnds}
 use Rattle.ae_driver.specs.Output.{IsRead}
 use Rattle.ae_driver.specs.Problems.{HasNoProblem, IsProblemOf}
-use Rattle.ae_driver.specs.Words.{Ask, AskForNeither}
+use Rattle.ae_driver.specs.Words.{Ask, AskForNothing}
 use Rattle.ae_driver.proofs.Answered.{prefix_then, gets_nothing, told_is}
 use Rattle.ae_driver.proofs.OneProblem.{one_problem, has_problem}
 
 -- ---- what words ask for
+pub one_asked : (words : List Text) (m k : Mode) → Ask m words → Ask k words → m ≡ k
+one_asked words m k a b = sym a.is ∙ ap (λ (x : Options). x.mode) (one_stated words a.options b.options a.stated b.stated) ∙ b.is
+
 pub asks_apart : (words : List Text) → Ask Prove words → Ask Check words → ⊥
-asks_apart words a b = let e : Prove ≡ Check = sym a.is ∙ ap (λ (x : Options). x.mode) (one_stated words a.options b.options a.stated b.stated) ∙ b.is in cc
+asks_apart words a b = let e : Prove ≡ Check = one_asked words Prove Check a b in cc
 
-pub asked_proofs : (words : List Text) (o : Options) → States words o × (o.mode ≡ Prove) → Ask Prove words
-asked_proofs words o h = record { options = o; stated = h.0; is = h.1 }
+pub no_demo_to_prove : (words : List Text) (n : ℕ) → Ask Prove words → Ask (Demo n) words → ⊥
+no_demo_to_prove words n a b = let e : Prove ≡ Demo n = one_asked words Prove (Demo n) a b in cc
 
-pub asks_neither : (words : List Text) (o : Options) (n : ℕ) → States words o → o.mode ≡ Demo n → AskForNeither words
-asks_neither words o n s is = record {
-  no_proofs = λ a. (let e : Prove ≡ Demo n = sym a.is ∙ ap (λ (x : Options). x.mode) (one_stated words a.options o a.stated s) ∙ is in cc);
-  no_check = λ a. (let e : Check ≡ Demo n = sym a.is ∙ ap (λ (x : Options). x.mode) (one_stated words a.options o a.stated s) ∙ is in cc);
-}
+pub no_demo_to_check : (words : List Text) (n : ℕ) → Ask Check words → Ask (Demo n) words → ⊥
+no_demo_to_check words n a b = let e : Check ≡ Demo n = one_asked words Check (Demo n) a b in cc
 
-pub asks_nothing : (words : List Text) → AreRefused words → AskForNeither words
-asks_nothing words r = record { no_proofs = λ a. refused_states_nothing words a.options r a.stated; no_check = λ a. refused_states_nothing words a.options r a.stated }
+pub one_demo : (words : List Text) (m n : ℕ) → Ask (Demo m) words → Ask (Demo n) words → m ≡ n
+one_demo words m n a b = let e : Demo m ≡ Demo n = one_asked words (Demo m) (Demo n) a b in cc
+
+pub asked : (words : List Text) (m : Mode) (o : Options) → States words o × (o.mode ≡ m) → Ask m words
+asked words m o h = record { options = o; stated = h.0; is = h.1 }
+
+pub asks_nothing : (words : List Text) → AreRefused words → AskForNothing words
+asks_nothing words r = λ o s. refused_states_nothing words o r s
 
 -- ---- one verdict more
 verdicts_more : (p : Problem) (gs : List GoalPlace) (qs : List Part) (g : GoalPlace) (q : Part) (bytes line : List ℕ)
@@ -194,7 +200,7 @@ input_not_refused input p parts why is (by_parts before front after q t parted s
     none parts (subst (λ z. ReadsParts q z (Ok parts)) same.1 (subst (λ z. ReadsParts z is.after (Ok parts)) one is.read))
 
 -- ---- an input has one answer
-same_parts : {A : Type 0} (c : Code A) (text : List ℕ) (v w : A) → ReadsWhole c text (Ok v) → ReadsWhole c text (Ok w) → v ≡ w
+pub same_parts : {A : Type 0} (c : Code A) (text : List ℕ) (v w : A) → ReadsWhole c text (Ok v) → ReadsWhole c text (Ok w) → v ≡ w
 unfolding ReadsWhole
 same_parts c text v w h k = one_spelling c v w h.1 k.1 (sym h.0 ∙ k.0)
 

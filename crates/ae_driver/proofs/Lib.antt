@@ -3,3 +3,5 @@ pub mod Answered
 pub mod Fronts
 pub mod Checked
 pub mod Passing
+pub mod Counting
+pub mod DemoReach

@@ -1,5 +1,5 @@
 -- What is printed for a text passes the check.
-use Rattle.std.specs.Prelude.{ℕ, zero, suc, ◌+◌, ◌≤◌, List, [], ◌∷◌, ◌++◌, ◌≡◌, length, drop, slice_get, Some, Ok, codes}
+use Rattle.std.specs.Prelude.{ℕ, zero, suc, ◌≤◌, List, [], ◌∷◌, ◌++◌, ◌≡◌, length, drop, slice_get, Some, Ok, codes}
 use Rattle.std.proofs.Common.{refl, sym, ap, ◌∙◌, subst, arith, inl, inr, append_assoc, append-nil}
 use Rattle.std.proofs.lemmas.List.{drop_all}
 use Rattle.std.proofs.lemmas.Option.{same_Some}
@@ -9,24 +9,21 @@ use Rattle.ae_core.specs.declared.problems.Item.{Item}
 use Rattle.ae_core.specs.declared.formulas.Formula.{Formula}
 use Rattle.ae_core.specs.declared.problems.Item.TheVariants.{Axiom, Goal}
 use Rattle.ae_core.specs.declared.problems.Problem.{Problem}
-use Rattle.ae_core.specs.declared.problems.Signature.{Signature}
 use Rattle.ae_goal_parts.specs.Reach.{AreInReach}
 use Rattle.ae_io.specs.Moves.{Written}
-use Rattle.ae_parts.specs.Codes.{parts_code}
-use Rattle.ae_parts.specs.Parts.{PartsStand, part_text, parts_text}
+use Rattle.ae_parts.specs.Parts.{PartsStand, parts_text}
 use Rattle.ae_parts.specs.declared.parts.Part.{Part}
 use Rattle.ae_parts.proofs.PartLaws.{parts_fit, parts_spelled}
 use Rattle.ae_printed.specs.ReadBack.{IsReadBack, IsRight}
 use Rattle.ae_printed.proofs.ReadingBack.{right_passes}
 use Rattle.ae_search_options.specs.declared.limits.Limits.{Limits}
-use Rattle.ae_separator.specs.Separators.{HasNoSeparator}
 use Rattle.ae_whole_lines.specs.WholeLines.{IsInLines}
 use Rattle.ae_whole_lines.proofs.Parting.{parted}
 use Rattle.ae_whole_lines.proofs.SameFiles.{lines_tokens, lines_problem}
 use Rattle.ae_driver.specs.declared.goals.GoalPlace.{GoalPlace}
 use Rattle.ae_driver.specs.declared.program.Status.{Status}
 use Rattle.ae_driver.specs.declared.program.Status.TheVariants as status
-use Rattle.ae_driver.specs.Checking.{AreVerdicts, IsChecked, IsInput, ReadsParts, goals_from, goals_of, names_of}
+use Rattle.ae_driver.specs.Checking.{AreVerdicts, IsInput, ReadsParts, goals_from, goals_of, names_of}
 use Rattle.ae_driver.specs.Inner.Endings.{IsPrinted, ArePrinted, GoalsEnd, TextEnds}
 use Rattle.ae_driver.specs.Output.{AreParts, IsBegun, Reads}
 use Rattle.ae_driver.specs.Passing.{ArePassed, IsPassedInput, PassFor}
@@ -47,7 +44,7 @@ record Collected (p : Problem) (k : ℕ) (items : List Item) (bytes : List ℕ) 
   written : bytes ≡ parts_text p.signature (names_of (goals_from k items)) parts
   right : AreRight p (goals_from k items) parts
 
-dropped : (items : List Item) (n : ℕ) (x : Item) → slice_get items n ≡ Some x → drop n items ≡ x ∷ drop (suc n) items
+pub dropped : (items : List Item) (n : ℕ) (x : Item) → slice_get items n ≡ Some x → drop n items ≡ x ∷ drop (suc n) items
 dropped [] n x e = never_some x e
 dropped (y ∷ items) zero x e = ap (λ z. z ∷ items) (same_Some y x e)
 dropped (y ∷ items) (suc n) x e = dropped items n x e

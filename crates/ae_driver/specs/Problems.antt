@@ -8,7 +8,6 @@ use Rattle.ae_lex.specs.Lexis.{IsTokenized, IsFault}
 use Rattle.ae_lex.specs.declared.kinds.Token.{Token}
 use Rattle.ae_lex.specs.declared.kinds.LexFault.{LexFault}
 use Rattle.ae_report.specs.Lines.{IsRefusalLine}
-use Rattle.ae_report.specs.declared.refusal.Refusal.{Refusal}
 use Rattle.ae_report.specs.declared.refusal.Refusal.TheVariants as refusal
 use Rattle.ae_syntax.specs.Files.{IsParsed, IsSyntaxFault}
 use Rattle.ae_syntax.specs.declared.decls.File.{File}

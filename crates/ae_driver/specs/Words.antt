@@ -1,9 +1,9 @@
 -- What the words of the command line ask for.
-use Rattle.std.specs.Prelude.{◌≡◌, List}
+use Rattle.std.specs.Prelude.{◌≡◌, ℕ, List}
 use Rattle.ae_cli.specs.Program.{States}
 use Rattle.ae_cli.specs.Words.{Text}
 use Rattle.ae_cli.specs.declared.options.Mode.{Mode}
-use Rattle.ae_cli.specs.declared.options.Mode.TheVariants.{Prove, Check}
+use Rattle.ae_cli.specs.declared.options.Mode.TheVariants.{Prove, Check, Demo}
 use Rattle.ae_cli.specs.declared.options.Options.{Options}
 
 -- the words state options with this mode
@@ -20,7 +20,10 @@ AskToProve = Ask Prove
 abbrev pub AskToCheck : List Text → Type 0
 AskToCheck = Ask Check
 
--- they state no options, or the program is to answer goals of its own
-pub record AskForNeither (words : List Text) : Type 0 where
-  pub no_proofs : ¬ (AskToProve words)
-  pub no_check : ¬ (AskToCheck words)
+-- so many goals of the program's own are to be answered
+abbrev pub AskForDemo : ℕ → List Text → Type 0
+AskForDemo n = Ask (Demo n)
+
+-- they state no options: they are wrong
+abbrev pub AskForNothing : List Text → Type 0
+AskForNothing words = (options : Options) → ¬ (States words options)

@@ -30,8 +30,8 @@ use ae_verdicts::checking::verdict;
 use ae_verdicts::lines::{Verdict, verdict_line};
 use std::alloc::{AllocError, Global};
 
-// What a part is worth.
-fn verdict_of(
+/// What a part is worth as a proof of the goal at this place.
+pub(crate) fn verdict_of(
     alloc: Global,
     problem: &Problem,
     goal: usize,

@@ -3,12 +3,13 @@ ghost use Rattle.std.specs.Prelude.{ℕ, List, [], ◌≡◌};
 ghost use Rattle.ae_parts.specs.declared.parts.Part.{Part};
 ghost use Rattle.ae_core.specs.declared.problems.Problem.{Problem};
 ghost use Rattle.ae_cli.specs.Words.{AreRight, Text};
+ghost use Rattle.ae_cli.specs.declared.options.Mode.{Mode};
 ghost use Rattle.ae_cli.specs.declared.options.Mode.TheVariants.{Prove, Check, Demo};
 ghost use Rattle.ae_cli.specs.declared.options.Options.{Options};
 ghost use Rattle.ae_driver.specs.Checking.{IsChecked, IsInput, IsRefusedInput};
 ghost use Rattle.ae_driver.specs.Output.{IsRefused, Reads};
 ghost use Rattle.ae_driver.specs.Problems.{HasNoProblem, IsProblemOf};
-ghost use Rattle.ae_driver.specs.Words.{AskToProve, AskToCheck, AskForNeither};
+ghost use Rattle.ae_driver.specs.Words.{Ask, AskToProve, AskToCheck, AskForDemo};
 ghost use Rattle.ae_driver.specs.declared.reasons.Reason.{Reason};
 
 /// A text has at most one problem, and one that has a problem isn't refused for want of one.
@@ -37,9 +38,14 @@ pub fn right_words_check()
     ensures { (words : List Text) (o : Options) → AreRight words o → o.mode ≡ Check → AskToCheck words }
 {}
 
-/// Right words ask for neither where they say `--demo`.
+/// Right words ask for a demo of so many goals where they say `--demo`.
 pub fn right_words_demo()
-    ensures { (words : List Text) (o : Options) (n : ℕ) → AreRight words o → o.mode ≡ Demo n → AskForNeither words }
+    ensures { (words : List Text) (o : Options) (n : ℕ) → AreRight words o → o.mode ≡ Demo n → AskForDemo n words }
+{}
+
+/// Words ask for one thing at most.
+pub fn one_task()
+    ensures { (words : List Text) (m k : Mode) → Ask m words → Ask k words → m ≡ k }
 {}
 
 /// An input that is to be checked has one problem and one list of parts, what is written for it is determined, and it isn't

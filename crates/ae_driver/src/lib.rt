@@ -2,6 +2,7 @@
 #![tactic(auto)]
 
 mod checking;
+mod demo;
 mod goals;
 pub mod laws;
 mod program;

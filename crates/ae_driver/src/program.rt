@@ -1,6 +1,6 @@
 //! The top call.
 
-ghost use Rattle.std.specs.Prelude.{◌≡◌, ◌≢◌, ◌⊎◌, ◌≤◌, ◌<◌, length, map, string_bytes, IfOk};
+ghost use Rattle.std.specs.Prelude.{◌≡◌, ◌≢◌, ◌⊎◌, ◌≤◌, ◌<◌, ℕ, length, map, string_bytes, IfOk};
 ghost use Rattle.std.specs.Io.KnownBytes.{IsAtEnd};
 ghost use Rattle.ae_io.specs.Moves.{Rose, Gets, GetsPrefix};
 ghost use Rattle.ae_core.specs.Signatures.{IsLawfulProblem};
@@ -11,11 +11,13 @@ ghost use Rattle.ae_driver.specs.Output.{IsDone, IsOffered, IsRefusedText, IsRef
 ghost use Rattle.ae_driver.specs.Passing.{IsDoneAndPasses};
 ghost use Rattle.ae_driver.specs.Problems.{IsProblemOf};
 ghost use Rattle.ae_driver.specs.Checking.{IsDoneChecking, IsOfferedChecking, IsRefusedChecking, IsOutOfMemoryChecking, IsCutOffChecking};
-ghost use Rattle.ae_driver.specs.Words.{AskToProve, AskToCheck, AskForNeither};
+ghost use Rattle.ae_driver.specs.Demo.{IsDoneDemo, IsOutOfMemoryDemo, IsCutOffDemo};
+ghost use Rattle.ae_driver.specs.Words.{AskToProve, AskToCheck, AskForDemo, AskForNothing};
 ghost use Rattle.ae_driver.specs.Inner.Endings.{IsAsked, IsNotRead, PartEnds, GoalsEnd, PlacesStand, RefusalEnds, TextEnds};
 ghost use Rattle.ae_driver.specs.declared.program.Status.TheVariants.{Done, Refused, ReadFault, WriteFault, Memory, Usage};
 
 use crate::checking::check_input;
+use crate::demo::answer_demo;
 use crate::reasons::{Reason, reason_text};
 use crate::texts::{NotRead, read_problem};
 use ae_cli::options::{CliFail, Mode, Options};
@@ -45,11 +47,12 @@ pub enum Status {
     WriteFault,
     /// There was no memory.
     Memory,
-    /// The words ask neither for proofs nor for a check, and the usage line was written; nothing was read.
+    /// The words are wrong, and the usage line was written; nothing was read.
     Usage,
 }
 
-/// Reads a text, and answers its goals in order, each as soon as it is settled; or checks an output for a text.
+/// Reads a text, and answers its goals in order, each as soon as it is settled; or checks an output for a text; or answers goals of
+/// its own.
 ///
 /// Where the words ask for proofs:
 ///
@@ -75,11 +78,17 @@ pub enum Status {
 /// - `Refused` comes only where the line of the first reason was written: the input is too long, it has no such line, what
 ///   stands before the line has no problem, or what stands behind it are no such parts. Lines count from the start of the input.
 ///
+/// Where they ask for a demo of N goals, nothing is read:
+///
+/// - `Done` comes only where a legal output for the demo's text of N goals was written, as for a text of a source, and then one line
+///   with the number of its parts of each of the four answers, and of the proofs in its parts that the check accepts. The parts are
+///   those that the output is read as.
+/// - It is never refused: the answer is `Done`, `WriteFault` or `Memory`.
+///
 /// And whatever they ask for:
 ///
-/// - `Usage` comes only where the words ask for neither: they are wrong, or they say `--demo`, which isn't there yet. Then the
-///   usage line was written. Where they ask for neither, nothing is read: the answer is `Usage`, `WriteFault` where the line
-///   couldn't be written, or `Memory`.
+/// - `Usage` comes only where the words are wrong, and then the usage line was written. Where they are wrong, nothing is read: the
+///   answer is `Usage`, `WriteFault` where the line couldn't be written, or `Memory`.
 /// - `ReadFault` and `WriteFault` come only where the count of faults of the source or of the sink rose in this call. After
 ///   `ReadFault` the sink is as it was; after `WriteFault` it got a proper front of what was being written.
 /// - `Memory` is the one free answer: nothing was written, or what is written for the first goals.
@@ -93,29 +102,35 @@ pub fn run<S: Source, K: Sink>(
     ensures done { (ask : AskToProve (map string_bytes words.now)) → result ≡ Done → IsDone ask.options.limits (S.left source.old) (K.written sink.old) (K.written sink.new) }
     ensures passes { AskToProve (map string_bytes words.now) → result ≡ Done → IsDoneAndPasses (S.left source.old) (K.written sink.old) (K.written sink.new) }
     ensures done_checking { AskToCheck (map string_bytes words.now) → result ≡ Done → IsDoneChecking (S.left source.old) (K.written sink.old) (K.written sink.new) }
-    ensures end { result ≡ Done → IsAtEnd (S.left source.new) }
+    ensures done_demo { (n : ℕ) (ask : AskForDemo n (map string_bytes words.now)) → result ≡ Done → IsDoneDemo ask.options.limits n (K.written sink.old) (K.written sink.new) }
+    ensures end { AskToProve (map string_bytes words.now) ⊎ AskToCheck (map string_bytes words.now) → result ≡ Done → IsAtEnd (S.left source.new) }
     ensures complete { AskToProve (map string_bytes words.now) → IsOffered (S.left source.old) → ¬ (Rose (S.faults source.old) (S.faults source.new)) → ¬ (Rose (K.faults sink.old) (K.faults sink.new)) → (result ≡ Done) ⊎ (result ≡ Memory) }
     ensures complete_checking { AskToCheck (map string_bytes words.now) → IsOfferedChecking (S.left source.old) → ¬ (Rose (S.faults source.old) (S.faults source.new)) → ¬ (Rose (K.faults sink.old) (K.faults sink.new)) → (result ≡ Done) ⊎ (result ≡ Memory) }
+    ensures complete_demo { (n : ℕ) → AskForDemo n (map string_bytes words.now) → (result ≡ Done) ⊎ ((result ≡ WriteFault) ⊎ (result ≡ Memory)) }
     ensures refused { AskToProve (map string_bytes words.now) → result ≡ Refused → IsRefusedText (S.left source.old) (K.written sink.old) (K.written sink.new) ⊎ IsRefusedByLength (S.left source.old) (K.written sink.old) (K.written sink.new) }
     ensures refused_checking { AskToCheck (map string_bytes words.now) → result ≡ Refused → IsRefusedChecking (S.left source.old) (K.written sink.old) (K.written sink.new) ⊎ IsRefusedByLength (S.left source.old) (K.written sink.old) (K.written sink.new) }
-    ensures usage { result ≡ Usage → AskForNeither (map string_bytes words.now) }
+    ensures usage { result ≡ Usage → AskForNothing (map string_bytes words.now) }
     ensures usage_line { result ≡ Usage → Gets (K.written sink.old) (K.written sink.new) usage_line }
-    ensures words { AskForNeither (map string_bytes words.now) → (result ≡ Usage) ⊎ ((result ≡ WriteFault) ⊎ (result ≡ Memory)) }
-    ensures unread { AskForNeither (map string_bytes words.now) → source.new ≡ source.old }
+    ensures words { AskForNothing (map string_bytes words.now) → (result ≡ Usage) ⊎ ((result ≡ WriteFault) ⊎ (result ≡ Memory)) }
+    ensures unread { AskForNothing (map string_bytes words.now) → source.new ≡ source.old }
+    ensures unread_demo { (n : ℕ) → AskForDemo n (map string_bytes words.now) → source.new ≡ source.old }
     ensures read_fault { result ≡ ReadFault → Rose (S.faults source.old) (S.faults source.new) }
     ensures nothing { result ≡ ReadFault → sink.new ≡ sink.old }
     ensures write_fault { result ≡ WriteFault → Rose (K.faults sink.old) (K.faults sink.new) }
     ensures cut_off { (ask : AskToProve (map string_bytes words.now)) → result ≡ WriteFault → IsCutOff ask.options.limits (S.left source.old) (K.written sink.old) (K.written sink.new) }
     ensures cut_off_checking { AskToCheck (map string_bytes words.now) → result ≡ WriteFault → IsCutOffChecking (S.left source.old) (K.written sink.old) (K.written sink.new) }
-    ensures usage_cut_off { AskForNeither (map string_bytes words.now) → result ≡ WriteFault → GetsPrefix (K.written sink.old) (K.written sink.new) usage_line }
+    ensures cut_off_demo { (n : ℕ) (ask : AskForDemo n (map string_bytes words.now)) → result ≡ WriteFault → IsCutOffDemo ask.options.limits n (K.written sink.old) (K.written sink.new) }
+    ensures usage_cut_off { AskForNothing (map string_bytes words.now) → result ≡ WriteFault → GetsPrefix (K.written sink.old) (K.written sink.new) usage_line }
     ensures memory { (ask : AskToProve (map string_bytes words.now)) → result ≡ Memory → IsOutOfMemory ask.options.limits (S.left source.old) (K.written sink.old) (K.written sink.new) }
     ensures memory_checking { AskToCheck (map string_bytes words.now) → result ≡ Memory → IsOutOfMemoryChecking (S.left source.old) (K.written sink.old) (K.written sink.new) }
-    ensures memory_neither { AskForNeither (map string_bytes words.now) → result ≡ Memory → sink.new ≡ sink.old }
+    ensures memory_demo { (n : ℕ) (ask : AskForDemo n (map string_bytes words.now)) → result ≡ Memory → IsOutOfMemoryDemo ask.options.limits n (K.written sink.old) (K.written sink.new) }
+    ensures memory_nothing { AskForNothing (map string_bytes words.now) → result ≡ Memory → sink.new ≡ sink.old }
 {
     match task_of(alloc, words) {
         Ok(Task::Proofs(asked)) => prove(alloc, picks, asked, source, sink),
         Ok(Task::Check) => check(alloc, source, sink),
-        Ok(Task::Neither) => tell(
+        Ok(Task::Demo(goals, asked)) => answer_demo(alloc, goals, picks, asked, sink),
+        Ok(Task::Nothing) => tell(
             sink,
             b"usage: altac [--steps-bound N] [--gen-bound G] [--pick first|last|mixed] [--check | --demo N]\n",
             Status::Usage,
@@ -130,7 +145,10 @@ enum Task {
     // Proofs, with these options.
     Proofs(Options),
     Check,
-    Neither,
+    // Answers to so many goals of the program's own, with these options.
+    Demo(u32, Options),
+    // They are wrong.
+    Nothing,
 }
 
 // What the words ask for. `Err` where there is no memory to read them.
@@ -141,9 +159,9 @@ fn task_of(alloc: Global, words: &[String]) -> Result<Task, AllocError>
         Ok(stated) => match stated.mode {
             Mode::Prove => Ok(Task::Proofs(stated)),
             Mode::Check => Ok(Task::Check),
-            Mode::Demo(_) => Ok(Task::Neither),
+            Mode::Demo(goals) => Ok(Task::Demo(goals, stated)),
         },
-        Err(CliFail::Usage) => Ok(Task::Neither),
+        Err(CliFail::Usage) => Ok(Task::Nothing),
         Err(CliFail::Memory(error)) => Err(error),
     }
 }

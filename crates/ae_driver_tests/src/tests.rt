@@ -87,7 +87,7 @@ const DECLARED: &[u8] =
     b"type t\ntype u\ntype p = { x : t; y : int }\nlogic ac join : t, t -> t\nlogic z : u\nlogic a, b, c : t\ngoal g : let x = a in x = b -> (x = c)\n";
 
 // Texts that are answered, and the lines that tell the answers.
-const ANSWERED: [(&[u8], &[u8]); 12] = [
+const ANSWERED: [(&[u8], &[u8]); 14] = [
     (DECLARED, b"goal g I don't know\n"),
     (b"", b""),
     (b"(* a (* b *) c *)", b""),
@@ -108,6 +108,11 @@ const ANSWERED: [(&[u8], &[u8]); 12] = [
     ),
     (b"type t\nlogic a, b : t\n", b""),
     (b"axiom z : true", b""),
+    (b"logic x : int\ngoal g : x = x", b"goal g Valid\n"),
+    (
+        b"type c = A | B\nlogic x : c\ngoal g : x = A",
+        b"goal g I don't know\n",
+    ),
     (
         b"type t\nlogic a, b : t\naxiom z : a = b\ngoal g1 : b = a\naxiom y : forall x : int. x <= x\n",
         b"goal g1 Valid\n",
@@ -141,10 +146,13 @@ const REFUSED: [(&[u8], &[u8]); 16] = [
         b"refused 2:17 mismatch bool int\n",
     ),
     (VERIFIER, b"refused form\n"),
-    (b"logic x : int\ngoal g : x = x", b"refused form\n"),
+    (
+        b"logic x, y : int\nlogic f : int -> int\ngoal g1 : 2 * x <> 1\ngoal g2 : x <= y -> y <= x -> f(x) = f(y)",
+        b"refused form\n",
+    ),
     (b"logic x : real\ngoal g : x < x + 1.0", b"refused form\n"),
     (
-        b"type c = A | B\nlogic x : c\ngoal g : x = A",
+        b"type c = A | B\nlogic f : c -> c\ngoal g : f(A) = A -> (forall x : c. f(x) = A)",
         b"refused form\n",
     ),
     (
@@ -335,8 +343,8 @@ fn words_of_the_command_line(rt: HostRuntime) -> Result<(), Fail> {
     let both = ["--check", "--demo", "8"];
     let (status, line) = with_words(alloc, both.as_slice(), TRANSITIVITY)?;
     assert!(rt; status == Status::Usage && line.as_slice() == USAGE);
-    let demo = ["--demo", "8"];
-    let (status, line) = with_words(alloc, demo.as_slice(), TRANSITIVITY)?;
+    let none = ["--demo", "0"];
+    let (status, line) = with_words(alloc, none.as_slice(), TRANSITIVITY)?;
     assert!(rt; status == Status::Usage && line.as_slice() == USAGE);
     let help = ["--help"];
     let (status, line) = with_words(alloc, help.as_slice(), TRANSITIVITY)?;

@@ -3,7 +3,7 @@ use Rattle.std.specs.Prelude.{◌≡◌, ◌⊎◌, ℕ, zero, suc, ◌≤◌, L
 use Rattle.std.specs.List.{AllByRecursion}
 use Rattle.ae_cli.specs.Program.{States}
 use Rattle.ae_cli.specs.Words.{Text}
-use Rattle.ae_cli.specs.declared.options.Mode.TheVariants.{Prove}
+use Rattle.ae_cli.specs.declared.options.Mode.TheVariants.{Prove, Demo}
 use Rattle.ae_core.specs.declared.formulas.Formula.{Formula}
 use Rattle.ae_core.specs.declared.problems.Item.TheVariants.{Axiom}
 use Rattle.ae_core.specs.declared.problems.Problem.{Problem}
@@ -30,13 +30,14 @@ use Rattle.ae_driver.specs.Checking.{AreVerdicts, IsChecked, IsCheckingBegun, Is
 use Rattle.ae_driver.specs.Output.{AreParts, IsRefused, IsLegalOutput, IsBegun}
 use Rattle.ae_driver.specs.Passing.{PassFor}
 use Rattle.ae_driver.specs.Problems.{HasNoProblem, IsReasonLine}
-use Rattle.ae_driver.specs.Words.{AskToCheck, AskForNeither}
+use Rattle.ae_driver.specs.Words.{AskToCheck, AskForNothing}
 
 -- what words ask for
 abbrev pub IsAsked : List Text → Task → Type 0
 IsAsked words (task.Proofs o) = States words o × (o.mode ≡ Prove)
 IsAsked words task.Check = AskToCheck words
-IsAsked words task.Neither = AskForNeither words
+IsAsked words (task.Demo n o) = States words o × (o.mode ≡ Demo n)
+IsAsked words task.Nothing = AskForNothing words
 
 -- the places that the line of a reason tells, and the names that it shows, stand in the text
 abbrev pub PlacesStand : List ℕ → Reason → Type 0

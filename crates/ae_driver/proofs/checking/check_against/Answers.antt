@@ -1,4 +1,4 @@
-use Rattle.std.proofs.Common.{length, sym, ◌∙◌, ap, Ok, Err}
+use Rattle.std.proofs.Common.{length, sym, ◌∙◌, ap}
 use Rattle.ae_driver.proofs.Checked.{goals_many, parts_checked, parts_refused, parts_read, parts_unread}
 use Rattle.ae_driver.proofs.checking.check_against.Goals as goal
 
