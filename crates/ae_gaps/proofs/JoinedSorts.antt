@@ -111,8 +111,8 @@ unplain_product : (h : Head) (ss : List Sort) (a b : Term) → plain_here h (a �
     → is_plain (Apply h ss (a ∷ b ∷ [])) ≡ false
 unplain_product h ss a b e f g = plain-Apply h ss (a ∷ b ∷ []) ∙ ap (λ (z : Bool). z && list_all is_plain (a ∷ b ∷ [])) (e ∙ (λ i. f i || g i))
 
-join_of_names : (sig : Signature) (ts : List Term) (n : ℕ) (h : Head) (ss : List Sort) (a b : Term) → slice_get ts n ≡ Some (Apply h ss (a ∷ b ∷ [])) → IsJoin sig h a b → IsSymbolOfNames sig ts h
-join_of_names sig ts n (head.Symbol k) ss a b at j = inl (k, refl, j)
+join_of_names : (sig : Signature) (ts : List Term) (n : ℕ) (h : Head) (ss : List Sort) (a b : Term) → slice_get ts n ≡ Some (Apply h ss (a ∷ b ∷ [])) → IsJoin sig h a b → IsSymbolOfNames sig ts h ss
+join_of_names sig ts n (head.Symbol k) ss a b at j = inl (k, refl, j, record { name = n; arguments = a ∷ b ∷ []; there = at })
 join_of_names sig ts n (head.Int op.Mul) ss a b at j = inr (n, Apply (head.Int op.Mul) ss (a ∷ b ∷ []), at, unplain_product (head.Int op.Mul) ss a b refl j.0 j.1)
 join_of_names sig ts n (head.Real op.Mul) ss a b at j = inr (n, Apply (head.Real op.Mul) ss (a ∷ b ∷ []), at, unplain_product (head.Real op.Mul) ss a b refl j.0 j.1)
 join_of_names sig ts n (head.Build m) ss a b at j = absurd j

@@ -58,7 +58,7 @@ module _ (sig : Signature) (ts : List Term) (steps : List Step) (p q : Kept) (pa
       record {
         sort = s;
         symbol = subst (λ (u : AcSymbol). IsSymbolOn sig u s) (sym d.symbol) sp.names.symbol;
-        of_names = subst (λ (u : AcSymbol). IsSymbolOfNames sig ts u.head) (sym d.symbol) sp.names.of_names;
+        of_names = subst (λ (u : AcSymbol). IsSymbolOfNames sig ts u.head u.sorts) (sym d.symbol) sp.names.of_names;
         sorted =
             all_append P pair.left pair.right
             (all_same P pair.left (p.entry.right ++ minus q.entry.left c) d.left (all_append P p.entry.right (minus q.entry.left c) r1 (all_minus P q.entry.left c l2)))

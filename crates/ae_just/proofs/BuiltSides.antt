@@ -63,13 +63,13 @@ module _ (sig : Signature) (ts : List Term) where
       let u = joined (numeric real op.Add) [] t (product real ts p) in
       sum_built real u ps (of_sum u real t (product real ts p) refl b (product_built real p w.0)) w.1
 
-  joined_built : (h : Head) (ss : List Sort) (t u : Term) → IsSymbolOfNames sig ts h → IsBuilt sig ts t → IsBuilt sig ts u → IsBuilt sig ts (joined h ss t u)
+  joined_built : (h : Head) (ss : List Sort) (t u : Term) → IsSymbolOfNames sig ts h ss → IsBuilt sig ts t → IsBuilt sig ts u → IsBuilt sig ts (joined h ss t u)
   joined_built h ss t u o b c = elim o [
-    | inl d ↦ of_symbol (joined h ss t u) d.0 ss t u (ap (λ k. Apply k ss (t ∷ u ∷ [])) d.1) d.2 b c
+    | inl d ↦ of_symbol (joined h ss t u) d.0 ss t u (ap (λ k. Apply k ss (t ∷ u ∷ [])) d.1) d.2 d.3 b c
     | inr n ↦ of_unplain (joined h ss t u) h ss t u refl n b c
   ]
 
-  many_built : (h : Head) (ss : List Sort) (t : Term) (ns : List ℕ) → IsSymbolOfNames sig ts h → IsBuilt sig ts t → AllByRecursion (λ a. a < length ts) ns → IsBuilt sig ts (many_from h ss ts t ns)
+  many_built : (h : Head) (ss : List Sort) (t : Term) (ns : List ℕ) → IsSymbolOfNames sig ts h ss → IsBuilt sig ts t → AllByRecursion (λ a. a < length ts) ns → IsBuilt sig ts (many_from h ss ts t ns)
   many_built h ss t [] d b w = b
   many_built h ss t (n ∷ ns) d b w = many_built h ss (joined h ss t (named ts n)) ns d (joined_built h ss t (named ts n) d b (name_built n w.0)) w.1
 

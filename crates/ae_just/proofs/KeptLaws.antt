@@ -3,13 +3,14 @@ use Rattle.std.specs.Prelude.{ℕ, zero, suc, ◌<◌, Bool, List, [], ◌∷◌
 use Rattle.std.specs.List.{AllByRecursion}
 use Rattle.std.proofs.Common.{refl, sym, ap, ◌∙◌, subst, inl, inr}
 use Rattle.std.proofs.lemmas.Option.{slice_get_within}
-use Rattle.ae_rules.specs.Built.{HasIntegers, HasUnplain}
+use Rattle.ae_rules.specs.Built.{HasApplied, HasIntegers, HasUnplain}
 use Rattle.ae_rules.specs.Lines.{fact_ok}
 use Rattle.ae_base.specs.Options.{or_else}
 use Rattle.ae_core.specs.declared.terms.Sort.{Sort}
 use Rattle.ae_core.specs.declared.terms.Head.{Head}
+use Rattle.ae_core.specs.declared.terms.Head.TheVariants as head
 use Rattle.ae_core.specs.declared.terms.Op.TheVariants as op
-use Rattle.ae_core.specs.declared.terms.Term.{Term, Bound}
+use Rattle.ae_core.specs.declared.terms.Term.{Term, Apply, Bound}
 use Rattle.ae_core.specs.declared.problems.Signature.{Signature}
 use Rattle.ae_store.specs.Terms.{named, Keeps}
 use Rattle.ae_base.proofs.ListFacts.{value_at}
@@ -66,13 +67,16 @@ module _ (old new : List Term) (keeps : Keeps old new) where
   pub unplain_kept : HasUnplain old → HasUnplain new
   unplain_kept h = (h.0, h.1, keeps h.0 h.1 h.2, h.3)
 
-  pub symbol_kept : (sig : Signature) (u : Head) → IsSymbolOfNames sig old u → IsSymbolOfNames sig new u
-  symbol_kept sig u h = elim h [ inl d ↦ inl d | inr n ↦ inr (unplain_kept n) ]
+  applied_kept : (k : ℕ) (ss : List Sort) → HasApplied old k ss → HasApplied new k ss
+  applied_kept k ss h = record { name = h.name; arguments = h.arguments; there = keeps h.name (Apply (head.Symbol k) ss h.arguments) h.there }
+
+  pub symbol_kept : (sig : Signature) (u : Head) (ss : List Sort) → IsSymbolOfNames sig old u ss → IsSymbolOfNames sig new u ss
+  symbol_kept sig u ss h = elim h [ inl d ↦ inl (d.0, d.1, d.2, applied_kept d.0 ss d.3) | inr n ↦ inr (unplain_kept n) ]
 
   of_names_kept : (sig : Signature) (s : Side) → IsOfNames sig old s → IsOfNames sig new s
   of_names_kept sig (side.Name n) h = tt
   of_names_kept sig (side.Sum ps c real) h = elim h [ inl e ↦ inl e | inr i ↦ inr (integers_kept sig i) ]
-  of_names_kept sig (side.Many u ns) h = symbol_kept sig u.head h
+  of_names_kept sig (side.Many u ns) h = symbol_kept sig u.head u.sorts h
 
   line_kept : (s : Step) → IsStepWithin (length old) s → own_line new s ≡ own_line old s
   line_kept s h = λ i. line_by 0 (side_kept s.left h.0 i) (side_kept s.right h.1 i) s.rule

@@ -1,7 +1,8 @@
 -- The lines of steps, and when a step is allowed.
 use Rattle.std.specs.Prelude.{ℕ, true, List, [], ◌∷◌, ◌≡◌, ◌⊎◌, map, take, length, slice_get, Some}
 use Rattle.ae_rules.specs.Lines.{Fact, equal, Allowed, IsAc, fact_ok}
-use Rattle.ae_rules.specs.Built.{HasIntegers, HasUnplain, AreFactorsWithin}
+use Rattle.ae_rules.specs.Built.{HasApplied, HasIntegers, HasUnplain, AreFactorsWithin}
+use Rattle.ae_core.specs.declared.terms.Sort.{Sort}
 use Rattle.ae_core.specs.declared.terms.Head.{Head}
 use Rattle.ae_core.specs.declared.terms.Head.TheVariants as head
 use Rattle.ae_core.specs.declared.terms.Term.{Term}
@@ -100,19 +101,19 @@ IsStepWithin n s = IsWithin n s.left × IsWithin n s.right
 pub record AreWithin (n : ℕ) (steps : List Step) : Type 0 where
   pub each : (i : ℕ) (s : Step) → slice_get steps i ≡ Some s → IsStepWithin n s
 
--- a declared AC symbol, no product
-abbrev pub IsDeclaredAc : Signature → Head → Type 0
-IsDeclaredAc sig h = (k : ℕ) × (h ≡ head.Symbol k) × IsAc sig (head.Symbol k)
+-- a declared AC symbol, no product, that one of the terms applies with these sorts
+abbrev pub IsDeclaredAc : Signature → List Term → Head → List Sort → Type 0
+IsDeclaredAc sig ts h ss = (k : ℕ) × (h ≡ head.Symbol k) × IsAc sig (head.Symbol k) × HasApplied ts k ss
 
--- the symbol of a multiset is declared, or one of the terms isn't plain
-abbrev pub IsSymbolOfNames : Signature → List Term → Head → Type 0
-IsSymbolOfNames sig ts h = IsDeclaredAc sig h ⊎ HasUnplain ts
+-- the symbol of a multiset is declared and one of the terms applies it, or one of the terms isn't plain
+abbrev pub IsSymbolOfNames : Signature → List Term → Head → List Sort → Type 0
+IsSymbolOfNames sig ts h ss = IsDeclaredAc sig ts h ss ⊎ HasUnplain ts
 
 -- a side has integers only where a name is one, and the factors of a product only where a name isn't plain
 abbrev pub IsOfNames : Signature → List Term → Side → Type 0
 IsOfNames sig ts (side.Name n) = Unit {0}
 IsOfNames sig ts (side.Sum ps c real) = (real ≡ true) ⊎ HasIntegers sig ts
-IsOfNames sig ts (side.Many u ns) = IsSymbolOfNames sig ts u.head
+IsOfNames sig ts (side.Many u ns) = IsSymbolOfNames sig ts u.head u.sorts
 
 abbrev pub IsStepOfNames : Signature → List Term → Step → Type 0
 IsStepOfNames sig ts s = IsOfNames sig ts s.left × IsOfNames sig ts s.right

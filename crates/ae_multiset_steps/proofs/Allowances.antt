@@ -48,12 +48,12 @@ sides_allowed sig ts steps u xs ys by l r e f a =
     subst (λ (z : Side). IsAllowedStep sig ts steps (record { left = z; right = r; rule = by })) (sym e)
     (subst (λ (z : Side). IsAllowedStep sig ts steps (record { left = side.Many u xs; right = z; rule = by })) (sym f) a)
 
-pub sides_of_names : (sig : Signature) (ts : List Term) (u : AcSymbol) (xs ys : List ℕ) (by : Rule) (l r : Side) → l ≡ side.Many u xs → r ≡ side.Many u ys → IsSymbolOfNames sig ts u.head
+pub sides_of_names : (sig : Signature) (ts : List Term) (u : AcSymbol) (xs ys : List ℕ) (by : Rule) (l r : Side) → l ≡ side.Many u xs → r ≡ side.Many u ys → IsSymbolOfNames sig ts u.head u.sorts
     → IsStepOfNames sig ts (record { left = l; right = r; rule = by })
 sides_of_names sig ts u xs ys by l r e f h = (subst (IsOfNames sig ts) (sym e) h, subst (IsOfNames sig ts) (sym f) h)
 
 -- the symbol of a step that stands
-pub symbol_of : (sig : Signature) (ts : List Term) (steps : List Step) → Fits sig ts steps → (id : ℕ) (u : AcSymbol) (xs ys : List ℕ) → StatesMany steps id u xs ys → IsSymbolOfNames sig ts u.head
+pub symbol_of : (sig : Signature) (ts : List Term) (steps : List Step) → Fits sig ts steps → (id : ℕ) (u : AcSymbol) (xs ys : List ℕ) → StatesMany steps id u xs ys → IsSymbolOfNames sig ts u.head u.sorts
 symbol_of sig ts steps fits id u xs ys s = (fits.built.each id (record { left = side.Many u xs; right = side.Many u ys; rule = s.by }) s.there).0
 
 pub itself_step : (sig : Signature) (ts : List Term) (steps : List Step) (n : ℕ) → known (sort_of sig (named ts n)) ≡ true

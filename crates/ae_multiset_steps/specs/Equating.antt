@@ -28,7 +28,7 @@ pub record RestsOnThese (old new : List Step) (id : ℕ) (given : List ℕ) : Ty
 pub record AreNamesOf (sig : Signature) (ts : List Term) (u : AcSymbol) (names : List ℕ) : Type 0 where
   pub sort : Sort
   pub symbol : IsSymbolOn sig u sort
-  pub of_names : IsSymbolOfNames sig ts u.head
+  pub of_names : IsSymbolOfNames sig ts u.head u.sorts
   pub sorted : AllByRecursion (IsOfSort sig ts sort) names
 
 -- the steps of these numbers equate the names of the left list with those of the right one, place by place

@@ -69,7 +69,7 @@ pub(crate) fn add_many(
     requires fits { Fits store.now.signature (terms (shapes store.now.nodes)) justs.old }
     requires allowed { IsAllowedStep store.now.signature (terms (shapes store.now.nodes)) justs.old
         (record { left = side.Many symbol.now left.now; right = side.Many symbol.now right.now; rule = rule }) }
-    requires built { IsSymbolOfNames store.now.signature (terms (shapes store.now.nodes)) symbol.now.head }
+    requires built { IsSymbolOfNames store.now.signature (terms (shapes store.now.nodes)) symbol.now.head symbol.now.sorts }
     requires factors { AreRuleFactorsWithin rule }
     requires assumes { tag_of rule ≡ [] }
     ensures states { IfOk result (λ id. StatesMany justs.new id symbol.now left.now right.now) }

@@ -66,7 +66,7 @@ module _ (sig : Signature) (old new : List Term) (keeps : Keeps old new) where
       record {
         sort = a.sort;
         symbol = a.symbol;
-        of_names = symbol_kept old new keeps sig u.head a.of_names;
+        of_names = symbol_kept old new keeps sig u.head u.sorts a.of_names;
         sorted = all_weaker (IsOfSort sig old a.sort) (IsOfSort sig new a.sort) (sort_kept a.sort) names a.sorted;
       }
 

@@ -24,6 +24,12 @@ HasIntegers sig ts = (n : ℕ) × (t : Term) × (slice_get ts n ≡ Some t) × (
 abbrev pub HasUnplain : List Term → Type 0
 HasUnplain ts = (n : ℕ) × (t : Term) × (slice_get ts n ≡ Some t) × (is_plain t ≡ false)
 
+-- one of the terms applies the symbol, with these sorts for its variables
+pub record HasApplied (ts : List Term) (k : ℕ) (ss : List Sort) : Type 0 where
+  pub name : ℕ
+  pub arguments : List Term
+  pub there : slice_get ts name ≡ Some (Apply (head.Symbol k) ss arguments)
+
 -- a whole number, as a numeral of `real` or of `int`
 abbrev pub numeral : Bool → ℤ → Term
 numeral real z = Num z (pos 1) real
@@ -32,13 +38,13 @@ abbrev pub computed : Bool → Op → Term → Term → Term
 computed real o s t = Apply (cond real (head.Real o) (head.Int o)) [] (s ∷ t ∷ [])
 
 -- the term is one of the given terms; a whole number, of `int` only where one of these is an integer; one of them times a whole number; a sum of such terms; or
--- what a declared AC symbol joins of such terms. Where a given term isn't plain, any symbol may join them
+-- what a declared AC symbol that one of them applies joins of such terms. Where a given term isn't plain, any symbol may join them
 pub data IsBuilt (sig : Signature) (ts : List Term) : Term → Type 0 where
   of_name : (u : Term) → Contains ts u → IsBuilt sig ts u
   of_number : (u : Term) (real : Bool) (z : ℤ) → u ≡ numeral real z → (real ≡ true) ⊎ HasIntegers sig ts → IsBuilt sig ts u
   of_product : (u : Term) (real : Bool) (z : ℤ) (t : Term) → u ≡ computed real op.Mul (numeral real z) t → Contains ts t → IsBuilt sig ts u
   of_sum : (u : Term) (real : Bool) (s t : Term) → u ≡ computed real op.Add s t → IsBuilt sig ts s → IsBuilt sig ts t → IsBuilt sig ts u
-  of_symbol : (u : Term) (k : ℕ) (ss : List Sort) (s t : Term) → u ≡ Apply (head.Symbol k) ss (s ∷ t ∷ []) → IsAc sig (head.Symbol k) → IsBuilt sig ts s → IsBuilt sig ts t → IsBuilt sig ts u
+  of_symbol : (u : Term) (k : ℕ) (ss : List Sort) (s t : Term) → u ≡ Apply (head.Symbol k) ss (s ∷ t ∷ []) → IsAc sig (head.Symbol k) → HasApplied ts k ss → IsBuilt sig ts s → IsBuilt sig ts t → IsBuilt sig ts u
   of_unplain : (u : Term) (h : Head) (ss : List Sort) (s t : Term) → u ≡ Apply h ss (s ∷ t ∷ []) → HasUnplain ts → IsBuilt sig ts s → IsBuilt sig ts t → IsBuilt sig ts u
 
 -- each factor of a sum has 127 bits beside its sign
