@@ -1,4 +1,4 @@
--- What is built of names of the ground fragment is of the fragment, where it is well sorted and no AC symbol works on a name's sort that holds an enumeration.
+-- What is built of names of the ground fragment is of the fragment, where it is well sorted.
 use Rattle.std.specs.Prelude.{ℤ, pos, ℕ, Bool, true, false, cond, ◌&&◌, ◌||◌, ◌⊎◌, List, [], ◌∷◌, ◌≡◌, Option, Some, None}
 use Rattle.std.specs.List.{AllByRecursion, Contains}
 use Rattle.std.proofs.Common.{refl, sym, ap, ◌∙◌, subst, inl, inr}
@@ -20,10 +20,9 @@ use Rattle.ae_core.specs.declared.problems.Signature.{Signature}
 use Rattle.ae_core.specs.declared.proofs.EqLine.{EqLine}
 use Rattle.ae_core.specs.declared.proofs.Relation.{Relation}
 use Rattle.ae_core.specs.declared.proofs.Relation.TheVariants.{Equal, AtMost, Below}
-use Rattle.ae_core.proofs.ClosedSorts.{applied_is, applied_from}
 use Rattle.ae_core.proofs.SortFacts.{same_known_is}
 use Rattle.ae_core.proofs.SortLaws.{sort_in_num}
-use Rattle.ae_rules.specs.Built.{HasIntegers, HasUnplain, numeral, computed, IsBuilt, of_name, of_number, of_product, of_sum, of_symbol, of_unplain, IsBuiltEquation}
+use Rattle.ae_rules.specs.Built.{HasIntegers, HasUnplain, HasApplied, numeral, computed, IsBuilt, of_name, of_number, of_product, of_sum, of_symbol, of_unplain, IsBuiltEquation}
 use Rattle.ae_rules.specs.Instances.{choices_of}
 use Rattle.ae_rules.specs.Linear.{Linear, form, is_number, is_plain, plain_here}
 use Rattle.ae_rules.specs.Lines.{Fact, IsAc, IsNumeric, states, fact_ok}
@@ -33,8 +32,8 @@ use Rattle.ae_journal.specs.Ground.{subterms, HasFragmentSort, JoinsNoEnumeratio
 use Rattle.ae_journal.specs.Systems.{fields_of, record_fields}
 use Rattle.ae_journal.proofs.Splits.{contains_at}
 use Rattle.ae_evaluation.proofs.Decisions.{same_list}
-use Rattle.ae_evaluation.proofs.SortFacts.{is_applied, ac_arguments}
-use Rattle.ae_ground_laws.specs.Terms.{AreGroundNames, JoinNoEnumeration}
+use Rattle.ae_evaluation.proofs.SortFacts.{is_applied, result_is, ac_arguments}
+use Rattle.ae_ground_laws.specs.Terms.{AreGroundNames}
 use Rattle.ae_ground_laws.proofs.Plain.{Plain, plain_num, plain_apply}
 use Rattle.ae_ground_laws.proofs.Subterms.{subterms_num, subterms_apply, all_flat, own, number_no_application, same_head}
 
@@ -125,10 +124,6 @@ module _ (sig : Signature) where
   number_sort : (real : Bool) (z : ℤ) (s : Sort) → sort_of sig (numeral real z) ≡ Some s → cond real Real Int ≡ s
   number_sort real z s so = (when_some (numeral_ok z (pos 1) real) (cond real Real Int) s (sym (sort_in_num sig (is_closed_sort sig) [] z (pos 1) real) ∙ so)).1
 
-  number_numeric : (real : Bool) (z : ℤ) (s : Sort) → sort_of sig (numeral real z) ≡ Some s → IsNumeric s
-  number_numeric true z s so = inr (sym (number_sort true z s so))
-  number_numeric false z s so = inl (sym (number_sort false z s so))
-
   sum_plain : (real : Bool) (a b : Term) → plain_here (cond real (head.Real op.Add) (head.Int op.Add)) (a ∷ b ∷ []) ≡ true
   sum_plain true a b = refl
   sum_plain false a b = refl
@@ -141,39 +136,28 @@ module _ (sig : Signature) where
     ac_sorts : (k : ℕ) (ss : List Sort) → IsAc sig (head.Symbol k) → OfOneSort (head.Symbol k) ss
     ac_sorts k ss ac args s h = ac_arguments sig lawful (head.Symbol k) ss args s ac h
 
-    pub joined_sort : (k : ℕ) (ss : List Sort) (a b : Term) (s : Sort) → IsAc sig (head.Symbol k) → sort_of sig (Apply (head.Symbol k) ss (a ∷ b ∷ [])) ≡ Some s → sort_of sig a ≡ Some s
-    joined_sort k ss a b s ac so = (two_of_one (head.Symbol k) ss a b s (ac_sorts k ss ac) so).0
+  -- the sort of an application hangs on its head and the head's sorts alone
+  same_result : (h : Head) (ss : List Sort) (us vs : List Term) (s o : Sort) → sort_of sig (Apply h ss us) ≡ Some s → sort_of sig (Apply h ss vs) ≡ Some o → s ≡ o
+  same_result h ss us vs s o a b =
+      let i = is_applied sig h ss us s a in
+      let j = is_applied sig h ss vs o b in
+      same_Some s o (sym (result_is sig h ss i.args s i.headed) ∙ result_is sig h ss j.args o j.headed)
 
-    pub itself_joined : (k : ℕ) (ss : List Sort) (us : List Term) (t : Term) (s : Sort) → IsAc sig (head.Symbol k) → sort_of sig (Apply (head.Symbol k) ss us) ≡ Some s → sort_of sig t ≡ Some s
-        → sort_of sig (Apply (head.Symbol k) ss (t ∷ t ∷ [])) ≡ Some s
-    itself_joined k ss us t s ac so st =
-        let i = applied_is sig (head.Symbol k) ss us s so in
-        applied_from sig (head.Symbol k) ss (t ∷ t ∷ []) s
-        (record { closed = i.closed; args = i.args; are = (λ j. all_known (st j ∷ st j ∷ [])) ∙ ap (λ (os : List Sort). Some os) (sym (ac_sorts k ss ac i.args s i.is)); is = i.is })
-
-  module _ (lawful : IsLawful sig) (ts : List Term) (names : AreGroundNames sig ts) (apart : JoinNoEnumeration sig ts) where
+  module _ (lawful : IsLawful sig) (ts : List Term) (names : AreGroundNames sig ts) where
     no_integers : HasIntegers sig ts → ⊥
     no_integers (n, t, at, so) = no_integer sig Int refl (own_sort t Int ((names t (contains_at ts n t at)).1 Int so) so)
 
     none_unplain : HasUnplain ts → ⊥
     none_unplain (n, t, at, u) = not_both (is_plain t) (names t (contains_at ts n t at)).0 u
 
-    -- ---- the sort of what is built is numeric or a name's
-    abbrev HasLeaf : Sort → Type 0
-    HasLeaf s = IsNumeric s ⊎ ((t : Term) × Contains ts t × (sort_of sig t ≡ Some s))
-
-    leaf : (u : Term) → IsBuilt sig ts u → (s : Sort) → sort_of sig u ≡ Some s → HasLeaf s
-    leaf u (of_name w c) s so = inr (u, c, so)
-    leaf u (of_number w real z e m) s so = inl (number_numeric real z s (ap (sort_of sig) (sym e) ∙ so))
-    leaf u (of_product w real z t e c) s so = inl (product_numeric real (numeral real z ∷ t ∷ []) s (ap (sort_of sig) (sym e) ∙ so))
-    leaf u (of_sum w real a b e k l) s so = inl (sum_numeric real (a ∷ b ∷ []) s (ap (sort_of sig) (sym e) ∙ so))
-    leaf u (of_symbol w n ss a b e ac k l) s so = leaf a k s (joined_sort lawful n ss a b s ac (ap (sort_of sig) (sym e) ∙ so))
-    leaf u (of_unplain w h ss a b e n k l) s so = absurd (none_unplain n)
-
-    -- an AC symbol that joins terms of a name's sort could join the name with itself
-    holds_none : (k : ℕ) (ss : List Sort) (us : List Term) (s : Sort) → IsAc sig (head.Symbol k) → sort_of sig (Apply (head.Symbol k) ss us) ≡ Some s → HasLeaf s → HoldsEnumeration sig s → ⊥
-    holds_none k ss us s ac so (inl n) = numeric_holds_none sig s n
-    holds_none k ss us s ac so (inr (t, c, st)) = apart k ss t s ac c (itself_joined lawful k ss us t s ac so st)
+    -- ---- an AC symbol that a name applies joins no enumeration
+    holds_none : (k : ℕ) (ss : List Sort) (us : List Term) (s : Sort) → IsAc sig (head.Symbol k) → HasApplied ts k ss → sort_of sig (Apply (head.Symbol k) ss us) ≡ Some s → ¬ (HoldsEnumeration sig s)
+    holds_none k ss us s ac a so =
+        let t = Apply (head.Symbol k) ss a.arguments in
+        let name = names t (contains_at ts a.name t a.there) in
+        let o = name.2 k ss a.arguments refl ac in
+        let joins = own (JoinsNoEnumeration sig []) t (name.1 o.0 o.1).joins in
+        subst (λ (z : Sort). ¬ (HoldsEnumeration sig z)) (same_result (head.Symbol k) ss a.arguments us o.0 s o.1 so) (joins (head.Symbol k) ss a.arguments o.0 refl ac o.1)
 
     -- ---- what is built
     abbrev Claim : Term → Type 0
@@ -213,11 +197,10 @@ module _ (sig : Signature) where
         subst (IsFragmentTerm sig []) (sym e)
         (joined_good (cond real (head.Real op.Add) (head.Int op.Add)) [] a b s (sum_sorts real) (λ ac. numeric_holds_none sig s (sum_numeric real (a ∷ b ∷ []) s q)) (sum_plain real a b)
         (built_good a k) (built_good b l) q)
-    built_good u (of_symbol w n ss a b e ac k l) s so =
+    built_good u (of_symbol w n ss a b e ac x k l) s so =
         let q = ap (sort_of sig) (sym e) ∙ so in
-        let f = leaf a k s (joined_sort lawful n ss a b s ac q) in
         subst (IsFragmentTerm sig []) (sym e)
-        (joined_good (head.Symbol n) ss a b s (ac_sorts lawful n ss ac) (λ c. holds_none n ss (a ∷ b ∷ []) s ac q f) refl (built_good a k) (built_good b l) q)
+        (joined_good (head.Symbol n) ss a b s (ac_sorts lawful n ss ac) (λ c. holds_none n ss (a ∷ b ∷ []) s ac x q) refl (built_good a k) (built_good b l) q)
     built_good u (of_unplain w h ss a b e n k l) s so = absurd (none_unplain n)
 
     -- ---- lines

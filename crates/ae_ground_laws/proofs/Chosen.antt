@@ -1,5 +1,4 @@
--- The constructors of the sort of a term have that sort, and are of the ground fragment; and where no term of a sort that holds an enumeration occurs, no AC symbol
--- works on such a sort of a term that occurs.
+-- The constructors of the sort of a term have that sort, and are of the ground fragment.
 use Rattle.std.specs.Prelude.{ℕ, true, false, ◌&&◌, nat_eq, List, [], ◌∷◌, ◌≡◌, ◌≢◌, map, length, slice_get, Option, Some, None}
 use Rattle.std.specs.List.{AllByRecursion, Contains, list_all}
 use Rattle.std.proofs.Common.{refl, sym, ap, ◌∙◌, subst, arith, inl, inr}
@@ -18,7 +17,6 @@ use Rattle.ae_core.specs.declared.terms.Head.{Head}
 use Rattle.ae_core.specs.declared.terms.Head.TheVariants as head
 use Rattle.ae_core.specs.declared.terms.Op.TheVariants as op
 use Rattle.ae_core.specs.declared.problems.Signature.{Signature}
-use Rattle.ae_core.specs.declared.problems.Problem.{Problem}
 use Rattle.ae_core.specs.declared.problems.SymbolEntry.{SymbolEntry}
 use Rattle.ae_core.specs.declared.problems.TypeEntry.{TypeEntry}
 use Rattle.ae_core.specs.declared.problems.Kind.{Kind}
@@ -36,9 +34,7 @@ use Rattle.ae_journal.proofs.Splits.{contains_cases, contains_one}
 use Rattle.ae_evaluation.proofs.Decisions.{yes_sorts}
 use Rattle.ae_evaluation.proofs.Plainness.{sort-Apply}
 use Rattle.ae_evaluation.proofs.SortFacts.{is_applied, ac_arguments}
-use Rattle.ae_reach.specs.Budget.{HasNoEnumerations, JoinsNoEnumerations}
 use Rattle.ae_ground_laws.specs.Terms.{IsGroundName}
-use Rattle.ae_ground_laws.proofs.Built.{joined_sort}
 use Rattle.ae_ground_laws.proofs.Plain.{plain_apply}
 use Rattle.ae_ground_laws.proofs.Subterms.{subterms_apply, same_head}
 
@@ -179,8 +175,5 @@ module _ (sig : Signature) where
           joins = subst (AllByRecursion (JoinsNoEnumeration sig [])) (sym (subterms_apply h [] []))
               ((λ k os vs z e ac i. absurd (no_join k z (same_head h k [] os [] vs e) ac i)), tt);
         },
+        λ k os us e ac. (s, choice_sorted),
       )
-
--- ---- goals in which no term of a sort that holds an enumeration occurs
-pub joins_none : (p : Problem) (g : ℕ) → IsLawful p.signature → HasNoEnumerations p g → JoinsNoEnumerations p g
-joins_none p g law none k ss t s ac o so = none t s o (joined_sort p.signature law k ss t t s ac so)

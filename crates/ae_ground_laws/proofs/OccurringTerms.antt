@@ -11,7 +11,7 @@ use Rattle.ae_base.proofs.ListFacts.{value_at, get_map}
 use Rattle.ae_base.proofs.Options.{never_some}
 use Rattle.ae_core.specs.Inner.Induction.{by_formulas}
 use Rattle.ae_core.specs.Putting.{put_sort}
-use Rattle.ae_core.specs.Signatures.{IsLawful}
+use Rattle.ae_core.specs.Signatures.{IsLawful, IsEnumerated}
 use Rattle.ae_core.specs.Sorts.{sort_of, formula_ok, is_closed_sort}
 use Rattle.ae_core.specs.declared.terms.Sort.{Sort, Sort-F, Named, out-Sort, roll-Sort, roll-out-Sort}
 use Rattle.ae_core.specs.declared.terms.Sort.TheOpen as sort_layer
@@ -25,6 +25,9 @@ use Rattle.ae_core.specs.declared.problems.Signature.{Signature}
 use Rattle.ae_core.specs.declared.problems.Problem.{Problem}
 use Rattle.ae_core.specs.declared.problems.TypeEntry.{TypeEntry}
 use Rattle.ae_core.specs.declared.problems.FieldEntry.{FieldEntry}
+use Rattle.ae_core.specs.declared.problems.SymbolEntry.{SymbolEntry}
+use Rattle.ae_core.specs.declared.problems.Nature.{Nature}
+use Rattle.ae_core.specs.declared.problems.Nature.TheVariants.{Free, Ac, Choice}
 use Rattle.ae_core.specs.declared.problems.Kind.{Kind}
 use Rattle.ae_core.specs.declared.problems.Kind.TheVariants.{Abstract, Choices, Fields}
 use Rattle.ae_core.proofs.ClosedSorts.{field_sorted}
@@ -38,12 +41,12 @@ use Rattle.ae_rules.specs.Linear.{is_plain}
 use Rattle.ae_rules.specs.Lines.{fields_from, IsAc}
 use Rattle.ae_journal.specs.Ground.{IsFragmentSort, AreFragmentSorts, reals, rigid, abstract, choices, records, more}
 use Rattle.ae_journal.specs.Ground.{atom_terms, subterms, HasFragmentSort, JoinsNoEnumeration, IsFragmentTerm, IsGroundFormula, IsGroundGoal, IsGround}
+use Rattle.ae_journal.specs.Evaluation.{result_sort}
 use Rattle.ae_journal.specs.States.{outside, outside_step}
 use Rattle.ae_journal.specs.Systems.{record_fields, fields_of, field_terms, field_terms_of}
 use Rattle.ae_journal.proofs.Splits.{all_contained, contains_cases}
 use Rattle.ae_evaluation.proofs.Decisions.{both_all}
-use Rattle.ae_evaluation.proofs.SortFacts.{is_applied, result_is, no_result}
-use Rattle.ae_settled.proofs.Sorts.{is_record}
+use Rattle.ae_settled.proofs.Sorts.{is_record, predicate_unsorted, predicate_apart}
 use Rattle.ae_reach.specs.Budget.{IsFirst, a_hypothesis, the_goal, the_block, Occurs, itself, argument, field}
 use Rattle.ae_reach.specs.Reach.{IsInReach}
 use Rattle.ae_ground_laws.specs.Terms.{IsGroundName}
@@ -93,11 +96,24 @@ fragment_fields sig _ ss (abstract m us y at k) e = absurd (no_record sig m us s
 fragment_fields sig _ ss (choices s hs c) e = absurd (not_both sig s hs ss c e)
 fragment_fields sig _ ss (records m us fs f all) e = subst (AreFragmentSorts sig) (same_Some fs ss (sym f ∙ e)) all
 
+-- a declared AC symbol has a result
+ac_result : (sig : Signature) → IsLawful sig → (k : ℕ) (ss : List Sort) → IsAc sig (head.Symbol k) → (s : Sort) × (result_sort sig (head.Symbol k) ss ≡ Some s)
+ac_result sig law k ss (e, at, ac) =
+    let r = by_nature e.nature ac (law.symbols k e at).2 in
+    (put_sort ss r.0, ap (λ (o : Option SymbolEntry). o >>= λ e. e.result >>= λ s. Some (put_sort ss s)) at ∙ ap (λ (o : Option Sort). o >>= λ s. Some (put_sort ss s)) r.1)
+  where
+    by_nature : (m : Nature) → m ≡ Ac
+        → elim m as (λ _. Type 0) [ Free ↦ Unit {0} | Ac ↦ (s : Sort) × (e.args ≡ s ∷ s ∷ []) × (e.result ≡ Some s) | Choice of place ↦ (e.vars ≡ 0) × (e.args ≡ []) × (e.result ≡ Some (Named of [])) × IsEnumerated sig of ]
+        → (s : Sort) × (e.result ≡ Some s)
+    by_nature Free n l = absurd (cc)
+    by_nature Ac n l = (l.0, l.2)
+    by_nature (Choice of place) n l = absurd (cc)
+
 module _ (sig : Signature) where
   -- a term of the fragment, or a predicate's application to such terms
   pub data Fine (t : Term) : Type 0 where
     fragment : IsFragmentTerm sig [] t → Fine t
-    application : (n : ℕ) (ss : List Sort) (us : List Term) → t ≡ Apply (head.Symbol n) ss us → sort_of sig t ≡ None → AllByRecursion (IsFragmentTerm sig []) us → Fine t
+    application : (n : ℕ) (ss : List Sort) (us : List Term) → t ≡ Apply (head.Symbol n) ss us → formula_ok sig (Pred n ss us) ≡ true → AllByRecursion (IsFragmentTerm sig []) us → Fine t
 
   -- ---- arguments
   together : (us : List Term) → AllByRecursion (λ t. is_plain t ≡ true) us → AllByRecursion (λ t. AllByRecursion (HasFragmentSort sig []) (subterms t)) us
@@ -113,7 +129,7 @@ module _ (sig : Signature) where
 
   argument_fine : (h : Head) (ss : List Sort) (us : List Term) (t : Term) → Fine (Apply h ss us) → Contains us t → Fine t
   argument_fine h ss us t (fragment i) c = fragment (all_contained (IsFragmentTerm sig []) us t (arguments_fragment h ss us i) c)
-  argument_fine h ss us t (application n os vs e unsorted all) c =
+  argument_fine h ss us t (application n os vs e ok all) c =
       fragment (all_contained (IsFragmentTerm sig []) us t (subst (AllByRecursion (IsFragmentTerm sig [])) (sym (same_arguments h (head.Symbol n) ss os us vs e)) all) c)
 
   -- ---- fields
@@ -150,17 +166,8 @@ module _ (sig : Signature) where
       subst Fine f.2 (fragment (field_fragment d.type f.0 d.sorts u o sorted (at_field sig ss f.0 o all at) g))
 
   -- ---- formulas
-  no_sort : (n : ℕ) (ss : List Sort) (us : List Term) → formula_ok sig (Pred n ss us) ≡ true → sort_of sig (Apply (head.Symbol n) ss us) ≡ None
-  no_sort n ss us ok = by (sort_of sig (Apply (head.Symbol n) ss us)) refl
-    where
-      by : (o : Option Sort) → sort_of sig (Apply (head.Symbol n) ss us) ≡ o → o ≡ None
-      by None e = refl
-      by (Some s) e =
-          let a = is_applied sig (head.Symbol n) ss us s e in
-          never_some s (sym (no_result sig n ss us ok ss) ∙ result_is sig (head.Symbol n) ss a.args s a.headed)
-
   predicate : (n : ℕ) (ss : List Sort) (us : List Term) → formula_ok sig (Pred n ss us) ≡ true → AllByRecursion (IsFragmentTerm sig []) us → Fine (Apply (head.Symbol n) ss us)
-  predicate n ss us ok a = application n ss us refl (no_sort n ss us ok) a
+  predicate n ss us ok a = application n ss us refl ok a
 
   abbrev Terms : Formula → Type 0
   Terms f = AllByRecursion (IsFragmentTerm sig []) (atom_terms f)
@@ -236,12 +243,18 @@ module _ (p : Problem) (g : ℕ) (law : IsLawful p.signature) (reach : IsInReach
   occurs_fine t (argument h ss us o i) = argument_fine p.signature h ss us t (occurs_fine (Apply h ss us) o) i
   occurs_fine t (field s ss u o so e c) = elim (occurs_fine u o) as (λ _. Fine p.signature t) [
     | fragment i ↦ field_fine p.signature law s ss u i so e t c
-    | application n os vs q unsorted all ↦ never_some s (sym unsorted ∙ so)
+    | application n os vs q ok all ↦ absurd (predicate_unsorted p.signature u s (n, os, vs, q, ok) so)
   ]
 
   pub occurs_ground : (t : Term) → Occurs p g t → IsGroundName p.signature t
-  occurs_ground t o = (occurs_plain p g ground t o, sorted (occurs_fine t o))
+  occurs_ground t o = (occurs_plain p g ground t o, sorted (occurs_fine t o), applied (occurs_fine t o))
     where
       sorted : Fine p.signature t → (s : Sort) → sort_of p.signature t ≡ Some s → IsFragmentTerm p.signature [] t
       sorted (fragment i) s so = i
-      sorted (application n os vs e unsorted all) s so = never_some s (sym unsorted ∙ so)
+      sorted (application n os vs e ok all) s so = absurd (predicate_unsorted p.signature t s (n, os, vs, e, ok) so)
+
+      applied : Fine p.signature t → (k : ℕ) (ss : List Sort) (us : List Term) → t ≡ Apply (head.Symbol k) ss us → IsAc p.signature (head.Symbol k) → (s : Sort) × (sort_of p.signature t ≡ Some s)
+      applied (fragment i) k ss us e ac = let w = own (HasFragmentSort p.signature []) t i.sorted in (w.0, w.1)
+      applied (application n os vs q ok all) k ss us e ac =
+          let r = ac_result p.signature law k ss ac in
+          absurd (predicate_apart p.signature (head.Symbol k) ss us r.0 (n, os, vs, sym e ∙ q, ok) r.1)

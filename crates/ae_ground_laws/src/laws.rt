@@ -12,11 +12,11 @@ ghost use Rattle.ae_core.specs.declared.proofs.Proof.{Proof};
 ghost use Rattle.ae_core.specs.declared.terms.Head.{Head};
 ghost use Rattle.ae_core.specs.declared.terms.Sort.{Sort, out-Sort};
 ghost use Rattle.ae_core.specs.declared.terms.Term.{Term, Apply};
-ghost use Rattle.ae_ground_laws.specs.Terms.{AreGroundNames, IsGroundName, JoinNoEnumeration};
+ghost use Rattle.ae_ground_laws.specs.Terms.{AreGroundNames, IsGroundName};
 ghost use Rattle.ae_journal.specs.Ground.{IsFragmentTerm, IsGround, IsGroundEquation, IsGroundProof, MayStand};
 ghost use Rattle.ae_journal.specs.Standing.{parts_of};
 ghost use Rattle.ae_journal.specs.Systems.{IsJoin};
-ghost use Rattle.ae_reach.specs.Budget.{IsFirst, Occurs, HasNoSymbols, HasNoEnumerations, JoinsNoEnumerations, HoldsTerms};
+ghost use Rattle.ae_reach.specs.Budget.{IsFirst, Occurs, HasNoSymbols, HoldsTerms};
 ghost use Rattle.ae_reach.specs.Reach.{IsInReach};
 ghost use Rattle.ae_rules.specs.Built.{IsBuilt, IsBuiltEquation};
 ghost use Rattle.ae_rules.specs.Instances.{choices_of};
@@ -44,17 +44,11 @@ pub fn occurring_terms_are_ground()
         IsGroundName sig (Apply h [] []) × (sort_of sig (Apply h [] []) ≡ Some s) }
 {}
 
-/// What is built of names of the ground fragment is of the fragment where it is well sorted and no AC symbol works on a name's sort that holds an
-/// enumeration, and lines over such terms are lines of a ground proof.
+/// What is built of names of the ground fragment is of the fragment where it is well sorted, and lines over such terms are lines of a ground proof.
 pub fn built_lines_are_ground()
-    ensures terms { (sig : Signature) (ts : List Term) (t : Term) (s : Sort) → IsLawful sig → AreGroundNames sig ts → JoinNoEnumeration sig ts → IsBuilt sig ts t → sort_of sig t ≡ Some s → IsFragmentTerm sig [] t }
-    ensures lines { (sig : Signature) (ts : List Term) (l : EqLine) → IsLawful sig → AreGroundNames sig ts → JoinNoEnumeration sig ts → fact_ok sig (states l) ≡ true → IsBuiltEquation sig ts l →
+    ensures terms { (sig : Signature) (ts : List Term) (t : Term) (s : Sort) → IsLawful sig → AreGroundNames sig ts → IsBuilt sig ts t → sort_of sig t ≡ Some s → IsFragmentTerm sig [] t }
+    ensures lines { (sig : Signature) (ts : List Term) (l : EqLine) → IsLawful sig → AreGroundNames sig ts → fact_ok sig (states l) ≡ true → IsBuiltEquation sig ts l →
         IsGroundEquation sig l }
-{}
-
-/// Where no term of a sort that holds an enumeration occurs in a goal, no AC symbol works on such a sort of a term that occurs.
-pub fn goals_without_enumerations_join_none()
-    ensures { (p : Problem) (g : ℕ) → IsLawful p.signature → HasNoEnumerations p g → JoinsNoEnumerations p g }
 {}
 
 /// Of names that occur in a goal of the ground fragment none joins terms where no AC symbol occurs, and those that aren't predicates' applications are at

@@ -1,7 +1,7 @@
 -- The names that a search begins with once constructors are named: each occurs in the goal, or is a constructor of the sort of a term that occurs.
 use Rattle.std.specs.Prelude.{ℕ, ◌≤◌, List, [], ◌∷◌, ◌≡◌, ◌⊎◌, length, count_by, Some}
 use Rattle.std.specs.List.{Contains}
-use Rattle.std.proofs.Common.{sym, ap, ◌∙◌, subst, inl, inr}
+use Rattle.std.proofs.Common.{sym, ◌∙◌, subst, inl, inr}
 use Rattle.ae_base.specs.Options.{known}
 use Rattle.ae_core.specs.Signatures.{IsLawful}
 use Rattle.ae_core.specs.Sorts.{sort_of}
@@ -18,15 +18,14 @@ use Rattle.ae_journal.proofs.Splits.{contains_here, contains_one}
 use Rattle.ae_store.specs.Stores.{Stored}
 use Rattle.ae_store.specs.Terms.{HasOneName}
 use Rattle.ae_theory.specs.Names.{terms_in}
-use Rattle.ae_reach.specs.Budget.{Occurs, HasNoSymbols, HasNoEnumerations, JoinsNoEnumerations, HoldsTerms}
+use Rattle.ae_reach.specs.Budget.{Occurs, HasNoSymbols, HasNoEnumerations, HoldsTerms}
 use Rattle.ae_reach.specs.Reach.{IsInReach}
 use Rattle.ae_open_states.specs.Choices.{IsChoiceOf}
 use Rattle.ae_goal_names.specs.Named.{HasNamed, all_terms}
 use Rattle.ae_first_clauses.specs.First.{AreFirst}
 use Rattle.ae_choice_clauses.specs.Choices.{AddsChoices}
-use Rattle.ae_ground_laws.specs.Terms.{IsGroundName, AreGroundNames, JoinNoEnumeration}
-use Rattle.ae_ground_laws.proofs.Built.{itself_joined, joined_sort}
-use Rattle.ae_ground_laws.proofs.Chosen.{choice_ground, choice_sorted}
+use Rattle.ae_ground_laws.specs.Terms.{IsGroundName, AreGroundNames}
+use Rattle.ae_ground_laws.proofs.Chosen.{choice_ground}
 use Rattle.ae_ground_laws.proofs.Counted.{occurring_no_joins, occurring_at_most}
 use Rattle.ae_ground_laws.proofs.OccurringTerms.{occurs_ground}
 use Rattle.ae_ground_laws.proofs.Subterms.{same_arguments}
@@ -60,17 +59,6 @@ module _ (p : Problem) (g : ℕ) (firsts : List ClauseLine) (first : List Clause
       names_ground reach ground t h = elim (occurs_or_is_choice t h) as (λ _. IsGroundName p.signature t) [
         | inl o ↦ occurs_ground p g law reach ground t o
         | inr w ↦ (let c = w.2 in subst (IsGroundName p.signature) (sym c.is) (choice_ground p.signature law w.0 c.sort c.heads c.head c.sorted c.choices c.one))
-      ]
-
-      -- the sort of a constructor is that of the term of whose sort it is
-      choice_of_sort : (u t : Term) (o : Sort) → IsChoiceOf p.signature u t → sort_of p.signature t ≡ Some o → sort_of p.signature u ≡ Some o
-      choice_of_sort u t o c so =
-          c.sorted ∙ sym (choice_sorted p.signature law u c.sort c.heads c.head c.sorted c.choices c.one) ∙ ap (sort_of p.signature) (sym c.is) ∙ so
-
-      pub names_joined : JoinsNoEnumerations p g → JoinNoEnumeration p.signature (terms_in s)
-      names_joined none k ss t o ac h so = elim (occurs_or_is_choice t h) as (λ _. ¬ (HoldsEnumeration p.signature o)) [
-        | inl i ↦ none k ss t o ac i so
-        | inr w ↦ none k ss w.0 o ac w.1 (itself_joined p.signature law k ss (t ∷ t ∷ []) w.0 o ac so (choice_of_sort w.0 t o w.2 (joined_sort p.signature law k ss t t o ac so)))
       ]
 
     -- ---- no name joins terms

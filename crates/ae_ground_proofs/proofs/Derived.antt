@@ -32,7 +32,7 @@ use Rattle.ae_sat.specs.Lines.{IsLineOver, AddsLinesOver}
 use Rattle.ae_first_clauses.specs.First.{IsFirstLine, a_hypothesis, the_goal, the_block, States}
 use Rattle.ae_open_states.proofs.Choices.{choice}
 use Rattle.ae_choice_clauses.specs.Choices.{IsChoiceLine, a_choice, StatesChoice}
-use Rattle.ae_ground_laws.specs.Terms.{AreGroundNames, JoinNoEnumeration}
+use Rattle.ae_ground_laws.specs.Terms.{AreGroundNames}
 use Rattle.ae_ground_laws.proofs.Built.{line_ground}
 use Rattle.ae_ground_laws.proofs.Fragment.{row_ground}
 
@@ -70,7 +70,7 @@ module _ (p : Problem) (g : ℕ) where
   each_allowed earlier (l ∷ ls) a = ((earlier, a.0), each_allowed (earlier ++ l ∷ []) ls a.1)
 
   -- ---- lines over formulas that may stand, and over names of the fragment
-  module _ (law : IsLawful p.signature) (ground : IsGround p g) (s : Stored) (same : s.signature ≡ p.signature) (names : AreGroundNames p.signature (terms_in s)) (joined : JoinNoEnumeration p.signature (terms_in s))
+  module _ (law : IsLawful p.signature) (ground : IsGround p g) (s : Stored) (same : s.signature ≡ p.signature) (names : AreGroundNames p.signature (terms_in s))
       (fs : List Formula) (stand : AllByRecursion (MayStand p g) fs) where
     stands : (f : Formula) → Contains fs f → MayStand p g f
     stands f h = all_contained (MayStand p g) fs f stand h
@@ -82,7 +82,7 @@ module _ (p : Problem) (g : ℕ) where
         → AllByRecursion (IsGroundEquation p.signature) ls
     equations_ground hyps earlier [] a b = tt
     equations_ground hyps earlier (l ∷ ls) a b = (
-      line_ground p.signature law (terms_in s) names joined l a.0.0 (subst (λ (sig : Signature). IsBuiltEquation sig (terms_in s) l) same b.0),
+      line_ground p.signature law (terms_in s) names l a.0.0 (subst (λ (sig : Signature). IsBuiltEquation sig (terms_in s) l) same b.0),
       equations_ground hyps (earlier ++ l ∷ []) ls a.1 b.1,
     )
 

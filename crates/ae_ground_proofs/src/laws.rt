@@ -18,7 +18,7 @@ ghost use Rattle.ae_ground_laws.specs.Terms.{AreGroundNames};
 ghost use Rattle.ae_journal.specs.Ground.{IsGround, IsGroundProof, MayStand};
 ghost use Rattle.ae_journal.specs.Systems.{IsJoin};
 ghost use Rattle.ae_open_states.specs.Choices.{IsChoiceOf};
-ghost use Rattle.ae_reach.specs.Budget.{Occurs, IsConjunctive, HasNoSymbols, HasNoEnumerations, JoinsNoEnumerations, HoldsTerms};
+ghost use Rattle.ae_reach.specs.Budget.{Occurs, IsConjunctive, HasNoSymbols, HasNoEnumerations, HoldsTerms};
 ghost use Rattle.ae_reach.specs.Reach.{IsInReach};
 ghost use Rattle.ae_rules.specs.Clauses.{Clause};
 ghost use Rattle.ae_rules.specs.Derivations.{Derives};
@@ -48,9 +48,9 @@ pub fn first_formulas_have_parts()
 {}
 
 /// A derivation of a goal of the ground fragment, which goes on from the first lines by lines over the formulas that are there and over the names, is a
-/// ground proof, where no AC symbol works on a sort that holds an enumeration of which a term occurs.
+/// ground proof.
 pub fn refutations_are_ground()
-    ensures { (p : Problem) (g : ℕ) (firsts : List ClauseLine) (first : List Clause) (old before s : Stored) (lines : List ClauseLine) (clauses : List Clause) → IsLawful p.signature → IsInReach p g → IsGround p g → JoinsNoEnumerations p g → AreFirst p g firsts first → old.signature ≡ p.signature → terms_in old ≡ [] →
+    ensures { (p : Problem) (g : ℕ) (firsts : List ClauseLine) (first : List Clause) (old before s : Stored) (lines : List ClauseLine) (clauses : List Clause) → IsLawful p.signature → IsInReach p g → IsGround p g → AreFirst p g firsts first → old.signature ≡ p.signature → terms_in old ≡ [] →
         HasNamed old before (all_terms first) → AddsChoices p g before s firsts lines first clauses →
         (proof : Proof) → ((fs : List Formula) → HasParts fs → AllAmong fs clauses → AddsLinesOver s fs lines proof.lines) → Derives p g proof → IsGroundProof p g proof }
 {}

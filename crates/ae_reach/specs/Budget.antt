@@ -1,5 +1,5 @@
 -- What occurs in a goal; goals for which a search decides nothing, and the terms that bound how many lines it notes.
-use Rattle.std.specs.Prelude.{ℕ, List, [], ◌∷◌, ◌≡◌, length, Some}
+use Rattle.std.specs.Prelude.{ℕ, List, [], ◌≡◌, length, Some}
 use Rattle.std.specs.List.{Contains}
 use Rattle.ae_core.specs.Sorts.{sort_of}
 use Rattle.ae_core.specs.Putting.{put_formula}
@@ -46,12 +46,6 @@ module _ (p : Problem) (g : ℕ) where
   -- no term of a sort that holds an enumeration occurs
   abbrev pub HasNoEnumerations : Type 0
   HasNoEnumerations = (t : Term) (s : Sort) → Occurs t → sort_of p.signature t ≡ Some s → ¬ (HoldsEnumeration p.signature s)
-
-  -- no declared AC symbol works on a sort that holds an enumeration, of which a term occurs: none could join the term with itself
-  abbrev pub JoinsNoEnumerations : Type 0
-  JoinsNoEnumerations =
-      (k : ℕ) (ss : List Sort) (t : Term) (s : Sort) → IsAc p.signature (head.Symbol k) → Occurs t → sort_of p.signature (Apply (head.Symbol k) ss (t ∷ t ∷ [])) ≡ Some s
-      → ¬ (HoldsEnumeration p.signature s)
 
   -- the list has all terms that occur, but for predicates' applications
   abbrev pub HoldsTerms : List Term → Type 0

@@ -89,14 +89,14 @@ formula_kept =
         ∙ roll-out-Quant q
 
 -- ---- what the items say
-record IsHypothesis (p : Problem) (g k : ℕ) (f : Formula) : Type 0 where
+pub record IsHypothesis (p : Problem) (g k : ℕ) (f : Formula) : Type 0 where
   pub name : List ℕ
   pub vars : ℕ
   pub below : k < g
   pub at : slice_get p.items k ≡ Some (Axiom name vars f)
 
 module _ (p : Problem) (g : ℕ) where
-  hypothesis_by : (k : ℕ) (f : Formula) → hypothesis p g k [] ≡ Some f → IsHypothesis p g k f
+  pub hypothesis_by : (k : ℕ) (f : Formula) → hypothesis p g k [] ≡ Some f → IsHypothesis p g k f
   hypothesis_by k f e =
       let b = bind_some (only (nat_lt k g) (slice_get p.items k)) (λ i. elim i as (λ _. Option Formula) [ Axiom n v f ↦ axiom_with v f [] | Goal n v f ↦ None ]) f e in
       let o = only_some (nat_lt k g) (slice_get p.items k) b.0 b.1 in

@@ -16,7 +16,6 @@ use Rattle.ae_journal.specs.declared.answers.WideAt.{WideAt}
 use Rattle.ae_journal.specs.declared.lines.Line.{Line}
 use Rattle.ae_journal.specs.declared.lines.Story.{Story}
 use Rattle.ae_journal.specs.declared.systems.Saturated.{Saturated}
-use Rattle.ae_reach.specs.Budget.{JoinsNoEnumerations}
 use Rattle.ae_store.specs.Stores.{Stored}
 use Rattle.ae_theory.specs.Names.{terms_in}
 use Rattle.ae_stories.specs.Told.{told}
@@ -30,7 +29,7 @@ use Rattle.ae_goal_search.proofs.Begun.{names_entered}
 use Rattle.ae_search.proofs.Counted.{OfTerms}
 
 module _ (p : Problem) (g : ℕ) (lines : List ClauseLine) (clauses : List Clause) (s : Stored) (start : IsStarted p g lines clauses s) (limits : Limits) where
-  pub valid_right : (proof : Proof) → Derives p g proof → (IsGround p g → JoinsNoEnumerations p g → IsGroundProof p g proof) → IsRightAnswer p g limits (Valid proof)
+  pub valid_right : (proof : Proof) → Derives p g proof → (IsGround p g → IsGroundProof p g proof) → IsRightAnswer p g limits (Valid proof)
   valid_right proof d h = record { answer = d; ground = h; within = λ gr cj ns ne ts k. tt }
 
   pub unknown_right : NoGroundProof → (st : Saturated) → ((bound : ℕ) → IsSaturated p g st bound) → IsRightAnswer p g limits (Unknown st)

@@ -10,13 +10,12 @@ use Rattle.ae_journal.specs.declared.answers.Answer.{Answer}
 use Rattle.ae_journal.specs.declared.answers.Answer.TheVariants.{Valid, Unknown, Steps, Number}
 use Rattle.ae_journal.specs.declared.answers.WideAt.{WideAt}
 use Rattle.ae_journal.specs.declared.lines.Story.{Story}
-use Rattle.ae_reach.specs.Budget.{IsConjunctive, HasNoSymbols, HasNoEnumerations, JoinsNoEnumerations, HoldsTerms}
+use Rattle.ae_reach.specs.Budget.{IsConjunctive, HasNoSymbols, HasNoEnumerations, HoldsTerms}
 use Rattle.ae_search_options.specs.declared.limits.Limits.{Limits}
 
--- of a goal of the ground fragment: a proof is a ground proof, where no AC symbol works on a sort that holds an enumeration; and where the answer is a
--- saturated state there is none
+-- of a goal of the ground fragment: a proof is a ground proof, and where the answer is a saturated state there is none
 abbrev pub IsGroundAnswer : Problem → ℕ → Answer → Type 0
-IsGroundAnswer p g (Valid proof) = JoinsNoEnumerations p g → IsGroundProof p g proof
+IsGroundAnswer p g (Valid proof) = IsGroundProof p g proof
 IsGroundAnswer p g (Unknown st) = (proof : Proof) → ¬ (IsGroundProof p g proof)
 IsGroundAnswer p g _ = Unit {0}
 

@@ -52,8 +52,8 @@ returns-in-Ok-None g c =
     record {
       right = valid_right p n c.args.first.lines.items c.args.first.clauses c.args.store.now start c.args.limits.now c.refutation-proof.result
           (c.refutation-proof.ensures.derives p n left.allowed e.ends)
-          (λ gr none. subst (λ (x : Proof). IsGroundProof p n x) same
-          (c.refutations_are_ground.ensures p n start.firsts start.first names.before start.before c.args.store.now c.args.first.lines.items c.args.first.clauses start.lawful.signature start.reach gr none
+          (λ gr. subst (λ (x : Proof). IsGroundProof p n x) same
+          (c.refutations_are_ground.ensures p n start.firsts start.first names.before start.before c.args.store.now c.args.first.lines.items c.args.first.clauses start.lawful.signature start.reach gr
           start.begun names.signature names.empty names.named start.choices (record { lines = lines }) refuted.over (derives_so p n (record { lines = lines }) lines refl left.allowed e.ends)));
       written = λ low. subst (λ (x : Proof). IsWritableProof x) same
           (refutation_writable p n low c.args.first.lines.items c.args.first.clauses c.args.store.now start (record { lines = lines }) refuted);
