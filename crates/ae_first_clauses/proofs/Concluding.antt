@@ -17,9 +17,6 @@ use Rattle.ae_core.specs.declared.proofs.ClauseLine.TheVariants.{Hyp, Goal, Fres
 use Rattle.ae_rules.specs.Clauses.{Clause, yes_of, no_of, is_true}
 use Rattle.ae_rules.specs.Instances.{hypothesis, fresh_clause, are_numbered, count_from, block_sorts}
 use Rattle.ae_rules.specs.Derivations.{conclusion, clause_of, line_ok, goal_body, formula_stands}
-use Rattle.ae_journal.specs.Ground.{is_simple}
-use Rattle.ae_reach.proofs.Simple.{simple_no_quant}
-use Rattle.ae_reach.proofs.Blocks.{fresh_quant}
 
 module _ (p : Problem) (g : ℕ) where
   pub hyp_concludes : (k : ℕ) (f : Formula) → hypothesis p g k [] ≡ Some f → formula_ok p.signature f ≡ true → conclusion p g (Hyp k []) ≡ Some (yes_of f ∷ [])
@@ -50,13 +47,6 @@ module _ (p : Problem) (g : ℕ) where
       let many : length q.sorts < 2 ^ 64 = omega (arith, few, ap (λ (o : Formula-F Formula Quant). length (block_sorts o)) (outs-All q)) in
       let numbered : are_numbered 0 q.sorts ≡ true = le-leb (0 + length q.sorts) (2 ^ 64) (omega (arith, many)) in
       (λ i. only (ok i) (fresh_clause (All q) 0 (outs-All q i))) ∙ ap (λ (b : Bool). when b (block_clause q)) numbered
-
-  -- what has no quantifier has no such clause
-  pub simple_states_none : (f : Formula) (c : Clause) → is_simple f ≡ true → conclusion p g (Fresh f 0) ≡ Some c → ⊥
-  simple_states_none f c s e =
-      let o = only_some (line_ok p g (Fresh f 0)) (clause_of p g (Fresh f 0)) c e in
-      let q = fresh_quant f 0 c (out-Formula f) o.1 in
-      simple_no_quant f s q.0 q.1
 
   -- ---- the goal among the items
   pub goal_item : (f : Formula) → goal_body p g ≡ Some f → (i : Item) × (slice_get p.items g ≡ Some i) × (◌≡◌ {A = Option Formula} (elim i as (λ _. Option Formula) [ Axiom n v h ↦ None | GoalItem n v h ↦ Some h ]) (Some f))

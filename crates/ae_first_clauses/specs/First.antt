@@ -28,6 +28,12 @@ module _ (p : Problem) (g : ℕ) where
   abbrev pub States : ClauseLine → Clause → Type 0
   States l c = IsFirstLine l c × (conclusion p g l ≡ Some c)
 
+  -- a setting of the search in which the constants of the goal's block count from 0
+  pub record IsFirstSetting (x : Setting) : Type 0 where
+    pub problem : x.problem ≡ p
+    pub goal : x.goal ≡ g
+    pub fresh : (q : Quant) → goal_body p g ≡ Some (All q) → x.fresh (All q) ≡ 0
+
   -- such lines, allowed, each with its clause, and none is left out
   pub record AreFirst (lines : List ClauseLine) (clauses : List Clause) : Type 0 where
     pub allowed : AreAllowed p g [] lines

@@ -1,10 +1,11 @@
 //! The lines that a search begins with.
 ghost use Rattle.std.specs.Prelude.{◌≡◌, ◌<◌, ◌+◌, ◌^◌, ◌∷◌, ◌++◌, [], ℕ, length, Some, IfOk, OnOk};
-ghost use Rattle.ae_core.specs.declared.formulas.Formula.{out-Formula};
+ghost use Rattle.ae_core.specs.Signatures.{IsLawfulProblem};
+ghost use Rattle.ae_core.specs.declared.formulas.Formula.{All, out-Formula};
+ghost use Rattle.ae_core.specs.declared.formulas.Quant.{Quant as QuantOf};
 ghost use Rattle.ae_core.specs.declared.proofs.ClauseLine.TheVariants.{Hyp, Fresh, Goal as GoalLine};
 ghost use Rattle.ae_first_clauses.specs.First.{AreFirst};
-ghost use Rattle.ae_first_clauses.specs.Inner.Begun.{IsAdded, IsBegun, HasGoal};
-ghost use Rattle.ae_reach.specs.Reach.{IsInReach};
+ghost use Rattle.ae_first_clauses.specs.Inner.Begun.{IsAdded, IsBegun, HasGoal, is_forall};
 ghost use Rattle.ae_rules.specs.Clauses.{no_of};
 ghost use Rattle.ae_rules.specs.Derivations.{goal_body};
 ghost use Rattle.ae_rules.specs.Instances.{block_sorts};
@@ -64,7 +65,7 @@ fn add_hypothesis(
     first: &mut FirstClauses,
     place: usize,
 ) -> Result<(), AllocError>
-    requires reach { IsInReach problem.now goal }
+    requires lawful { IsLawfulProblem problem.now }
     ensures { OnOk result (IsAdded problem.now goal (Hyp place []) first.old.lines.items first.old.clauses first.new.lines.items first.new.clauses) }
 {
     match hypothesis_clause(alloc, problem, goal, place, &[])? {
@@ -80,7 +81,7 @@ fn add_hypotheses(
     goal: usize,
     first: &mut FirstClauses,
 ) -> Result<(), AllocError>
-    requires reach { IsInReach problem.now goal }
+    requires lawful { IsLawfulProblem problem.now }
     requires begun { IsBegun problem.now goal 0 first.old.lines.items first.old.clauses }
     ensures begun { OnOk result (IsBegun problem.now goal goal first.new.lines.items first.new.clauses) }
 {
@@ -114,15 +115,16 @@ fn add_goal(alloc: Global, first: &mut FirstClauses, body: &Formula) -> Result<(
 }
 
 /// Adds the body of a goal that is a block, with constants for its variables.
-fn add_block(
+fn add_fresh(
     alloc: Global,
     problem: &Problem,
     goal: usize,
     first: &mut FirstClauses,
     body: &Formula,
 ) -> Result<(), AllocError>
-    requires reach { IsInReach problem.now goal }
+    requires lawful { IsLawfulProblem problem.now }
     requires is { goal_body problem.now goal ≡ Some body.now }
+    requires block { (q : QuantOf) × (body.now ≡ All q) }
     requires begun { HasGoal problem.now goal first.old.lines.items first.old.clauses }
     ensures first { OnOk result (AreFirst problem.now goal first.new.lines.items first.new.clauses) }
 {
@@ -136,6 +138,36 @@ fn add_block(
     }
 }
 
+/// Whether a formula is a `forall` block.
+fn is_block(formula: &Formula) -> bool
+    ensures { result ≡ is_forall (out-Formula formula.now) }
+{
+    match formula {
+        Formula::All(_) => true,
+        _ => false,
+    }
+}
+
+/// Adds the body of a goal, where it is a block.
+fn add_block(
+    alloc: Global,
+    problem: &Problem,
+    goal: usize,
+    first: &mut FirstClauses,
+    body: &Formula,
+) -> Result<(), AllocError>
+    requires lawful { IsLawfulProblem problem.now }
+    requires is { goal_body problem.now goal ≡ Some body.now }
+    requires begun { HasGoal problem.now goal first.old.lines.items first.old.clauses }
+    ensures first { OnOk result (AreFirst problem.now goal first.new.lines.items first.new.clauses) }
+{
+    if is_block(body) {
+        add_fresh(alloc, problem, goal, first, body)
+    } else {
+        Ok(())
+    }
+}
+
 /// Adds the goal's negation, and where the goal is a block, its body.
 fn add_both(
     alloc: Global,
@@ -144,7 +176,7 @@ fn add_both(
     first: &mut FirstClauses,
     body: &Formula,
 ) -> Result<(), AllocError>
-    requires reach { IsInReach problem.now goal }
+    requires lawful { IsLawfulProblem problem.now }
     requires is { goal_body problem.now goal ≡ Some body.now }
     requires begun { IsBegun problem.now goal goal first.old.lines.items first.old.clauses }
     ensures first { OnOk result (AreFirst problem.now goal first.new.lines.items first.new.clauses) }
@@ -160,7 +192,7 @@ fn add_goal_lines(
     goal: usize,
     first: &mut FirstClauses,
 ) -> Result<(), AllocError>
-    requires reach { IsInReach problem.now goal }
+    requires lawful { IsLawfulProblem problem.now }
     requires begun { IsBegun problem.now goal goal first.old.lines.items first.old.clauses }
     ensures first { OnOk result (AreFirst problem.now goal first.new.lines.items first.new.clauses) }
 {
@@ -173,10 +205,10 @@ fn add_goal_lines(
     }
 }
 
-/// The lines that a search for a goal begins with, and their clauses: the hypotheses, the goal's negation, and where the goal is a block, its body with
-/// constants for its variables.
+/// The lines that a search for a goal begins with, and their clauses: the hypotheses without type variables, the goal's negation, and where the goal is a
+/// `forall` block, its body with constants for its variables. `Err` where there is no memory.
 pub fn begin(alloc: Global, problem: &Problem, goal: usize) -> Result<FirstClauses, AllocError>
-    requires reach { IsInReach problem.now goal }
+    requires lawful { IsLawfulProblem problem.now }
     ensures first { IfOk result (λ first. AreFirst problem.now goal first.lines.items first.clauses) }
 {
     let mut first = FirstClauses {

@@ -1,15 +1,22 @@
 -- The lines so far.
-use Rattle.std.specs.Prelude.{ℕ, ◌<◌, List, [], ◌∷◌, ◌++◌, ◌≡◌, Some, None}
-use Rattle.std.specs.List.{AllByRecursion}
+use Rattle.std.specs.Prelude.{ℕ, ◌<◌, Bool, true, false, List, [], ◌∷◌, ◌++◌, ◌≡◌, Some, None}
 use Rattle.ae_base.specs.Relations.{Pairwise}
-use Rattle.ae_core.specs.declared.formulas.Formula.{Formula}
+use Rattle.ae_core.specs.declared.formulas.Formula.{Formula, Formula-F}
+use Rattle.ae_core.specs.declared.formulas.Formula.TheOpen as layer
+use Rattle.ae_core.specs.declared.formulas.Quant.{Quant}
 use Rattle.ae_core.specs.declared.problems.Problem.{Problem}
 use Rattle.ae_core.specs.declared.proofs.ClauseLine.{ClauseLine}
 use Rattle.ae_rules.specs.Clauses.{Clause, yes_of, no_of}
 use Rattle.ae_rules.specs.Instances.{hypothesis}
-use Rattle.ae_rules.specs.Derivations.{conclusion, goal_body, line_constants, AreAllowed}
+use Rattle.ae_rules.specs.Derivations.{conclusion, goal_body, AreAllowed}
+use Rattle.ae_new_constants.specs.Below.{AreLinesBelow}
 use Rattle.ae_sat.specs.Standing.{IsOneOf}
 use Rattle.ae_first_clauses.specs.First.{States}
+
+-- a `forall` block, by the outermost part
+abbrev pub is_forall : Formula-F Formula Quant → Bool
+is_forall (layer.All q) = true
+is_forall _ = false
 
 module _ (p : Problem) (g : ℕ) where
   -- a line was put behind the others with its clause, or states none
@@ -21,7 +28,7 @@ module _ (p : Problem) (g : ℕ) where
   pub record IsBegun (n : ℕ) (lines : List ClauseLine) (clauses : List Clause) : Type 0 where
     pub allowed : AreAllowed p g [] lines
     pub states : Pairwise (States p g) lines clauses
-    pub unmarked : AllByRecursion (λ l. line_constants p g l ≡ []) lines
+    pub unmarked : AreLinesBelow p g 0 lines
     pub hypotheses : (k : ℕ) (f : Formula) → k < n → hypothesis p g k [] ≡ Some f → IsOneOf clauses (yes_of f ∷ [])
 
   -- the goal is there too

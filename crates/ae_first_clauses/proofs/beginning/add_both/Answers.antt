@@ -9,4 +9,4 @@ add_block-requires-clause-begun c =
     let cs = c.args.first.now.clauses in
     let ls2 = c.add_goal.new.first.lines.items in
     let cs2 = c.add_goal.new.first.clauses in
-    goal_begun p g c.requires.reach ls ls2 cs cs2 c.requires.begun (goal_added p g c.requires.reach c.args.body.now ls ls2 cs cs2 c.requires.is c.in_ok-add_goal.ensures.0 c.in_ok-add_goal.ensures.1)
+    goal_begun p g c.requires.lawful c.args.body.now c.requires.is ls ls2 cs cs2 c.requires.begun (goal_added p g c.requires.lawful c.args.body.now ls ls2 cs cs2 c.requires.is c.in_ok-add_goal.ensures.0 c.in_ok-add_goal.ensures.1)
