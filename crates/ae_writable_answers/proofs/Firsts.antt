@@ -33,9 +33,9 @@ use Rattle.ae_goal_search.specs.Started.{IsStarted}
 use Rattle.ae_writable.specs.Numbers.{HasLowestNumerals}
 use Rattle.ae_numerals_kept.specs.Lowest.{IsLowest, IsLowestTerm}
 use Rattle.ae_numerals_kept.proofs.Lowest.{part_lowest, literal_lowest, body_lowest, put_lowest, constants_lowest, outside_lowest, arguments_lowest, fields_lowest, hypothesis_lowest, goal_lowest, apply_lowest, choice_lowest}
-use Rattle.ae_writable_answers.proofs.Filtered.{kept, was_there, passed}
-use Rattle.ae_writable_answers.proofs.Derived.{IsFineLine}
-use Rattle.ae_writable_answers.proofs.Fine.{is_direct, IsFine, direct_literal, direct_block, direct_equation}
+use Rattle.ae_written_lines.proofs.Filtered.{kept, was_there, passed}
+use Rattle.ae_written_lines.proofs.Derived.{IsFineLine}
+use Rattle.ae_written_lines.proofs.Fine.{is_direct, IsFine, direct_literal, direct_block, direct_equation}
 
 module _ (p : Problem) (g : ℕ) (low : HasLowestNumerals p) where
   -- ---- formulas

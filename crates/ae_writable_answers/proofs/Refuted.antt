@@ -20,7 +20,7 @@ use Rattle.ae_goal_search.specs.Started.{IsStarted}
 use Rattle.ae_numerals_kept.proofs.Lowest.{goal_lowest}
 use Rattle.ae_writable.specs.Numbers.{IsValueWithin, AreValuesWithin, HasLowestNumerals}
 use Rattle.ae_writable.specs.Writable.{IsWritableProof}
-use Rattle.ae_writable_answers.proofs.Derived.{IsFineLine, over_fine}
+use Rattle.ae_written_lines.proofs.Derived.{IsFineLine, over_fine}
 use Rattle.ae_writable_answers.proofs.Firsts.{name_lowest, closed, choice_lines_fine}
 
 values_in : (ls : List ClauseLine) → AllByRecursion IsFineLine ls → AreValuesWithin (flat_map line_numbers ls)

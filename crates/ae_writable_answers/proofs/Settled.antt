@@ -24,7 +24,7 @@ use Rattle.ae_goal_search.specs.Started.{IsStarted}
 use Rattle.ae_numerals_kept.specs.Lowest.{IsLowestTerm}
 use Rattle.ae_writable.specs.Numbers.{IsValueWithin, AreValuesWithin, HasLowestNumerals}
 use Rattle.ae_writable.specs.Writable.{IsWritableRule, IsWritableState}
-use Rattle.ae_writable_answers.proofs.Fine.{IsFine, values_of, signs_of}
+use Rattle.ae_written_lines.proofs.Fine.{IsFine, values_of, signs_of}
 use Rattle.ae_writable_answers.proofs.Firsts.{name_lowest, closed}
 
 -- what holds at each place of a trail holds of its literals

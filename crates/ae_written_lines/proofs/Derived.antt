@@ -31,7 +31,7 @@ use Rattle.ae_sat.specs.Lines.{IsBlockOver, IsLineOver}
 use Rattle.ae_writable.specs.Numbers.{IsValueWithin, AreValuesWithin}
 use Rattle.ae_numerals_kept.specs.Lowest.{IsLowestTerm}
 use Rattle.ae_numerals_kept.proofs.Lowest.{whole_lowest, apply_lowest}
-use Rattle.ae_writable_answers.proofs.Fine.{IsFine, values_of, signs_of}
+use Rattle.ae_written_lines.proofs.Fine.{IsFine, values_of, signs_of}
 
 -- ---- numbers of lines
 counts_within : (ks : List ℕ) → AreValuesWithin (counts ks)
@@ -63,7 +63,7 @@ module _ (sig : Signature) (ts : List Term) (names : (t : Term) → Contains ts 
   built_lowest u (of_number _ real z e k) = subst IsLowestTerm (sym e) (whole_lowest z real)
   built_lowest u (of_product _ real z t e i) = two_lowest (cond real (head.Real op.Mul) (head.Int op.Mul)) [] u (numeral real z) t e (whole_lowest z real) (names t i)
   built_lowest u (of_sum _ real s t e a b) = two_lowest (cond real (head.Real op.Add) (head.Int op.Add)) [] u s t e (built_lowest s a) (built_lowest t b)
-  built_lowest u (of_symbol _ k ss s t e ac a b) = two_lowest (head.Symbol k) ss u s t e (built_lowest s a) (built_lowest t b)
+  built_lowest u (of_symbol _ k ss s t e ac o a b) = two_lowest (head.Symbol k) ss u s t e (built_lowest s a) (built_lowest t b)
   built_lowest u (of_unplain _ h ss s t e some a b) = two_lowest h ss u s t e (built_lowest s a) (built_lowest t b)
 
   sides_within : (s t : Term) → IsBuilt sig ts s → IsBuilt sig ts t → (ns : List Number) → AreValuesWithin ns → AreValuesWithin (sides_numbers s t ++ ns)

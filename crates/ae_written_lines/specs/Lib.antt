@@ -1,0 +1,1 @@
+-- Lines that can be written: the lemmas speak of the words of the crates below alone.
