@@ -4,4 +4,5 @@ pub mod Alive
 pub mod Searching
 pub mod Firing
 pub mod Open
+pub mod Instances
 mod Results

@@ -48,6 +48,18 @@ pub record MayBring (p : Problem) (g bound : ℕ) (old new : Stored) (opened : L
   pub named : (m : Lit) → Contains c m → AreNamed new m.formula
   pub grows : Grows p g old new opened opened (js ++ j ∷ [])
 
+-- the line of an instance
+abbrev pub IsInstanceLine : Line → Type 0
+IsInstanceLine (line.TypeInstance k ss) = Unit {0}
+IsInstanceLine (line.TermInstance f ts) = Unit {0}
+IsInstanceLine _ = ⊥
+
+-- lines were noted, none of them that of an instance
+pub record NotesNoInstance (old new : List Line) : Type 0 where
+  pub added : List Line
+  pub is : new ≡ old ++ added
+  pub none : (j : Line) → Contains added j → ¬ IsInstanceLine j
+
 -- since the last `Back` line, or the beginning, an instance or a `Learn` line has come
 pub record HasNews (js : List Line) : Type 0 where
   pub since_back : (a b : List Line) (m : ℕ) → js ≡ a ++ line.Back m ∷ b → HasLine BringsClause b

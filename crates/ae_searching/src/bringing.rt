@@ -27,6 +27,7 @@ fn note(journal: &mut Journal, line: Line) -> Result<(), Fail>
     ensures memory { (failed : AllocError) → result ≡ Err (Memory failed) → is_counted line ≡ false }
     ensures never_wide { (wide : WideAt) → ¬ (result ≡ Err (Number wide)) }
     ensures within { counted_in journal.new.lines ≤ journal.new.limit }
+    ensures limit { journal.new.limit ≡ journal.old.limit }
 {
     let noted = journal.note(line);
     let _count = journal.counted();
@@ -66,6 +67,7 @@ where
     ensures trail { solver.new.propagation.trail ≡ solver.old.propagation.trail }
     ensures theory { solver.new.theory ≡ solver.old.theory }
     ensures within { counted_in journal.new.lines ≤ journal.new.limit }
+    ensures limit { journal.new.limit ≡ journal.old.limit }
 {
     note(journal, noted)?;
     add_line(solver, lines, line, clause)?;

@@ -5,6 +5,7 @@ ghost use Rattle.ae_core.specs.declared.problems.Problem.{Problem};
 ghost use Rattle.ae_block_constants.specs.declared.opened.Opened.{Opened};
 ghost use Rattle.ae_explain.specs.Trail.{AreFalse};
 ghost use Rattle.ae_journal.specs.Journals.{counted_in};
+ghost use Rattle.ae_journal.specs.Standing.{Setting};
 ghost use Rattle.ae_journal.specs.declared.answers.WideAt.{WideAt};
 ghost use Rattle.ae_propagation.specs.Settled.{last_level};
 ghost use Rattle.ae_rules.specs.Clauses.{Clause, opposite};
@@ -12,6 +13,8 @@ ghost use Rattle.ae_rules.specs.Derivations.{IsContradictory, clause_ok};
 ghost use Rattle.ae_sat.specs.Search.{AllAmong, EndsEmpty, HasParts, Keeps, Progresses};
 ghost use Rattle.ae_sat.specs.Standing.{IsOneOf};
 ghost use Rattle.ae_searching.specs.Searching.{IsAliveIn, IsLawfulSoFar, IsSearching};
+ghost use Rattle.ae_searching.specs.Steps.{NotesNoInstance};
+ghost use Rattle.ae_searching.specs.Told.{IsToldIn};
 ghost use Rattle.ae_theory.specs.declared.theory.Fail.TheVariants.{Steps as OutOfSteps, Number};
 
 use ae_core::proofs::{Block, ClauseLine};
@@ -43,6 +46,10 @@ where
     ensures so_far { (p : Problem) (g bound level : ℕ) (opened : List Opened) → last_level solver.old.propagation.trail ≤ level →
         IsSearching T.fits T.assumed T.fits_mark T.in_step p g bound store.now opened level solver.old lines.old.items journal.old.lines →
         IsLawfulSoFar p g bound store.now opened lines.new.items journal.new.lines }
+    // No line of an instance comes in.
+    ensures instances { (p : Problem) (g bound level : ℕ) (opened : List Opened) → last_level solver.old.propagation.trail ≤ level →
+        IsSearching T.fits T.assumed T.fits_mark T.in_step p g bound store.now opened level solver.old lines.old.items journal.old.lines →
+        (x : Setting) → IsToldIn p g store.now opened x → NotesNoInstance journal.old.lines journal.new.lines }
     ensures never_wide { (wide : WideAt) → ¬ (result ≡ Err (Number wide)) }
     ensures steps { result ≡ Err OutOfSteps → counted_in journal.new.lines ≡ journal.new.limit }
     ensures journal { Keeps journal.old journal.new }

@@ -7,7 +7,7 @@ ghost use Rattle.ae_journal.specs.declared.answers.WideAt.{WideAt};
 ghost use Rattle.ae_journal.specs.declared.lines.Line.TheVariants as line;
 ghost use Rattle.ae_propagation.specs.Settled.{last_level};
 ghost use Rattle.ae_searching.specs.Searching.{IsAliveIn, IsLawfulSoFar, IsSearching};
-ghost use Rattle.ae_searching.specs.Steps.{HasNews};
+ghost use Rattle.ae_searching.specs.Steps.{HasNews, NotesNoInstance};
 ghost use Rattle.ae_block_constants.specs.declared.opened.Opened.{Opened};
 ghost use Rattle.ae_store.specs.Stores.{Stored};
 ghost use Rattle.ae_theory.specs.declared.theory.Fail.TheVariants.{Steps as OutOfSteps, Number};
@@ -37,6 +37,8 @@ where
     ensures never_wide { (wide : WideAt) → ¬ (result ≡ Err (Number wide)) }
     ensures steps { result ≡ Err OutOfSteps → counted_in journal.new.lines ≡ journal.new.limit }
     ensures noted_or { (journal.new ≡ journal.old) ⊎ (journal.new ≡ record journal.old { lines = journal.old.lines ++ line.Back level ∷ [] }) }
+    // No line of an instance comes in.
+    ensures instances { NotesNoInstance journal.old.lines journal.new.lines }
     ensures clauses { solver.new.propagation.clauses ≡ solver.old.propagation.clauses }
 {
     let present = level_now(solver.trail());

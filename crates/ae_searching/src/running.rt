@@ -13,6 +13,7 @@ ghost use Rattle.ae_sat.specs.Search.{AllAmong, EndsEmpty, HasParts, IsOpen, Kee
 ghost use Rattle.ae_sat.specs.Standing.{IsOneOf};
 ghost use Rattle.ae_sat.specs.declared.run.SatEnd.TheVariants.{Refuted, Open};
 ghost use Rattle.ae_searching.specs.Searching.{IsAliveIn, IsLawfulSoFar, IsSearching};
+ghost use Rattle.ae_searching.specs.Steps.{NotesNoInstance};
 ghost use Rattle.ae_searching.specs.Told.{IsToldIn};
 ghost use Rattle.ae_block_constants.specs.declared.opened.Opened.{Opened};
 ghost use Rattle.ae_theory.specs.declared.theory.Fail.TheVariants.{Steps as OutOfSteps, Number};
@@ -44,6 +45,10 @@ where
     ensures so_far { (p : Problem) (g bound level : ℕ) (opened : List Opened) → last_level solver.old.propagation.trail ≤ level →
         IsSearching T.fits T.assumed T.fits_mark T.in_step p g bound store.now opened level solver.old lines.old.items journal.old.lines →
         IsLawfulSoFar p g bound store.now opened lines.new.items journal.new.lines }
+    // No line of an instance comes in.
+    ensures instances { (p : Problem) (g bound level : ℕ) (opened : List Opened) → last_level solver.old.propagation.trail ≤ level →
+        IsSearching T.fits T.assumed T.fits_mark T.in_step p g bound store.now opened level solver.old lines.old.items journal.old.lines →
+        (x : Setting) → IsToldIn p g store.now opened x → NotesNoInstance journal.old.lines journal.new.lines }
     ensures number { (wide : WideAt) → result ≡ Err (Number wide) → (p : Problem) (g bound level : ℕ) (opened : List Opened) → last_level solver.old.propagation.trail ≤ level →
         IsSearching T.fits T.assumed T.fits_mark T.in_step p g bound store.now opened level solver.old lines.old.items journal.old.lines →
         (x : Setting) → IsToldIn p g store.now opened x → IsLicensed x journal.new.lines wide }

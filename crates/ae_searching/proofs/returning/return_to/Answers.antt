@@ -6,6 +6,7 @@ use Rattle.ae_propagation.specs.Settled.{last_level}
 use Rattle.ae_sat.proofs.LearnSteps.{cut_low, front_cut}
 use Rattle.ae_sat.proofs.Running.{all_lits}
 use Rattle.ae_searching.proofs.Alive.{returned_alive}
+use Rattle.ae_searching.proofs.Instances.{back_alone, no_line}
 use Rattle.ae_searching.proofs.Searching.{news_back, searching_returned, so_far_line, so_far_to}
 use Rattle.ae_searching.specs.Searching.{IsLawfulSoFar}
 use Rattle.ae_searching.proofs.returning.return_to.Goals as goal
@@ -69,3 +70,12 @@ returns-clause-so_far g c p n bound s opened lines news h =
 
 pub returns-then-present-level-clause-level : goal.returns-then-present-level-clause-level
 returns-then-present-level-clause-level g c = omega (arith, c.if-present-level.true, c.level_now-present.ensures, ap last_level c.trail.ensures)
+
+pub returns-then-present-level-clause-instances : goal.returns-then-present-level-clause-instances
+returns-then-present-level-clause-instances g c = no_line c.args.journal.now.lines
+
+pub returns-in_err-go_back-clause-instances : goal.returns-in_err-go_back-clause-instances
+returns-in_err-go_back-clause-instances g c = back_alone c.args.journal.now c.go_back.new.journal c.args.level c.in_err-go_back.ensures.noted_or
+
+pub returns-clause-instances : goal.returns-clause-instances
+returns-clause-instances g c = back_alone c.args.journal.now c.go_back.new.journal c.args.level (inr c.in_ok-go_back.ensures.noted)

@@ -2,6 +2,7 @@ use Rattle.std.proofs.Common.{OnOk}
 use Rattle.ae_journal.specs.Standing.{Setting}
 use Rattle.ae_sat.specs.Search.{IsLawfulState, NotesLegally}
 use Rattle.ae_searching.specs.Told.{IsToldIn}
+use Rattle.ae_searching.proofs.Instances.{notes_no_instance}
 use Rattle.ae_searching.proofs.Results.{on_ok_each, on_ok_three}
 use Rattle.ae_searching.proofs.Searching.{named_so, searching_run, so_far_run, state_so, stated_so}
 use Rattle.ae_searching.proofs.running.run_on.Goals as goal
@@ -48,3 +49,14 @@ returns-clause-number g c wide e p n bound level opened low h x told =
     c.run.ensures.number wide e x (named_so g.T.Equalities.fits T.assumed T.fits_mark T.in_step p n bound s opened level o ks js x told h)
     (stated_so g.T.Equalities.fits T.assumed T.fits_mark T.in_step p n bound s opened level o ks js x told h)
     (state_so g.T.Equalities.fits T.assumed T.fits_mark T.in_step p n bound s opened level o ks js x told low h)
+
+pub returns-clause-instances : goal.returns-clause-instances
+returns-clause-instances g c p n bound level opened low h x told =
+    let T = g.T.Theory in
+    let o = c.args.solver.now in
+    let s = c.args.store.now in
+    let js = c.args.journal.now.lines in
+    let ks = c.args.lines.now.items in
+    notes_no_instance x js c.run.new.journal.lines (c.run.ensures.legal x 0 (named_so g.T.Equalities.fits T.assumed T.fits_mark T.in_step p n bound s opened level o ks js x told h)
+    (stated_so g.T.Equalities.fits T.assumed T.fits_mark T.in_step p n bound s opened level o ks js x told h)
+    (state_so g.T.Equalities.fits T.assumed T.fits_mark T.in_step p n bound s opened level o ks js x told low h)).0

@@ -1,0 +1,5 @@
+use Rattle.ae_later_lines.proofs.Later.{justified_ages_stay}
+use Rattle.ae_later_lines.proofs.laws.justified_ages_stay.Goals as goal
+
+pub returns : goal.returns
+returns c = justified_ages_stay

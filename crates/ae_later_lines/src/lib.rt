@@ -1,0 +1,4 @@
+//! What stays where lines come later.
+#![tactic(auto)]
+
+pub mod laws;

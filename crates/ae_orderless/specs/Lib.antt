@@ -1,0 +1,3 @@
+-- Formulas and goals without inequality (Orderless), and what is computed to decide which goals are such (Decisions).
+pub mod Orderless
+pub mod Decisions

@@ -1,0 +1,1 @@
+-- Laws alone: their words stand in ae_core and ae_rules.
