@@ -1,5 +1,5 @@
 -- Blocks that were opened, each with its first constant, and numberings of all formulas that agree with them.
-use Rattle.std.specs.Prelude.{ℕ, ◌+◌, ◌<◌, ◌≤◌, ◌≡◌, List, length}
+use Rattle.std.specs.Prelude.{ℕ, ◌+◌, ◌<◌, ◌≤◌, ◌≡◌, List, length, map}
 use Rattle.std.specs.List.{Contains}
 use Rattle.ae_core.specs.declared.formulas.Formula.{Formula, out-Formula}
 use Rattle.ae_rules.specs.Instances.{block_sorts}
@@ -22,3 +22,7 @@ Agrees opened fresh = (o : Opened) → Contains opened o → fresh o.formula ≡
 -- no constant belongs to two formulas
 abbrev pub HaveOwnNumbers : (Formula → ℕ) → Type 0
 HaveOwnNumbers fresh = (f h : Formula) (i j : ℕ) → i < variables f → j < variables h → fresh f + i ≡ fresh h + j → f ≡ h
+
+-- each block that was opened with its first constant
+abbrev pub opened_pairs : List Opened → List (Formula × ℕ)
+opened_pairs os = map (λ (o : Opened). (o.formula, o.first)) os

@@ -94,7 +94,7 @@ module _ (n : ℕ) where
       subst (IsTermBelow n) (sym e) (applied (cond real (head.Real op.Mul) (head.Int op.Mul)) [] (numeral real z ∷ t ∷ []) (num_below z (pos 1) real, (all_contained (IsTermBelow n) names t a c, tt)))
   built sig names a _ (of_sum u real s t e p q) =
       subst (IsTermBelow n) (sym e) (applied (cond real (head.Real op.Add) (head.Int op.Add)) [] (s ∷ t ∷ []) (built sig names a s p, (built sig names a t q, tt)))
-  built sig names a _ (of_symbol u k ss s t e ac p q) = subst (IsTermBelow n) (sym e) (applied (head.Symbol k) ss (s ∷ t ∷ []) (built sig names a s p, (built sig names a t q, tt)))
+  built sig names a _ (of_symbol u k ss s t e ac o p q) = subst (IsTermBelow n) (sym e) (applied (head.Symbol k) ss (s ∷ t ∷ []) (built sig names a s p, (built sig names a t q, tt)))
   built sig names a _ (of_unplain u h ss s t e w p q) = subst (IsTermBelow n) (sym e) (applied h ss (s ∷ t ∷ []) (built sig names a s p, (built sig names a t q, tt)))
 
   -- ---- where sorts are put

@@ -1,0 +1,2 @@
+-- What is kept of blocks and of their constants.
+pub mod Kept

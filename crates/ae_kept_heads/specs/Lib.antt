@@ -1,0 +1,1 @@
+-- The index of names: the law speaks of the words of the crates below alone.

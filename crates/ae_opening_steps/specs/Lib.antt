@@ -1,0 +1,2 @@
+-- Steps that open blocks.
+pub mod Ready

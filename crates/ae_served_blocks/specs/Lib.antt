@@ -1,0 +1,2 @@
+-- Blocks that were opened.
+pub mod Served

@@ -1,0 +1,1 @@
+-- Searches that came to a limit: the law speaks of the words of the crates below alone.
