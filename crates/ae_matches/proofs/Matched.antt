@@ -1,5 +1,5 @@
 -- What is kept of the candidates are the matches.
-use Rattle.std.specs.Prelude.{ℕ, zero, suc, ◌-◌, ◌≡◌, ◌<◌, ◌≤◌, Bool, true, false, cond, ◌&&◌, ◌||◌, nat_eq, nat_lt, List, [], ◌∷◌, ◌++◌, map, take, length, slice_get, Option, Some, None}
+use Rattle.std.specs.Prelude.{ℕ, zero, suc, ◌-◌, ◌≡◌, ◌<◌, ◌≤◌, Bool, true, false, cond, ◌&&◌, ◌||◌, nat_eq, nat_lt, MatchBool, List, [], ◌∷◌, ◌++◌, map, take, length, slice_get, Option, Some, None}
 use Rattle.std.specs.List.{AllByRecursion, list_any, list_all}
 use Rattle.std.proofs.Common.{refl, sym, ap, ◌∙◌, subst, inl, inr, arith}
 use Rattle.std.proofs.lemmas.Bool.{cases_Bool, or_parts, and_parts, and_from, lt-ltb, ltb-true, eqb-true, eq-eqb, or_cases}
@@ -9,7 +9,7 @@ use Rattle.ae_base.specs.Options.{or_else, ◌>>=◌, known as is_known, all_kno
 use Rattle.ae_base.proofs.Decided.{decided_of, decided_yes}
 use Rattle.ae_base.proofs.Options.{mapped_some, known_each}
 use Rattle.ae_base.proofs.ListFacts.{value_at, get_map, map_map}
-use Rattle.ae_base.proofs.Tests.{nat_eq_itself}
+use Rattle.ae_base.proofs.Tests.{nat_eq_itself, false_true}
 use Rattle.std.proofs.lemmas.List.Folds.{list_all-append}
 use Rattle.ae_matching.specs.declared.bindings.NameBinding.{NameBinding}
 use Rattle.ae_base.proofs.AllOf.{all_append, all_push, all_of_map, all_before_map, all_both, all_at, all_from_places, all_of_test, test_of_all, all_front, all_weaker}
@@ -66,6 +66,11 @@ use Rattle.ae_matches.proofs.Roots.{chain_found, IsChained}
 use Rattle.ae_matches.proofs.Close.{near_at, from_back, same_by, map_by}
 use Rattle.ae_matches.proofs.Passing.{pass_says, passes_bound}
 use Rattle.ae_matches.proofs.Once.{sorts_yes, on, once_passes, once_distinct, once_answers}
+
+-- ---- what a test says
+pub told : {P : Type 0} (b t : Bool) → b ≡ t → (t ≡ true → P) → (P → t ≡ true) → MatchBool b P (¬ P)
+told true t e f g = f (sym e)
+told false t e f g = λ p. false_true (e ∙ g p)
 
 -- ---- numbers
 all_numbers : (n : ℕ) (P : ℕ → Type 0) → ((i : ℕ) → i < n → P i) → AllByRecursion P (numbers_below n)
@@ -405,6 +410,18 @@ module _ (sig : Signature) (ns : List Node) (s : IsStore sig ns) (below : ℕ) w
             ap (λ b. b || is_unit_at (slice_get sorts i)) o ∙ ap is_unit_at (is.is.determined i l o)
             ∙ decided_of (Sort_discrete UnitSort UnitSort) refl
       ]
+
+      -- a match passes the test itself
+      pub passes_itself : test_of m ≡ true
+      passes_itself =
+          and_from _ _
+          (and_from _ _
+          (and_from _ _ (and_from _ _ (eq-eqb (length sorts) p.sort_vars is.is.one_each) is.is.closed)
+          (test_of_all (λ i. is_determined p.terms sorts i ≡ true) (is_determined p.terms sorts) (λ x y. y) (numbers_below p.sort_vars) (all_numbers p.sort_vars (λ i. is_determined p.terms sorts i ≡ true) determined)))
+          (test_of_all Kind (is_known_name store below) (λ x y. y) values kinds))
+          (and_from _ _ is.is.sorted
+          (test_of_all (λ u. (n : ℕ) × In (numbers_below (length store.nodes)) n × (test store alike below sorts values is_arithmetic u n ≡ true)) (passes store alike below k sorts values (terms_of values))
+          (λ u y. (pass_says sig ns alike below k sorts values s has q kinds u).1 y) p.terms tested))
 
       abbrev answer : Subst
       answer = record { sorts = sorts; terms = others }

@@ -4,4 +4,5 @@
 pub mod candidates;
 mod classes;
 pub mod matches;
+pub mod one_match;
 mod testing;

@@ -1,0 +1,3 @@
+pub mod SameTerms
+pub mod EqualNow
+pub mod Searches

@@ -1,0 +1,2 @@
+pub mod OwnerPatterns
+pub mod Numbers
