@@ -1,0 +1,4 @@
+pub mod Joined
+pub mod Again
+pub mod Places
+pub mod Whole
