@@ -1,0 +1,1 @@
+-- Searches that have nothing left to do: the law speaks of the words of the crates below alone.
