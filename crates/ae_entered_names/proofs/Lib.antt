@@ -1,0 +1,4 @@
+pub mod Stepping
+pub mod Indexed
+pub mod Chosen
+pub mod Coming

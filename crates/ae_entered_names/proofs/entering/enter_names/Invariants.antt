@@ -1,0 +1,9 @@
+use Rattle.std.proofs.Common.{◌^◌, ◌-◌}
+use Rattle.ae_entered_names.specs.Inner.Choosing.{GoesOn, IsSameBeside}
+use Rattle.ae_entered_names.proofs.entering.enter_names.Given as goal
+
+abbrev pub invariant-names : goal.invariant-names
+invariant-names v l = GoesOn l.task.problem.now l.task.goal l.task.generations l.fn.search l.search × IsSameBeside l.fn.search l.search
+
+abbrev pub decreases-names : goal.decreases-names
+decreases-names v l = 2 ^ 64 - l.search.looked

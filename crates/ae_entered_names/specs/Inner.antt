@@ -1,0 +1,2 @@
+-- What holds while names enter. A reader need not believe any of it.
+pub mod Choosing
