@@ -1,0 +1,15 @@
+use Rattle.std.proofs.Common.{◌≡◌, ◌<◌, ◌-◌, ◌^◌, true, false, length}
+use Rattle.ae_between_rounds.specs.Between.{IsBetweenRounds}
+use Rattle.ae_opened_blocks.proofs.opening.open_blocks.Given as goal
+
+abbrev pub invariant-openings : goal.invariant-openings
+invariant-openings v l = record {
+  between : IsBetweenRounds l.task.problem.now l.task.goal l.task.generations l.search;
+  none : l.some ≡ false → l.search ≡ l.fn.search;
+  lines : l.some ≡ true → length l.fn.search.lines.items < length l.search.lines.items;
+  journal : l.search.journal ≡ l.fn.search.journal;
+}
+
+-- there is room for so many more lines
+abbrev pub decreases-openings : goal.decreases-openings
+decreases-openings v l = 2 ^ 64 - length l.search.lines.items

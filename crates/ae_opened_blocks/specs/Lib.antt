@@ -1,0 +1,1 @@
+-- Opening blocks: the contract speaks of the words of the crates below alone.
