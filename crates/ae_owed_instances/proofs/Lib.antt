@@ -1,0 +1,11 @@
+mod Lists
+mod Said
+mod Staying
+mod OwnersAdded
+mod Tested
+mod Lowered
+mod Noted
+mod Lower
+mod Standing
+mod OwedOnes
+mod Passed
