@@ -1,0 +1,11 @@
+pub mod Besides
+pub mod Coming
+pub mod Statements
+pub mod Axioms
+pub mod Ready
+pub mod Joining
+pub mod Made
+pub mod Holding
+pub mod One
+pub mod Batches
+pub mod Ending

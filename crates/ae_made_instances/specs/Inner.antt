@@ -1,0 +1,4 @@
+-- What the functions of this crate need. A reader need not believe any of it.
+pub mod Beside
+pub mod Noting
+pub mod Making

@@ -1,0 +1,9 @@
+//! Making the instances that are owed.
+#![tactic(auto)]
+
+mod batch;
+mod lines;
+mod making;
+mod noting;
+
+pub use batch::make_owed;
