@@ -1,0 +1,4 @@
+pub mod Brought
+pub mod Opened
+pub mod Begun
+pub mod Holding

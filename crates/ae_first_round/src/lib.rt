@@ -1,0 +1,8 @@
+//! What a search in rounds begins with.
+#![tactic(auto)]
+
+mod beginning;
+mod blocks;
+mod naming;
+
+pub use beginning::begin;
