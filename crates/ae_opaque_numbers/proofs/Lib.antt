@@ -1,0 +1,4 @@
+mod Leaves
+mod Opaque
+mod Values
+mod Lines

@@ -1,0 +1,2 @@
+-- Numbers that are their own values.
+pub mod Opaque

@@ -1,0 +1,3 @@
+pub mod Rests
+pub mod Reached
+pub mod MayStands

@@ -1,0 +1,4 @@
+//! Which inequalities may stand where a search has nothing left to do.
+#![tactic(auto)]
+
+pub mod laws;

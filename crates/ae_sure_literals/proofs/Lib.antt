@@ -1,0 +1,5 @@
+mod GivenClauses
+mod Flags
+mod Passing
+mod Using
+mod Exact
