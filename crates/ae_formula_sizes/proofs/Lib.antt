@@ -1,0 +1,4 @@
+mod Ceilings
+mod SortSizes
+mod TermSizes
+mod FormulaSizes
