@@ -1,0 +1,8 @@
+mod Constants
+mod Failing
+mod Lines
+mod Numerals
+mod Pointing
+mod Running
+mod Steps
+mod Written
