@@ -12,7 +12,7 @@ use Rattle.ae_driver.specs.declared.reasons.Reason.{Reason}
 use Rattle.ae_driver.specs.declared.reasons.Reason.TheVariants.{Plain}
 use Rattle.ae_driver.specs.Problems.{HasNoProblem, IsProblemOf, IsReasonLine}
 
--- the text has this problem, and each of its goals is one that is answered so far
+-- the text has this problem, whose goals are answered so far: no inequality stands in them, nor in the axioms before them
 pub record Reads (text : List ℕ) (p : Problem) : Type 0 where
   pub states : IsProblemOf text p
   pub reach : AreInReach p

@@ -57,8 +57,7 @@ pub enum Status {
 /// Where the words ask for proofs:
 ///
 /// - `Done` comes only where the source was read to its end, its text has at most `INPUT_LIMIT` bytes and a problem each of whose
-///   goals is answered so far (it, and the axioms before it, have no quantifier but a goal that is one `forall` block, no inequality,
-///   no type variables of an axiom, and no term of `int`, `bool`, `unit` or an enumeration), and one part was written for each goal:
+///   goals is answered so far (no inequality stands in it, nor in the axioms before it), and one part was written for each goal:
 ///   `Valid` with the text of a proof that derives the goal in that problem, with its axioms; `I don't know` with the text of a
 ///   saturated state; `Limit steps N` with a legal journal of N counted lines, where N is the words' bound; or `Limit number` with a
 ///   step that leaves the limits of numbers, which a legal journal licenses. Of a goal of the ground fragment the proof is a ground
@@ -297,14 +296,14 @@ fn answer_problem<K: Sink>(
     ensures write_fault { result ≡ WriteFault → Rose (K.faults sink.old) (K.faults sink.new) }
 {
     typed_problems_have_lowest_numerals();
-    match goals_in_reach(alloc, problem) {
-        Ok(true) => answer_items(alloc, problem, picks, asked, sink),
-        Ok(false) => refuse(alloc, text, &Reason::Plain(Refusal::NoForm), sink),
-        Err(_) => Status::Memory,
+    if goals_in_reach(problem) {
+        answer_items(alloc, problem, picks, asked, sink)
+    } else {
+        refuse(alloc, text, &Reason::Plain(Refusal::NoForm), sink)
     }
 }
 
-// Answers the goals of a problem in order, each of which is in the reach.
+// Answers the goals of a problem in order, which are without inequality.
 fn answer_items<K: Sink>(
     alloc: Global,
     problem: &Problem,

@@ -20,7 +20,7 @@ no_axiom p k name vars body goal e g =
 
 pub ground_part : (p : Problem) (k : ℕ) (limits : Limits) (bytes : List ℕ) → IsGround p k → IsPart p k limits bytes → IsGroundPart p k limits bytes
 ground_part p k limits bytes g (of_axiom name vars body e w) = absurd (no_axiom p k name vars body g.goal e g.is)
-ground_part p k limits bytes g (of_goal name vars body (Valid proof) e r w) = has_proof name proof (vars, body, e) r.answer (r.ground g) w
+ground_part p k limits bytes g (of_goal name vars body (Valid proof) e r w) = has_proof name proof (vars, body, e) (r.ground g) w
 ground_part p k limits bytes g (of_goal name vars body (Unknown st) e r w) = has_state name st (vars, body, e) r.answer (r.ground g) w
 ground_part p k limits bytes g (of_goal name vars body (Steps story) e r w) = has_journal name story (vars, body, e) (r.answer).0 (r.answer).1 w
 ground_part p k limits bytes g (of_goal name vars body (Number story at) e r w) = has_width name story at (vars, body, e) r.answer w

@@ -1,12 +1,14 @@
 -- Whether each item is in the reach.
-use Rattle.std.specs.Prelude.{ℕ, ◌+◌, get_or, ◌<◌, ◌≤◌, ◌↔◌, ◌≡◌, Bool, true, false, List, length, slice_get, Some, IsTrue}
+use Rattle.std.specs.Prelude.{ℕ, ◌+◌, get_or, ◌<◌, ◌≤◌, ◌↔◌, ◌≡◌, Bool, true, false, List, length, slice_get, Some, IsTrue, Option, None}
 use Rattle.std.proofs.Common.{refl, sym, ap, ◌∙◌, subst, arith, inl, inr, eq-or-lt_of_le}
 use Rattle.std.proofs.lemmas.Option.{same_Some, slice_get-get_or, slice_get_within}
+use Rattle.ae_base.specs.Options.{◌>>=◌}
 use Rattle.ae_base.proofs.Tests.{false_true}
 use Rattle.ae_core.specs.declared.formulas.Formula.{Formula}
 use Rattle.ae_core.specs.declared.problems.Item.{Item}
 use Rattle.ae_core.specs.declared.problems.Item.TheVariants.{Axiom, Goal}
 use Rattle.ae_core.specs.declared.problems.Problem.{Problem}
+use Rattle.ae_rules.specs.Derivations.{goal_body}
 use Rattle.ae_goal_parts.specs.Reach.{AreInReach}
 use Rattle.ae_goal_parts.specs.Inner.Items.{AreReachedTo, IsItemInReach}
 
@@ -16,6 +18,10 @@ item_at items slice k found item s lt is e = slice_get-get_or items k found lt �
 
 pub axiom_is_no_goal : (items : List Item) (k : ℕ) (n : List ℕ) (v : ℕ) (f : Formula) (m : List ℕ) (w : ℕ) (h : Formula) → slice_get items k ≡ Some (Axiom n v f) → slice_get items k ≡ Some (Goal m w h) → ⊥
 axiom_is_no_goal items k n v f m w h a b = let e : Axiom n v f ≡ Goal m w h = same_Some (Axiom n v f) (Goal m w h) (sym a ∙ b) in cc
+
+-- the formula of a goal
+pub body_of : (p : Problem) (k : ℕ) (n : List ℕ) (v : ℕ) (f : Formula) → slice_get p.items k ≡ Some (Goal n v f) → goal_body p k ≡ Some f
+body_of p k n v f e = ap (λ (o : Option Item). o >>= λ i. elim i as (λ _. Option Formula) [ Axiom n v f ↦ None | Goal n v f ↦ Some f ]) e
 
 module _ (p : Problem) where
   item_reached : AreInReach p → (k : ℕ) (item : Item) → slice_get p.items k ≡ Some item → IsItemInReach p k item

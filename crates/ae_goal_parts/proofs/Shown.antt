@@ -49,7 +49,7 @@ module _ (p : Problem) (k : ℕ) where
       → IsRightAnswer p k limits (Valid proof) → IsRightAnswer p k limits (Valid trimmed)
   right_trimmed limits proof trimmed t d r = record {
     answer = d p k r.answer;
-    ground = λ g j. trimmed_ground p k proof trimmed (r.ground g j) t;
+    ground = λ g. trimmed_ground p k proof trimmed (r.ground g) t;
     within = λ g c n e ts h. tt;
   }
 

@@ -13,8 +13,6 @@ use Rattle.ae_journal.specs.declared.answers.Answer.TheVariants.{Unknown, Steps,
 use Rattle.ae_journal.specs.declared.answers.WideAt.{WideAt}
 use Rattle.ae_journal.specs.declared.lines.Story.{Story}
 use Rattle.ae_journal.specs.declared.systems.Saturated.{Saturated}
-use Rattle.ae_reach.specs.Budget.{JoinsNoEnumerations}
-use Rattle.ae_rules.specs.Derivations.{Derives}
 use Rattle.ae_search_options.specs.declared.limits.Limits.{Limits}
 use Rattle.ae_statetext.specs.AnswerTexts.{answer_text}
 use Rattle.ae_goal_parts.specs.Parts.{IsProofWritten}
@@ -23,10 +21,10 @@ use Rattle.ae_goal_parts.specs.Parts.{IsProofWritten}
 abbrev pub IsNameOf : Problem → ℕ → List ℕ → Type 0
 IsNameOf p k name = (vars : ℕ) × (body : Formula) × (slice_get p.items k ≡ Some (Goal name vars body))
 
--- under the goal's name: a proof, which is a ground proof where no AC symbol works on a sort that holds an enumeration of which a term occurs; a saturated state, and no
--- ground proof derives the goal; a legal journal with as many counted lines as were allowed; or a licensed width
+-- under the goal's name: a ground proof; a saturated state, and no ground proof derives the goal; a legal journal with as many counted lines as were allowed; or a
+-- licensed width
 pub data IsGroundPart (p : Problem) (k : ℕ) (limits : Limits) (bytes : List ℕ) : Type 0 where
-  has_proof : (name : List ℕ) (proof : Proof) → IsNameOf p k name → Derives p k proof → (JoinsNoEnumerations p k → IsGroundProof p k proof) → IsProofWritten p.signature name proof bytes → IsGroundPart p k limits bytes
+  has_proof : (name : List ℕ) (proof : Proof) → IsNameOf p k name → IsGroundProof p k proof → IsProofWritten p.signature name proof bytes → IsGroundPart p k limits bytes
   has_state : (name : List ℕ) (state : Saturated) → IsNameOf p k name → IsSaturated p k state limits.generations → ((proof : Proof) → ¬ (IsGroundProof p k proof))
       → bytes ≡ answer_text p.signature name (Unknown state) → IsGroundPart p k limits bytes
   has_journal : (name : List ℕ) (story : Story) → IsNameOf p k name → IsLegalJournal p k limits.generations story → counted_in story.lines ≡ limits.steps

@@ -3,8 +3,8 @@ use Rattle.std.specs.Prelude.{ℕ, List, ◌≡◌, slice_get, Some}
 use Rattle.ae_core.specs.declared.formulas.Formula.{Formula}
 use Rattle.ae_core.specs.declared.problems.Item.TheVariants.{Goal}
 use Rattle.ae_core.specs.declared.problems.Problem.{Problem}
-use Rattle.ae_reach.specs.Reach.{IsInReach}
+use Rattle.ae_orderless.specs.Orderless.{IsOrderlessGoal}
 
--- each goal is in the reach, with the hypotheses before it
+-- no inequality stands in a goal, nor in the axioms before it
 abbrev pub AreInReach : Problem → Type 0
-AreInReach p = (k : ℕ) (name : List ℕ) (vars : ℕ) (body : Formula) → slice_get p.items k ≡ Some (Goal name vars body) → IsInReach p k
+AreInReach p = (k : ℕ) (name : List ℕ) (vars : ℕ) (body : Formula) → slice_get p.items k ≡ Some (Goal name vars body) → IsOrderlessGoal p k

@@ -2,24 +2,24 @@
 ghost use Rattle.std.specs.Prelude.{◌<◌, ◌≤◌, length, IfOk};
 ghost use Rattle.ae_core.specs.Signatures.{IsLawfulProblem};
 ghost use Rattle.ae_printed.specs.ReadBack.{IsReadBack};
-ghost use Rattle.ae_reach.specs.Reach.{IsInReach};
+ghost use Rattle.ae_orderless.specs.Orderless.{IsOrderlessGoal};
 ghost use Rattle.ae_writable.specs.Numbers.{HasLowestNumerals};
 ghost use Rattle.ae_goal_parts.specs.Parts.{IsPart, IsReadable};
 ghost use Rattle.ae_goal_parts.specs.Reach.{AreInReach};
 ghost use Rattle.ae_goal_parts.specs.Inner.Items.{IsGoalNamed};
 ghost use Rattle.ae_goal_parts.specs.Inner.Shown.{IsShown, MayBeShown};
 
+use crate::answers::goal_answer;
 use crate::found::found_part;
 use crate::valid::valid_part;
 use ae_core::problems::{Item, Problem};
 use ae_core::words::Word;
 use ae_journal::answers::Answer;
-use ae_search::prove;
 use ae_search_options::limits::Limits;
 use ae_search_options::picks::Picks;
 use std::alloc::{AllocError, Global};
 
-/// What is printed for the item at a place of a problem each of whose goals is in the reach: nothing for an axiom; for a goal the answer that is found by
+/// What is printed for the item at a place of a problem whose goals are without inequality: nothing for an axiom; for a goal the answer that is found by
 /// the picks of one of three ways, with at most so many counted lines. It is always read back as a part of that goal, since the numerals of the problem
 /// are in lowest terms and the bound is one that a text can name. `Err` where there is no memory for it, and nowhere else.
 pub fn item_part(
@@ -59,7 +59,7 @@ fn goal_part(
 ) -> Result<Vec<u8>, AllocError>
     requires lawful { IsLawfulProblem problem.now }
     requires lowest { HasLowestNumerals problem.now }
-    requires reach { IsInReach problem.now goal }
+    requires orderless { IsOrderlessGoal problem.now goal }
     requires least { 1 ≤ limits.now.steps }
     requires most { limits.now.steps ≤ 1000000 }
     requires named { IsGoalNamed problem.now goal name.now }
@@ -67,7 +67,7 @@ fn goal_part(
     ensures part { IfOk result (λ part. IsPart problem.now goal limits.now part.items) }
     ensures read_back { IfOk result (λ part. IsReadBack problem.now goal part.items) }
 {
-    let answer = prove(alloc, problem, goal, picks, which, limits)?;
+    let answer = goal_answer(alloc, problem, goal, picks, which, limits)?;
     answer_part(alloc, problem, goal, name, &answer)
 }
 

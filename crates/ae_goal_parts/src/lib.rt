@@ -1,6 +1,7 @@
 //! The part of an output for each item of a problem.
 #![tactic(auto)]
 
+mod answers;
 mod found;
 mod items;
 pub mod laws;

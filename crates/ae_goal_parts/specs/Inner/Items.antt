@@ -4,11 +4,11 @@ use Rattle.ae_core.specs.declared.formulas.Formula.{Formula}
 use Rattle.ae_core.specs.declared.problems.Item.{Item}
 use Rattle.ae_core.specs.declared.problems.Item.TheVariants.{Axiom, Goal}
 use Rattle.ae_core.specs.declared.problems.Problem.{Problem}
-use Rattle.ae_reach.specs.Reach.{IsInReach}
+use Rattle.ae_orderless.specs.Orderless.{IsOrderlessGoal}
 
 abbrev pub IsItemInReach : Problem → ℕ → Item → Type 0
 IsItemInReach p k (Axiom n v f) = Unit {0}
-IsItemInReach p k (Goal n v f) = IsInReach p k
+IsItemInReach p k (Goal n v f) = IsOrderlessGoal p k
 
 -- each of the first n items is
 abbrev pub AreReachedTo : Problem → List Item → ℕ → Type 0

@@ -1,8 +1,12 @@
 use Rattle.std.proofs.lemmas.Result.{IfOk-weaker}
 use Rattle.ae_goal_parts.specs.Parts.{IsPart}
 use Rattle.ae_goal_parts.specs.Inner.Shown.{IsShown}
+use Rattle.ae_goal_parts.proofs.Reached.{body_of}
 use Rattle.ae_goal_parts.proofs.Shown.{may_be_shown, part_is}
 use Rattle.ae_goal_parts.proofs.items.goal_part.Goals as goal
+
+pub goal_answer-requires-clause-goal : goal.goal_answer-requires-clause-goal
+goal_answer-requires-clause-goal g c = let n = c.requires.named in (n.body, body_of c.args.problem.now c.args.goal c.args.name.now n.vars n.body n.is_goal)
 
 pub answer_part-requires-clause-may_be : goal.answer_part-requires-clause-may_be
 answer_part-requires-clause-may_be g c =
