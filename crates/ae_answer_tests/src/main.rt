@@ -76,20 +76,28 @@ fn told(
 
 fn main(rt: HostRuntime) -> io::Result<()> {
     let alloc = rt.alloc();
-    let last = |n: usize, _turn: usize|
+    let last_literal = |n: usize, _turn: usize|
         requires { 1 ≤ n }
         ensures { result < n }
     { n - 1 };
-    let mixed = |n: usize, turn: usize|
+    let last_instance = |n: usize, _turn: usize|
+        requires { 1 ≤ n }
+        ensures { result < n }
+    { n - 1 };
+    let mixed_literal = |n: usize, turn: usize|
+        requires { 1 ≤ n }
+        ensures { result < n }
+    { turn % n };
+    let mixed_instance = |n: usize, turn: usize|
         requires { 1 ≤ n }
         ensures { result < n }
     { turn % n };
     let decide_first = Pick::keep(Box::new(alloc, |_n: usize, _turn: usize| 0)?);
-    let decide_last = Pick::keep(Box::new(alloc, last)?);
-    let decide_mixed = Pick::keep(Box::new(alloc, mixed)?);
+    let decide_last = Pick::keep(Box::new(alloc, last_literal)?);
+    let decide_mixed = Pick::keep(Box::new(alloc, mixed_literal)?);
     let rank_first = Pick::keep(Box::new(alloc, |_n: usize, _turn: usize| 0)?);
-    let rank_last = Pick::keep(Box::new(alloc, |_n: usize, _turn: usize| 0)?);
-    let rank_mixed = Pick::keep(Box::new(alloc, |_n: usize, _turn: usize| 0)?);
+    let rank_last = Pick::keep(Box::new(alloc, last_instance)?);
+    let rank_mixed = Pick::keep(Box::new(alloc, mixed_instance)?);
     let picks = Picks {
         decide: [decide_first, decide_last, decide_mixed],
         rank: [rank_first, rank_last, rank_mixed],
