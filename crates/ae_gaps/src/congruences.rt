@@ -31,7 +31,7 @@ use ae_equal_steps::equal_step;
 use ae_journal::journal::Journal;
 use ae_just::justs::Justs;
 use ae_num::forms::Name;
-use ae_solving::name_equation;
+use ae_orienting::name_equation;
 use ae_state::Holding;
 use ae_store::store::Store;
 use ae_theory::theory::Fail;

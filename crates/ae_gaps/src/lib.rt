@@ -12,4 +12,5 @@ mod retaking;
 mod unpaired;
 mod waiting;
 
+pub use ae_orienting::first_waiting;
 pub use gaps::take_up_gap;

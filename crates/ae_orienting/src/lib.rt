@@ -7,4 +7,5 @@ mod reducing;
 mod turning;
 mod waiting;
 
+pub use ae_solving::name_equation;
 pub use waiting::{first_waiting, take_up_first};

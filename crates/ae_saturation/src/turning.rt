@@ -13,11 +13,10 @@ ghost use Rattle.ae_turns.specs.Representing.{IsTaken, AreRepresentatives};
 ghost use Rattle.ae_saturation.specs.Inner.Turned.{IsTurned};
 
 use crate::upkeep::keep_up;
-use ae_gaps::take_up_gap;
+use ae_gaps::{first_waiting, take_up_gap};
 use ae_journal::journal::Journal;
 use ae_least_names::least_names;
 use ae_num::forms::Name;
-use ae_orienting::first_waiting;
 use ae_settled::laws::{a_settled_state_is_completed, a_settled_state_satisfies_its_literals};
 use ae_state::Holding;
 use ae_store::store::Store;
