@@ -302,6 +302,7 @@ pub fn point(alloc: Global, stages: Items<Stage>) -> Result<Items<Valuation>, Po
     requires falling { AreFalling stages }
     ensures chosen { IfOk result (λ made. IsPoint (HasStage stages) (value_in made)) }
     ensures wide { (w : WideAt) → result ≡ Err (Wide w) → IsPointWide (HasStage stages) w }
+    ensures numbers { IfOk result (λ made. AllByRecursion (λ at. IsNumber at.value) made) }
 {
     let mut stages = stages;
     let mut made: Items<Valuation> = Items::new(alloc);
