@@ -12,7 +12,7 @@ use Rattle.ae_journal.specs.Legal.{AreLegal}
 use Rattle.ae_journal.specs.declared.lines.Line.{Line}
 use Rattle.ae_store.specs.Stores.{Stored}
 use Rattle.ae_theory.specs.Names.{terms_in}
-use Rattle.ae_sat.specs.Lines.{AddsLinesOver}
+use Rattle.ae_sat.specs.Lines.{AddsEquationsOver}
 use Rattle.ae_sat.specs.Search.{AllAmong, AllNamed, EndsEmpty, HasParts, IsOpen}
 use Rattle.ae_sat.specs.Standing.{IsOneOf}
 use Rattle.ae_open_states.specs.Finished.{AreOverGround, HasFirstClauses}
@@ -26,7 +26,7 @@ pub record IsLeft (p : Problem) (g : ℕ) (s : Stored) (js : List Line) (lines :
 -- the lines end with the empty clause, and those behind the first ones are over the formulas of the first clauses and their parts
 pub record IsRefutation (s : Stored) (firsts : List ClauseLine) (clauses : List Clause) (lines : List ClauseLine) : Type 0 where
   pub ends : EndsEmpty lines
-  pub over : (fs : List Formula) → HasParts fs → AllAmong fs clauses → AddsLinesOver s fs firsts lines
+  pub over : (fs : List Formula) → HasParts fs → AllAmong fs clauses → AddsEquationsOver s fs firsts lines
 
 -- each clause has a true literal; what the search began with is among them, the hypotheses and the goal's negation too, and they are over its formulas and
 -- their parts

@@ -13,6 +13,7 @@ use Rattle.ae_core.specs.declared.formulas.Lit.{Lit}
 use Rattle.ae_core.specs.declared.problems.Signature.{Signature}
 use Rattle.ae_core.specs.declared.problems.Problem.{Problem}
 use Rattle.ae_core.specs.declared.proofs.EqLine.{EqLine}
+use Rattle.ae_core.specs.declared.proofs.Relation.TheVariants.{Equal}
 use Rattle.ae_core.specs.declared.proofs.ClauseLine.{ClauseLine}
 use Rattle.ae_core.specs.declared.proofs.ClauseLine.TheVariants.{Hyp, Goal, Def, Inst, Fresh as FreshLine, Exh, Tri, Block, Rup}
 use Rattle.ae_core.specs.declared.proofs.Proof.{Proof}
@@ -22,13 +23,13 @@ use Rattle.ae_rules.specs.Built.{IsBuiltEquation}
 use Rattle.ae_rules.specs.Clauses.{Clause}
 use Rattle.ae_rules.specs.Derivations.{IsAllowed, AreAllowed, Derives}
 use Rattle.ae_rules.specs.Instances.{choices_of}
-use Rattle.ae_rules.specs.Lines.{AllAllowed, fact_ok}
+use Rattle.ae_rules.specs.Lines.{AllAllowed, fact_ok, states}
 use Rattle.ae_rules.proofs.SortedLines.{states_clause}
 use Rattle.ae_journal.specs.Ground.{IsGround, MayStand, IsGroundEquation, IsGroundLine, IsGroundProof}
 use Rattle.ae_journal.proofs.Splits.{all_contained}
 use Rattle.ae_store.specs.Stores.{Stored}
 use Rattle.ae_theory.specs.Names.{terms_in}
-use Rattle.ae_sat.specs.Lines.{IsLineOver, AddsLinesOver}
+use Rattle.ae_sat.specs.Lines.{AddsEquationsOver, IsBuiltLine, IsLineOver, StatesEquations}
 use Rattle.ae_first_clauses.specs.First.{IsFirstLine, a_hypothesis, the_goal, the_block, States}
 use Rattle.ae_open_states.proofs.Choices.{choice}
 use Rattle.ae_choice_clauses.specs.Choices.{IsChoiceLine, a_choice, StatesChoice}
@@ -78,33 +79,34 @@ module _ (p : Problem) (g : ℕ) where
     literals_stand : (c : Clause) → AllByRecursion (λ (l : Lit). Contains fs l.formula) c → AllByRecursion (λ (l : Lit). MayStand p g l.formula) c
     literals_stand c a = all_weaker (λ (l : Lit). Contains fs l.formula) (λ (l : Lit). MayStand p g l.formula) (λ l h. stands l.formula h) c a
 
-    equations_ground : (hyps : List Lit) (earlier ls : List EqLine) → AllAllowed p.signature (fact_ok p.signature) hyps earlier ls → AllByRecursion (IsBuiltEquation s.signature (terms_in s)) ls
-        → AllByRecursion (IsGroundEquation p.signature) ls
-    equations_ground hyps earlier [] a b = tt
-    equations_ground hyps earlier (l ∷ ls) a b = (
-      line_ground p.signature law (terms_in s) names l a.0.0 (subst (λ (sig : Signature). IsBuiltEquation sig (terms_in s) l) same b.0),
-      equations_ground hyps (earlier ++ l ∷ []) ls a.1 b.1,
-    )
+    equations_ground : (hyps : List Lit) (earlier ls : List EqLine) → AllAllowed p.signature (fact_ok p.signature) hyps earlier ls → AllByRecursion (IsBuiltLine s.signature (terms_in s)) ls
+        → AllByRecursion (λ (l : EqLine). (states l).relation ≡ Equal) ls → AllByRecursion (IsGroundEquation p.signature) ls
+    equations_ground hyps earlier [] a b e = tt
+    equations_ground hyps earlier (l ∷ ls) a b e =
+        let one : IsBuiltEquation s.signature (terms_in s) l = record { equation = e.0; left = b.0.left; right = b.0.right; factors = b.0.factors } in (
+          line_ground p.signature law (terms_in s) names l a.0.0 (subst (λ (sig : Signature). IsBuiltEquation sig (terms_in s) l) same one),
+          equations_ground hyps (earlier ++ l ∷ []) ls a.1 b.1 e.1,
+        )
 
-    over_ground : (l : ClauseLine) → IsLineOver s fs l → IsAllowedSomewhere l → IsGroundLine p g l
-    over_ground (Def r f) i a = let c = a.1.0 in row_ground p g ground r f c.0 (stands f i) (states_clause p g (Def r f) c.0 c.1).1
+    over_ground : (l : ClauseLine) → IsLineOver s fs l × StatesEquations l → IsAllowedSomewhere l → IsGroundLine p g l
+    over_ground (Def r f) i a = let c = a.1.0 in row_ground p g ground r f c.0 (stands f i.0) (states_clause p g (Def r f) c.0 c.1).1
     over_ground (Block b) i a = record {
-      hyps = literals_stand b.deriv.hyps i.hyps;
-      lines = equations_ground b.deriv.hyps [] b.deriv.lines a.1.1.0 i.lines;
+      hyps = literals_stand b.deriv.hyps i.0.hyps;
+      lines = equations_ground b.deriv.hyps [] b.deriv.lines a.1.1.0 i.0.lines i.1;
     }
-    over_ground (Rup c ks) i a = literals_stand c i
+    over_ground (Rup c ks) i a = literals_stand c i.0
     over_ground (Hyp k ss) i a = tt
     over_ground Goal i a = tt
-    over_ground (Inst f ts) i a = absurd i
-    over_ground (FreshLine f m) i a = absurd i
-    over_ground (Exh t) i a = absurd i
-    over_ground (Tri u t) i a = absurd i
+    over_ground (Inst f ts) i a = absurd i.0
+    over_ground (FreshLine f m) i a = absurd i.0
+    over_ground (Exh t) i a = absurd i.0
+    over_ground (Tri u t) i a = absurd i.0
 
-    pub derived_ground : (firsts : List ClauseLine) (proof : Proof) → AllByRecursion (IsGroundLine p g) firsts → AddsLinesOver s fs firsts proof.lines → Derives p g proof → IsGroundProof p g proof
+    pub derived_ground : (firsts : List ClauseLine) (proof : Proof) → AllByRecursion (IsGroundLine p g) firsts → AddsEquationsOver s fs firsts proof.lines → Derives p g proof → IsGroundProof p g proof
     derived_ground firsts proof first (added, is, over) d = record {
       derives = d;
       lines = subst (AllByRecursion (IsGroundLine p g)) (sym is)
           (all_append (IsGroundLine p g) firsts added first
-          (all_both (IsLineOver s fs) IsAllowedSomewhere (IsGroundLine p g) over_ground added over
+          (all_both (λ (l : ClauseLine). IsLineOver s fs l × StatesEquations l) IsAllowedSomewhere (IsGroundLine p g) over_ground added over
           (all_back IsAllowedSomewhere firsts added (subst (AllByRecursion IsAllowedSomewhere) is (each_allowed [] proof.lines d.allowed)))));
     }

@@ -23,7 +23,7 @@ ghost use Rattle.ae_reach.specs.Reach.{IsInReach};
 ghost use Rattle.ae_rules.specs.Clauses.{Clause};
 ghost use Rattle.ae_rules.specs.Derivations.{Derives};
 ghost use Rattle.ae_sat.specs.Apart.{AreConjunctive};
-ghost use Rattle.ae_sat.specs.Lines.{AddsLinesOver};
+ghost use Rattle.ae_sat.specs.Lines.{AddsEquationsOver};
 ghost use Rattle.ae_sat.specs.Search.{AllAmong, HasParts};
 ghost use Rattle.ae_store.specs.Stores.{Stored};
 ghost use Rattle.ae_store.specs.Terms.{HasOneName};
@@ -52,7 +52,7 @@ pub fn first_formulas_have_parts()
 pub fn refutations_are_ground()
     ensures { (p : Problem) (g : ℕ) (firsts : List ClauseLine) (first : List Clause) (old before s : Stored) (lines : List ClauseLine) (clauses : List Clause) → IsLawful p.signature → IsInReach p g → IsGround p g → AreFirst p g firsts first → old.signature ≡ p.signature → terms_in old ≡ [] →
         HasNamed old before (all_terms first) → AddsChoices p g before s firsts lines first clauses →
-        (proof : Proof) → ((fs : List Formula) → HasParts fs → AllAmong fs clauses → AddsLinesOver s fs lines proof.lines) → Derives p g proof → IsGroundProof p g proof }
+        (proof : Proof) → ((fs : List Formula) → HasParts fs → AllAmong fs clauses → AddsEquationsOver s fs lines proof.lines) → Derives p g proof → IsGroundProof p g proof }
 {}
 
 /// Of the names that a search begins with none joins terms where no AC symbol occurs in the goal; and where no term of an enumeration occurs, those that

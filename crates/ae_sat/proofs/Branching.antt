@@ -1,9 +1,6 @@
 -- What a decision notes and leaves.
-use Rattle.std.proofs.Common.{◌≡◌, ℕ, ◌<◌, ◌≤◌, List, [], ◌∷◌, ◌++◌, length, get_or, sym, ◌∙◌, ap, subst, arith, ◌⊎◌, inl, inr}
-use Rattle.std.proofs.lemmas.List.{get_or_default}
-use Rattle.ae_rules.specs.Clauses.{Clause}
+use Rattle.std.proofs.Common.{◌≡◌, ℕ, ◌≤◌, List, [], ◌∷◌, ◌++◌, refl, sym, ap, subst, arith, ◌⊎◌, inl, inr}
 use Rattle.ae_core.specs.declared.formulas.Lit.{Lit}
-use Rattle.ae_explain.specs.Trail.{clause}
 use Rattle.ae_journal.specs.Noted.{Noted}
 use Rattle.ae_journal.specs.declared.lines.Line.{Line}
 use Rattle.ae_journal.specs.declared.lines.Line.TheVariants as line
@@ -25,6 +22,7 @@ pub keeps_one : (old new : Noted) (l : Lit) → new ≡ record old { lines = old
 keeps_one old new l e = record {
   limit = ap (λ (n : Noted). n.limit) e;
   more = omega (arith, counted_push old.lines (line.Decide l), ap (λ (n : Noted). counted_in n.lines) e);
+  own = (line.Decide l ∷ [], ap (λ (n : Noted). n.lines) e, (refl, tt));
 }
 
 pub keeps_either : (old new : Noted) (l : Lit) → (new ≡ old) ⊎ (new ≡ record old { lines = old.lines ++ line.Decide l ∷ [] }) → Keeps old new

@@ -1,10 +1,9 @@
 -- What stays settled.
-use Rattle.std.proofs.Common.{◌≡◌, ℕ, ◌≤◌, List, [], ◌∷◌, ◌++◌, length, take, refl, sym, ap, ◌∙◌, subst, arith, Option, Some, None, Result, OnOk, OnErr, length-append, append-nil}
+use Rattle.std.proofs.Common.{◌≡◌, ℕ, List, [], ◌++◌, length, take, sym, ap, ◌∙◌, subst, arith, Option, Some, None, Result, OnOk, OnErr, length-append, append-nil}
 use Rattle.std.proofs.lemmas.List.{take-append-le}
 use Rattle.ae_rules.specs.Clauses.{Clause}
 use Rattle.ae_core.specs.declared.formulas.Lit.{Lit}
 use Rattle.ae_explain.specs.declared.trail.Assigned.{Assigned}
-use Rattle.ae_explain.specs.Trail.{clause}
 use Rattle.ae_propagation.specs.Settled.{Holds, IsQuiet}
 use Rattle.ae_propagation.specs.Watched.{AreQuietBy}
 use Rattle.ae_explain.proofs.Results.{either_way}

@@ -78,10 +78,16 @@ pub keeps_learn : (old mid new : Noted) (c : Clause) (n : ℕ) → mid ≡ recor
 keeps_learn old mid new c n e (inl q) = record {
   limit = ap (λ (x : Noted). x.limit) (q ∙ e);
   more = omega (arith, counted_push old.lines (line.Learn c), ap (λ (x : Noted). counted_in x.lines) (q ∙ e));
+  own = (line.Learn c ∷ [], ap (λ (x : Noted). x.lines) (q ∙ e), (refl, tt));
 }
 keeps_learn old mid new c n e (inr q) = record {
   limit = ap (λ (x : Noted). x.limit) q ∙ ap (λ (x : Noted). x.limit) e;
   more = omega (arith, counted_push old.lines (line.Learn c), ap (λ (x : Noted). counted_in x.lines) e, counted_push mid.lines (line.Back n), ap (λ (x : Noted). counted_in x.lines) q);
+  own = (
+    line.Learn c ∷ line.Back n ∷ [],
+    ap (λ (x : Noted). x.lines) q ∙ ap (λ (x : Noted). x.lines ++ line.Back n ∷ []) e ∙ append_assoc old.lines (line.Learn c ∷ []) (line.Back n ∷ []),
+    (refl, (refl, tt)),
+  );
 }
 
 pub progresses_learn : (old mid new : Noted) (c : Clause) (n : ℕ) → mid ≡ record old { lines = old.lines ++ line.Learn c ∷ [] } → new ≡ record mid { lines = mid.lines ++ line.Back n ∷ [] } → counted_in mid.lines ≤ mid.limit

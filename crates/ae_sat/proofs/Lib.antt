@@ -30,3 +30,4 @@ pub mod Conjunctive
 pub mod Enlarging
 pub mod Propagating
 pub mod Blocks
+pub mod Resting

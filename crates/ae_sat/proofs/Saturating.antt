@@ -1,6 +1,7 @@
 -- What a theory notes while it saturates.
 use Rattle.std.proofs.Common.{◌≡◌, ℕ, zero, suc, ◌<◌, Bool, true, false, List, [], ◌∷◌, ◌++◌, length, get_or, refl, sym, ◌∙◌, ap, subst, arith, append_assoc, append-nil, true≢false, cond}
 use Rattle.std.specs.List.{Contains, AllByRecursion}
+use Rattle.ae_base.proofs.AllOf.{all_weaker}
 use Rattle.ae_rules.specs.Clauses.{Clause}
 use Rattle.ae_core.specs.declared.formulas.Lit.{Lit}
 use Rattle.ae_core.specs.declared.proofs.ClauseLine.{ClauseLine}
@@ -15,7 +16,7 @@ use Rattle.ae_theory.specs.Tagged.{Tagged}
 use Rattle.ae_theory.specs.Names.{is_atom}
 use Rattle.ae_theory.specs.Noting.{literals, is_theory_line, HasNoted, NotesLegal}
 use Rattle.ae_sat.specs.Marked.{atoms_from, IsRunning}
-use Rattle.ae_sat.specs.Search.{IsLawfulState, NotesLegally}
+use Rattle.ae_sat.specs.Search.{IsLawfulState, NotesLegally, is_own_line}
 use Rattle.ae_sat.proofs.Decisions.{before_more}
 use Rattle.ae_sat.proofs.Running.{all_lits}
 use Rattle.ae_sat.proofs.Legality.{line_keeps}
@@ -35,6 +36,21 @@ brings_nothing (line.Pair u l m) h b = b
 brings_nothing (line.Decide l) h b = b
 brings_nothing (line.Combine s f) h b = b
 brings_nothing (line.Back n) h b = b
+
+own_line : (j : Line) → is_theory_line j ≡ true → is_own_line j ≡ true
+own_line (line.Orient o) h = refl
+own_line (line.Drop o) h = refl
+own_line (line.Pair u l m) h = refl
+own_line (line.Decide l) h = refl
+own_line (line.Back n) h = refl
+own_line (line.Learn c) h = refl
+own_line (line.TypeInstance k ss) h = absurd (true≢false (sym h))
+own_line (line.TermInstance f ts) h = absurd (true≢false (sym h))
+own_line (line.Combine s f) h = absurd (true≢false (sym h))
+
+-- they are lines of its own
+pub theory_own : (js : List Line) → OfTheory js → AllByRecursion (λ j. is_own_line j ≡ true) js
+theory_own js all = all_weaker (λ (j : Line). is_theory_line j ≡ true) (λ (j : Line). is_own_line j ≡ true) own_line js all
 
 stays : (kept : List Line) (j : Line) → is_theory_line j ≡ true → after_line kept j ≡ kept ++ j ∷ []
 stays kept (line.Back n) h = absurd (true≢false (sym h))

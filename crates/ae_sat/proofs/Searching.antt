@@ -1,9 +1,10 @@
 -- Noted lines, step after step.
-use Rattle.std.proofs.Common.{◌≡◌, ℕ, ◌<◌, ◌-◌, List, [], ◌∷◌, ◌++◌, sym, ◌∙◌, ap, subst, arith, append_assoc, append-nil}
+use Rattle.std.proofs.Common.{true, ◌≡◌, ℕ, ◌<◌, ◌-◌, List, [], ◌∷◌, ◌++◌, sym, ◌∙◌, ap, subst, arith, append_assoc, append-nil}
+use Rattle.ae_base.proofs.AllOf.{all_append}
 use Rattle.ae_journal.specs.Noted.{Noted}
 use Rattle.ae_journal.specs.declared.lines.Line.{Line}
 use Rattle.ae_journal.specs.Journals.{counted_in}
-use Rattle.ae_sat.specs.Search.{NotesLegally, Keeps, Progresses}
+use Rattle.ae_sat.specs.Search.{NotesLegally, Keeps, Progresses, is_own_line}
 use Rattle.ae_journal.specs.Legal.{AreLegal}
 use Rattle.ae_journal.specs.Standing.{Setting, IsEntered}
 use Rattle.ae_journal.proofs.Growing.{entered_more}
@@ -35,10 +36,18 @@ named_still setting store a b added e n = record {
 }
 
 pub keeps_same : (a : Noted) → Keeps a a
-keeps_same a = record { limit = λ i. a.limit; more = omega arith }
+keeps_same a = record { limit = λ i. a.limit; more = omega arith; own = ([], sym (append-nil a.lines), tt) }
 
 pub keeps_more : (a b c : Noted) → Keeps a b → Keeps b c → Keeps a c
-keeps_more a b c x y = record { limit = y.limit ∙ x.limit; more = omega (arith, x.more, y.more) }
+keeps_more a b c x y = record {
+  limit = y.limit ∙ x.limit;
+  more = omega (arith, x.more, y.more);
+  own = (
+    (x.own).0 ++ (y.own).0,
+    (y.own).1 ∙ ap (λ (w : List Line). w ++ (y.own).0) (x.own).1 ∙ append_assoc a.lines (x.own).0 (y.own).0,
+    all_append (λ (j : Line). is_own_line j ≡ true) (x.own).0 (y.own).0 (x.own).2 (y.own).2,
+  );
+}
 
 pub lessens : (a b c : Noted) → Keeps a b → Progresses b c → c.limit - counted_in c.lines < a.limit - counted_in a.lines
 lessens a b c x y = omega (arith, x.limit, x.more, y.limit, y.more, y.within)

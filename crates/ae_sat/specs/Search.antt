@@ -1,5 +1,5 @@
 -- What each step of a search keeps, and how it ends.
-use Rattle.std.specs.Prelude.{◌≡◌, ℕ, Bool, ◌<◌, ◌≤◌, ◌==◌, count_by, List, [], ◌∷◌, ◌++◌, length, slice_get, slice_index_or, Some}
+use Rattle.std.specs.Prelude.{◌≡◌, ℕ, Bool, true, false, ◌<◌, ◌≤◌, ◌==◌, count_by, List, [], ◌∷◌, ◌++◌, length, slice_get, slice_index_or, Some}
 use Rattle.std.specs.List.{AllByRecursion, Contains}
 use Rattle.ae_base.specs.Options.{◌>>=◌}
 use Rattle.ae_rules.specs.Clauses.{Clause, literal}
@@ -7,6 +7,7 @@ use Rattle.ae_rules.specs.Derivations.{conclusion, AreAllowed}
 use Rattle.ae_core.specs.declared.formulas.Formula.{Formula}
 use Rattle.ae_core.specs.declared.formulas.Lit.{Lit}
 use Rattle.ae_core.specs.declared.problems.Problem.{Problem}
+use Rattle.ae_core.specs.declared.proofs.Block.{Block}
 use Rattle.ae_core.specs.declared.proofs.ClauseLine.{ClauseLine}
 use Rattle.ae_core.specs.declared.proofs.ClauseLine.TheVariants as clause_line
 use Rattle.ae_explain.specs.declared.trail.Assigned.{Assigned}
@@ -14,6 +15,7 @@ use Rattle.ae_explain.specs.Trail.{clause, AreFalse}
 use Rattle.ae_explain.specs.Levels.{level_of, greatest_of, literals_under}
 use Rattle.ae_explain.specs.declared.conflict.Learnt.{Learnt}
 use Rattle.ae_journal.specs.declared.lines.Line.{Line}
+use Rattle.ae_journal.specs.declared.lines.Line.TheVariants as line
 use Rattle.ae_journal.specs.Noted.{Noted}
 use Rattle.ae_journal.specs.Journals.{live, counted_in}
 use Rattle.ae_store.specs.Stores.{Stored}
@@ -66,6 +68,15 @@ pub record NotesLegally (setting : Setting) (bound : ℕ) (old new : List Line) 
 abbrev pub EndsEmpty : List ClauseLine → Type 0
 EndsEmpty lines = (before : List ClauseLine) × (hints : List ℕ) × (lines ≡ before ++ clause_line.Rup [] hints ∷ [])
 
+-- the block and what is learnt from it are the last of the lines, and what is learnt is over formulas that are there
+abbrev pub AddsLearnt : Block → List Clause → List ClauseLine → List ClauseLine → Type 0
+AddsLearnt b clauses old new = (c : Clause) × (hints : List ℕ) × (new ≡ old ++ clause_line.Block b ∷ clause_line.Rup c hints ∷ [])
+    × ((fs : List Formula) → HasParts fs → AllAmong fs clauses → (l : Lit) → Contains c l → Contains fs l.formula)
+
+-- the trail has grown behind its end alone
+abbrev pub Lengthens : List Assigned → List Assigned → Type 0
+Lengthens old new = (more : List Assigned) × (new ≡ old ++ more)
+
 -- each clause has a true literal, and so has each row that a true literal calls for
 pub record IsOpen (t : List Assigned) (clauses : List Clause) : Type 0 where
   pub clauses_true : (k : ℕ) → k < length clauses → HasTrue t (clause clauses k)
@@ -95,6 +106,19 @@ pub record Progresses (old new : Noted) : Type 0 where
   pub more : counted_in old.lines < counted_in new.lines
   pub within : counted_in new.lines ≤ new.limit
 
+-- a line of the solver or of its theory: no instance line, and no combination of rows
+abbrev pub is_own_line : Line → Bool
+is_own_line (line.TypeInstance k ss) = false
+is_own_line (line.TermInstance f ts) = false
+is_own_line (line.Combine strict f) = false
+is_own_line _ = true
+
+-- such lines alone came behind the old ones
+abbrev pub AddsOwnLines : List Line → List Line → Type 0
+AddsOwnLines old new = (added : List Line) × (new ≡ old ++ added) × AllByRecursion (λ j. is_own_line j ≡ true) added
+
+-- only such lines were noted, and the limit stays
 pub record Keeps (old new : Noted) : Type 0 where
   pub limit : new.limit ≡ old.limit
   pub more : counted_in old.lines ≤ counted_in new.lines
+  pub own : AddsOwnLines old.lines new.lines

@@ -8,7 +8,7 @@ ghost use Rattle.ae_journal.specs.Standing.{Setting};
 ghost use Rattle.ae_journal.specs.declared.answers.WideAt.{WideAt};
 ghost use Rattle.ae_rules.specs.Clauses.{Clause, opposite};
 ghost use Rattle.ae_rules.specs.Derivations.{AreAllowed, IsContradictory, clause_ok};
-ghost use Rattle.ae_sat.specs.Search.{AllAmong, EndsEmpty, HasParts, IsAlive, IsLawfulState, IsStated, Keeps, NotesLegally, Progresses};
+ghost use Rattle.ae_sat.specs.Search.{AddsLearnt, AllAmong, EndsEmpty, HasParts, IsAlive, IsLawfulState, IsStated, Keeps, NotesLegally, Progresses};
 ghost use Rattle.ae_sat.specs.Standing.{IsOneOf};
 ghost use Rattle.ae_theory.specs.Names.{IsNamedBy};
 ghost use Rattle.ae_theory.specs.declared.theory.Fail.TheVariants.{Steps as OutOfSteps, Number};
@@ -51,6 +51,8 @@ where
         // No clause goes, and no formula comes in but parts of those that are there.
         ensures kept { (c : Clause) → IsOneOf self.old.propagation.clauses c → OnOk result (IsOneOf self.new.propagation.clauses c) }
         ensures formulas { (fs : List Formula) → HasParts fs → AllAmong fs self.old.propagation.clauses → OnOk result (AllAmong fs self.new.propagation.clauses) }
+        // The block and what is learnt from it are the last of the lines, over formulas that are there.
+        ensures lines { OnOk result (AddsLearnt block self.old.propagation.clauses lines.old.items lines.new.items) }
         ensures journal { Keeps journal.old journal.new }
         ensures refuted { result ≡ Ok true → EndsEmpty lines.new.items }
         // Where the search goes on, a counted line was noted.

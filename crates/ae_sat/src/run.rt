@@ -18,10 +18,10 @@ ghost use Rattle.ae_sat.specs.declared.run.Found.TheVariants.{Nothing, Contradic
 ghost use Rattle.ae_sat.specs.declared.run.Found.TheVariants as finding;
 ghost use Rattle.ae_propagation.specs.Settled.{HasTrue, IsQuiet, last_level};
 ghost use Rattle.ae_sat.specs.Standing.{IsOneOf, HasRows};
-ghost use Rattle.ae_sat.specs.Search.{IsAlive, IsStated, IsLawfulState, NotesLegally, EndsEmpty, IsOpen, IsLearnt, HasParts, AllAmong, Progresses, Keeps};
+ghost use Rattle.ae_sat.specs.Search.{IsAlive, IsStated, IsLawfulState, NotesLegally, EndsEmpty, IsOpen, IsLearnt, HasParts, AllAmong, Progresses, Keeps, AddsLearnt, Lengthens};
 ghost use Rattle.ae_sat.specs.Apart.{IsFresh};
 ghost use Rattle.ae_sat.specs.Inner.Steps.{Enlarges, IsIdle};
-ghost use Rattle.ae_sat.specs.Lines.{AddsLinesOver};
+ghost use Rattle.ae_sat.specs.Lines.{AddsEquationsOver};
 ghost use Rattle.ae_journal.specs.Standing.{Setting};
 ghost use Rattle.ae_theory.specs.Names.{IsNamedBy, terms_in};
 ghost use Rattle.std.specs.List.{AllByRecursion};
@@ -129,6 +129,8 @@ where
         ensures enlarges { OnOk result (Enlarges store.now self.old.propagation.clauses lines.old.items self.new.propagation.clauses lines.new.items) }
         ensures journal { Keeps journal.old journal.new }
         ensures level { OnOk result (last_level self.new.propagation.trail ≡ last_level self.old.propagation.trail) }
+        // The trail has grown behind its end alone.
+        ensures front { OnOk result (Lengthens self.old.propagation.trail self.new.propagation.trail) }
         ensures quiet { result ≡ Ok Nothing → IsQuiet self.new.propagation.trail self.new.propagation.clauses }
         ensures told { result ≡ Ok Nothing → self.new.handed ≡ length self.new.propagation.trail }
         ensures expanded { result ≡ Ok Nothing → self.new.expanded ≡ length self.new.propagation.trail }
@@ -222,6 +224,8 @@ where
         ensures formulas { (fs : List Formula) → HasParts fs → AllAmong fs self.old.propagation.clauses → OnOk result (AllAmong fs self.new.propagation.clauses) }
         ensures enlarges { AllByRecursion (IsBuiltEquation store.now.signature (terms_in store.now)) block.deriv.lines →
             OnOk result (Enlarges store.now self.old.propagation.clauses lines.old.items self.new.propagation.clauses lines.new.items) }
+        // The block and what is learnt from it are the last of the lines, over formulas that are there.
+        ensures lines { OnOk result (AddsLearnt block self.old.propagation.clauses lines.old.items lines.new.items) }
         ensures journal { Keeps journal.old journal.new }
         // Where no decision stands, nothing is noted.
         ensures base { last_level self.old.propagation.trail ≡ 0 → IsIdle journal.old journal.new result }
@@ -268,6 +272,7 @@ where
         ensures steps { result ≡ Err OutOfSteps → counted_in journal.new.lines ≡ journal.new.limit }
         ensures never_wide { (wide : WideAt) → ¬ (result ≡ Err (Number wide)) }
         ensures enlarges { OnOk result (Enlarges store.now self.old.propagation.clauses lines.old.items self.new.propagation.clauses lines.new.items) }
+        ensures lines { lines.new.items ≡ lines.old.items }
         ensures journal { Keeps journal.old journal.new }
         // Where no decision stands, nothing is noted.
         ensures base { last_level self.old.propagation.trail ≡ 0 → IsIdle journal.old journal.new result }
@@ -363,9 +368,11 @@ where
         ensures kept { (c : Clause) → IsOneOf self.old.propagation.clauses c → OnOk result (IsOneOf self.new.propagation.clauses c) }
         // No formula comes in but parts of those that are there.
         ensures formulas { (fs : List Formula) → HasParts fs → AllAmong fs self.old.propagation.clauses → OnOk result (AllAmong fs self.new.propagation.clauses) }
-        // The lines that come in are rows, blocks and clauses of such formulas.
-        ensures lines { (fs : List Formula) → HasParts fs → AllAmong fs self.old.propagation.clauses → OnOk result (AddsLinesOver store.now fs lines.old.items lines.new.items) }
+        // The lines that come in are rows, blocks and clauses of such formulas; those of blocks are equations.
+        ensures lines { (fs : List Formula) → HasParts fs → AllAmong fs self.old.propagation.clauses → OnOk result (AddsEquationsOver store.now fs lines.old.items lines.new.items) }
         ensures journal { Keeps journal.old journal.new }
+        // Where no counted line was noted, the trail has grown behind its end alone.
+        ensures still { result ≡ Ok Open → counted_in journal.new.lines ≡ counted_in journal.old.lines → Lengthens self.old.propagation.trail self.new.propagation.trail }
         // The empty clause is the last of the lines.
         ensures refuted { result ≡ Ok Refuted → EndsEmpty lines.new.items }
         // Each clause, and each row that a true literal calls for, has a true literal.

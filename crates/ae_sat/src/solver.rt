@@ -27,7 +27,7 @@ use crate::marking::{go_to_mark, take_mark};
 use crate::propagator::Propagator;
 use ae_core::copies::copy_lit;
 use ae_core::formulas::{Clause, Lit};
-use ae_core::lists::List;
+use ae_core::lists::{Boxed, List};
 use ae_explain::{Assigned, Trail};
 use ae_journal::journal::{Journal, JournalFail};
 use ae_journal::lines::Line;
@@ -89,7 +89,7 @@ where
     T::Mark: Drop,
 {
     /// Assumes a literal without a value, as a decision.
-    pub(crate) fn decide(&mut self, journal: &mut Journal, lit: Lit) -> Result<(), Fail>
+    pub(crate) fn decide(&mut self, journal: &mut Journal, lit: Boxed<Lit>) -> Result<(), Fail>
         requires running { IsRunning T.assumed T.fits_mark T.in_step self.old.theory self.old.marks.items self.old.propagation.trail self.old.propagation.clauses self.old.handed (live journal.old.lines) }
         requires no_value { place_in self.old.propagation.trail lit.formula ≡ None }
         requires told { self.old.handed ≡ length self.old.propagation.trail }
@@ -108,14 +108,14 @@ where
         ensures clauses { self.new.propagation.clauses ≡ self.old.propagation.clauses }
     {
         let mark = take_mark(&self.theory);
-        let copy = copy_lit(self.alloc, &lit)?;
+        let copy = copy_lit(self.alloc, lit.get())?;
         note(journal, Line::Decide(copy))?;
         if let Err(failed) = self.marks.push(mark) {
             return Err(Fail::Memory(AllocError::from(failed)));
         }
         let level = self.marks.len();
         self.propagation.assign(Assigned {
-            lit,
+            lit: lit.into_inner(),
             level,
             by: None,
         })?;

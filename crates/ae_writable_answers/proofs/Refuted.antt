@@ -13,6 +13,7 @@ use Rattle.ae_rules.specs.Clauses.{Clause}
 use Rattle.ae_legal_texts.specs.Numbers.{count, formula_numbers, line_numbers}
 use Rattle.ae_legal_texts.specs.Writable.{no_negations_in}
 use Rattle.ae_store.specs.Stores.{Stored}
+use Rattle.ae_sat.proofs.Enlarging.{over_lines}
 use Rattle.ae_sat.specs.Lines.{IsLineOver}
 use Rattle.ae_first_clauses.specs.First.{IsFirstLine, a_hypothesis, the_goal, the_block, States}
 use Rattle.ae_goal_search.specs.Ended.{IsRefutation}
@@ -53,7 +54,7 @@ module _ (p : Problem) (g : ℕ) (low : HasLowestNumerals p) where
     lines_fine : (lines : List ClauseLine) → IsRefutation s begin clauses lines → AllByRecursion IsFineLine lines
     lines_fine lines r =
         let w = closed p g low begin clauses s start in
-        let a = r.over w.formulas w.parts w.among in
+        let a = over_lines s w.formulas begin lines (r.over w.formulas w.parts w.among) in
         subst (AllByRecursion IsFineLine) (sym a.1)
         (all_append IsFineLine begin a.0 begin_fine
         (all_weaker (IsLineOver s w.formulas) IsFineLine (over_fine s (name_lowest p g low begin clauses s start) w.formulas w.fine) a.0 a.2))

@@ -1,5 +1,5 @@
 -- What the steps of a search keep.
-use Rattle.std.specs.Prelude.{◌≡◌, ◌⊎◌, ℕ, Bool, true, false, List, Some, Ok, Err}
+use Rattle.std.specs.Prelude.{◌≡◌, ◌⊎◌, ℕ, Bool, false, List, Some, Ok, Err}
 use Rattle.std.specs.List.{Contains}
 use Rattle.std.specs.declared.result.Result.{Result}
 use Rattle.ae_rules.specs.Clauses.{Clause, row}
@@ -17,15 +17,15 @@ use Rattle.ae_store.specs.Stores.{Stored}
 use Rattle.ae_theory.specs.Tagged.{Tagged}
 use Rattle.ae_theory.specs.declared.theory.Fail.{Fail}
 use Rattle.ae_theory.specs.declared.theory.Fail.TheVariants.{Steps as OutOfSteps}
-use Rattle.ae_sat.specs.Lines.{AddsLinesOver}
-use Rattle.ae_sat.specs.Search.{AllAmong, HasParts, IsAlive, IsLawfulState, IsStated}
+use Rattle.ae_sat.specs.Lines.{AddsEquationsOver}
+use Rattle.ae_sat.specs.Search.{AllAmong, HasParts, IsAlive, IsLawfulState, IsStated, Lengthens}
 use Rattle.ae_sat.specs.Standing.{IsOneOf}
 
 -- no clause goes, no formula comes in but parts of those that are there, and the new lines are over these
 pub record Enlarges (s : Stored) (clauses : List Clause) (lines : List ClauseLine) (clauses2 : List Clause) (lines2 : List ClauseLine) : Type 0 where
   pub kept : (c : Clause) → IsOneOf clauses c → IsOneOf clauses2 c
   pub formulas : (fs : List Formula) → HasParts fs → AllAmong fs clauses → AllAmong fs clauses2
-  pub written : (fs : List Formula) → HasParts fs → AllAmong fs clauses → AddsLinesOver s fs lines lines2
+  pub written : (fs : List Formula) → HasParts fs → AllAmong fs clauses → AddsEquationsOver s fs lines lines2
 
 -- a row that the truth of a literal of the trail calls for
 abbrev pub IsCalled : List Assigned → Clause → Type 0
@@ -35,6 +35,7 @@ IsCalled t c = (l : Lit) × (r : ℕ) × Holds t l × Contains (called_rows l.po
 pub record Brings (t : List Assigned) (clauses : List Clause) (t2 : List Assigned) (clauses2 : List Clause) : Type 0 where
   pub holds : (l : Lit) → Holds t l → Holds t2 l
   pub level : last_level t2 ≡ last_level t
+  pub front : Lengthens t t2
   pub from : (c : Clause) → IsOneOf clauses2 c → IsOneOf clauses c ⊎ IsCalled t2 c
 
 -- nothing was noted, no line was asked for, and the search doesn't go on

@@ -1,4 +1,4 @@
-use Rattle.std.proofs.Common.{Option, subst}
+use Rattle.std.proofs.Common.{subst}
 use Rattle.ae_sat.specs.Inner.Kept.{IsKept}
 use Rattle.ae_sat.proofs.propagator.settle_behind.Goals as goal
 

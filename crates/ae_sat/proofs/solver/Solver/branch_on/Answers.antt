@@ -12,6 +12,7 @@ use Rattle.ae_sat.proofs.Enlarging.{enlarges_same, enlarges_to}
 use Rattle.ae_sat.proofs.Legality.{may_decide, decision_keeps, rows_more}
 use Rattle.ae_sat.specs.Standing.{HasRows}
 use Rattle.ae_sat.proofs.Branching.{progresses, keeps_one, keeps_either, notes_one, notes_either}
+use Rattle.ae_sat.proofs.Searching.{keeps_same}
 use Rattle.ae_sat.proofs.solver.Solver.branch_on.Goals as goal
 
 pub choose-requires-clause-untrue : goal.choose-requires-clause-untrue
@@ -107,3 +108,6 @@ returns-clause-enlarges g c =
     let u = c.args.self.now.propagation.clauses in
     let ks = c.args.lines.now.items in
     enlarges_to c.args.store.now u u c.decide.new.self.propagation.clauses ks ks ks (enlarges_same c.args.store.now u ks) c.in_ok-decide.ensures.clauses refl
+
+pub returns-in_err-lit-clause-journal : goal.returns-in_err-lit-clause-journal
+returns-in_err-lit-clause-journal g c = keeps_same c.args.journal.now

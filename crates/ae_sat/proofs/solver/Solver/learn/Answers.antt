@@ -1,5 +1,4 @@
 use Rattle.std.proofs.Common.{ℕ, List, [], ◌∷◌, ◌++◌, sym, subst, refl}
-use Rattle.ae_rules.specs.Clauses.{Clause}
 use Rattle.ae_core.specs.declared.proofs.ClauseLine.TheVariants.{Rup}
 use Rattle.ae_explain.specs.Trail.{clause}
 use Rattle.ae_explain.specs.Levels.{greatest_of}
@@ -8,6 +7,7 @@ use Rattle.ae_sat.proofs.Enlarging.{enlarges_more, enlarges_to, rup_enlarges}
 use Rattle.ae_sat.proofs.Idling.{idle_memory}
 use Rattle.ae_sat.proofs.Propagating.{line_state}
 use Rattle.ae_sat.proofs.Results.{on_ok_more}
+use Rattle.ae_sat.proofs.Searching.{keeps_same}
 use Rattle.ae_sat.proofs.solver.Solver.learn.Goals as goal
 
 pub take_in-requires-clause-learnt : goal.take_in-requires-clause-learnt
@@ -77,3 +77,6 @@ returns-in_err-learnt-clause-base g c z = idle_memory c.args.journal.now c.from_
 
 pub returns-clause-base : goal.returns-clause-base
 returns-clause-base g c z = c.take_in.ensures.base z
+
+pub returns-in_err-learnt-clause-journal : goal.returns-in_err-learnt-clause-journal
+returns-in_err-learnt-clause-journal g c = keeps_same c.args.journal.now

@@ -1,5 +1,6 @@
-use Rattle.std.proofs.Common.{◌≡◌, ◌∙◌, ℕ, ◌++◌, ◌∷◌, [], List, length, map, sym, ap, subst, true, refl}
+use Rattle.std.proofs.Common.{◌≡◌, ◌∙◌, ℕ, ◌++◌, ◌∷◌, [], List, length, map, sym, ap, subst, true, refl, append_assoc}
 use Rattle.std.proofs.Math.Seq.{get_or-append_seam}
+use Rattle.ae_base.proofs.Results.{on_ok_always}
 use Rattle.ae_rules.specs.Clauses.{Clause, opposite}
 use Rattle.ae_rules.specs.Derivations.{IsContradictory, clause_ok, AreAllowed}
 use Rattle.ae_core.specs.declared.proofs.ClauseLine.{ClauseLine}
@@ -8,14 +9,17 @@ use Rattle.ae_explain.specs.declared.trail.Assigned.{Assigned}
 use Rattle.ae_explain.specs.Trail.{clause, AreFalse, IsLawful}
 use Rattle.ae_explain.specs.Levels.{greatest_of}
 use Rattle.ae_propagation.specs.Settled.{last_level}
-use Rattle.ae_sat.specs.Search.{AllAmong, IsStated, IsLearnt, IsLawfulState}
+use Rattle.ae_sat.specs.Search.{AddsLearnt, AllAmong, IsStated, IsLearnt, IsLawfulState}
 use Rattle.ae_sat.specs.Standing.{IsOneOf}
+use Rattle.ae_sat.proofs.Closure.{false_among}
 use Rattle.ae_sat.proofs.Enlarging.{enlarges_more, enlarges_to, block_enlarges, rup_enlarges}
 use Rattle.ae_sat.proofs.Idling.{idle_memory}
+use Rattle.ae_sat.proofs.Learnt.{new_one}
 use Rattle.ae_sat.proofs.Results.{on_ok_more}
 use Rattle.ae_sat.proofs.Attaching.{lawful_clause}
 use Rattle.ae_sat.proofs.Propagating.{line_state}
 use Rattle.ae_sat.proofs.Blocks.{block_stated, first_stated, state_same}
+use Rattle.ae_sat.proofs.Searching.{keeps_same}
 use Rattle.ae_sat.proofs.solver.Solver.learn_block.Goals as goal
 
 pub derive-derived-requires-clause-lawful : goal.derive-derived-requires-clause-lawful
@@ -209,3 +213,33 @@ returns-in_err-attach-clause-base g c z = idle_memory c.args.journal.now c.from_
 
 pub returns-in_err-learnt-clause-base : goal.returns-in_err-learnt-clause-base
 returns-in_err-learnt-clause-base g c z = idle_memory c.args.journal.now c.from_residual-in_err-learnt.result c.in_err-learnt.field-0.0 c.from_residual-in_err-learnt.ensures.1
+
+pub returns-in_err-clause-clause-journal : goal.returns-in_err-clause-clause-journal
+returns-in_err-clause-clause-journal g c = keeps_same c.args.journal.now
+
+pub returns-in_err-push_line-clause-journal : goal.returns-in_err-push_line-clause-journal
+returns-in_err-push_line-clause-journal g c = keeps_same c.args.journal.now
+
+pub returns-in_err-attach-clause-journal : goal.returns-in_err-attach-clause-journal
+returns-in_err-attach-clause-journal g c = keeps_same c.args.journal.now
+
+pub returns-in_err-learnt-clause-journal : goal.returns-in_err-learnt-clause-journal
+returns-in_err-learnt-clause-journal g c = keeps_same c.args.journal.now
+
+pub returns-clause-lines : goal.returns-clause-lines
+returns-clause-lines g c =
+    let run = c.requires.alive.running in
+    let u = c.args.self.now.propagation.clauses in
+    let t = c.args.self.now.propagation.trail in
+    let ks = c.args.lines.now.items in
+    let b = c.args.block in
+    let e = c.in_ok-learnt.ensures in
+    let r = c.in_ok-learnt.learnt in
+    let false_ones : AreFalse t r.clause = subst (λ (w : List Assigned). AreFalse w r.clause) c.in_ok-attach.ensures.trail e.false_ones in
+    let own : AddsLearnt b u ks c.take_in.new.lines.items = (
+      r.clause,
+      e.line.0,
+      c.take_in.ensures.lines ∙ e.line.1 ∙ ap (λ (ls : List ClauseLine). ls ++ Rup r.clause e.line.0 ∷ []) c.in_ok-push_line.ensures.ok ∙ append_assoc ks (Block b ∷ []) (Rup r.clause e.line.0 ∷ []),
+      λ fs p a m k. false_among t u run.lawful run.stands r.clause false_ones fs a r.clause m (new_one u r.clause) k,
+    ) in
+    on_ok_always c.take_in.result own

@@ -1,4 +1,4 @@
-use Rattle.std.proofs.Common.{rules, ◌≡◌, ◌∙◌, ℕ, ◌<◌, List, length, map, take, sym, ap, subst, true, refl, arith}
+use Rattle.std.proofs.Common.{rules, ◌≡◌, ◌∙◌, ℕ, ◌<◌, List, length, map, take, sym, ap, subst, true, refl, arith, Ok}
 use Rattle.std.proofs.Math.Seq.{take-length}
 use Rattle.std.specs.List.{AllByRecursion}
 use Rattle.ae_rules.specs.Built.{IsBuiltEquation}
@@ -10,10 +10,11 @@ use Rattle.ae_explain.specs.declared.trail.Assigned.{Assigned}
 use Rattle.ae_explain.specs.Trail.{AreFalse, clause}
 use Rattle.ae_sat.specs.Marked.{atoms}
 use Rattle.ae_propagation.specs.Settled.{HasTrue, IsQuiet, last_level}
+use Rattle.ae_sat.specs.Standing.{HasRows}
 use Rattle.ae_sat.proofs.Conjunctive.{all_hold}
 use Rattle.ae_sat.proofs.Enlarging.{enlarges_to}
 use Rattle.ae_sat.proofs.Failing.{passed_on}
-use Rattle.ae_sat.proofs.Searching.{notes_none}
+use Rattle.ae_sat.proofs.Searching.{keeps_same, notes_none}
 use Rattle.ae_sat.proofs.Blocks.{state_same, block_false}
 use Rattle.ae_sat.proofs.solver.Solver.propagate.Goals as goal
 
@@ -200,3 +201,33 @@ pub returns-in_err-saturate-clause-budget_left : goal.returns-in_err-saturate-cl
 returns-in_err-saturate-clause-budget_left g c e n h =
     c.saturate.ensures.budget_left (passed_on c.from_residual-in_err-saturate.result c.in_err-saturate.field-0.0 c.in_err-saturate.was c.from_residual-in_err-saturate.ensures.1 e) n
     (c.in_ok-tell_all.ensures.budget n (subst (λ (x : _). g.T.Theory.may_note x c.args.store.now n) (sym c.in_ok-k.ensures.continues.same_theory) h))
+
+pub returns-in_err-k-clause-journal : goal.returns-in_err-k-clause-journal
+returns-in_err-k-clause-journal g c = keeps_same c.args.journal.now
+
+pub returns-in-Falsified-clause-journal : goal.returns-in-Falsified-clause-journal
+returns-in-Falsified-clause-journal g c = keeps_same c.args.journal.now
+
+pub returns-in_err-tell_all-clause-journal : goal.returns-in_err-tell_all-clause-journal
+returns-in_err-tell_all-clause-journal g c = keeps_same c.args.journal.now
+
+pub returns-in-Falsified-clause-front : goal.returns-in-Falsified-clause-front
+returns-in-Falsified-clause-front g c = c.in_ok-k.ensures.continues.brings.front
+
+pub returns-in-Complete-clause-front : goal.returns-in-Complete-clause-front
+returns-in-Complete-clause-front g c =
+    let f = c.in_ok-k.ensures.continues.brings.front in
+    (f.0, c.in_ok-saturate.ensures.trail ∙ c.in_ok-tell_all.ensures.trail ∙ f.1)
+
+pub returns-in_ok-block-in-Conflict-clause-front : goal.returns-in_ok-block-in-Conflict-clause-front
+returns-in_ok-block-in-Conflict-clause-front g c =
+    let f = c.in_ok-k.ensures.continues.brings.front in
+    (f.0, c.in_ok-saturate.ensures.trail ∙ c.in_ok-tell_all.ensures.trail ∙ f.1)
+
+pub returns-in-Complete-clause-rows : goal.returns-in-Complete-clause-rows
+returns-in-Complete-clause-rows g c e =
+    let b = c.settle_rows.new.self in
+    let a = c.saturate.new.self in
+    let all : b.expanded ≡ length b.propagation.trail = c.settle_rows.ensures.expanded (c.in_ok-k.was ∙ ap Ok c.in-Quiet.is) in
+    let is : a.expanded ≡ length a.propagation.trail = c.in_ok-saturate.ensures.expanded ∙ c.in_ok-tell_all.ensures.expanded ∙ all ∙ ap length (sym (c.in_ok-saturate.ensures.trail ∙ c.in_ok-tell_all.ensures.trail)) in
+    subst (λ (n : ℕ). HasRows a.propagation.trail n a.propagation.clauses) is c.in_ok-saturate.ensures.alive.has_rows

@@ -1,10 +1,11 @@
-use Rattle.std.proofs.Common.{rules, refl, ◌∙◌, Ok, ap, arith}
+use Rattle.std.proofs.Common.{rules, refl, ◌∙◌, Ok, ap, arith, inl, inr}
 use Rattle.ae_journal.specs.Noted.{Noted}
 use Rattle.ae_journal.specs.Journals.{counted_in}
 use Rattle.ae_propagation.specs.Settled.{last_level}
 use Rattle.ae_sat.proofs.Enlarging.{enlarges_same, enlarges_more}
 use Rattle.ae_sat.proofs.Failing.{passed_on}
 use Rattle.ae_sat.proofs.Searching.{notes_none, notes_more, keeps_same, keeps_more, named_still}
+use Rattle.ae_sat.proofs.Resting.{still_front, went_on}
 use Rattle.ae_sat.proofs.solver.Solver.run.Goals as goal
 
 pub returns-in_err-k-clause-legal : goal.returns-in_err-k-clause-legal
@@ -61,6 +62,7 @@ loop-k-preserved-else-branch g c = record {
             (notes_more setting bound c.args.journal.now.lines c.loop-k.journal.lines c.propagate.new.journal.lines inv.0 pr.0) le.0,
         le.1,
       );
+  still = inr (went_on c.args.journal.now c.loop-k.journal c.propagate.new.journal c.learn.new.journal c.loop-k.invariant.journal c.in_ok-k.ensures.journal (c.learn.ensures.learnt (c.in_ok-learn-in-Clause.was ∙ ap Ok c.if-branch.false)));
   journal = keeps_more c.args.journal.now c.propagate.new.journal c.learn.new.journal
       (keeps_more c.args.journal.now c.loop-k.journal c.propagate.new.journal c.loop-k.invariant.journal c.in_ok-k.ensures.journal) c.in_ok-learn-in-Clause.ensures.journal;
 }
@@ -93,6 +95,7 @@ loop-k-preserved g c = record {
             (notes_more setting bound c.args.journal.now.lines c.loop-k.journal.lines c.propagate.new.journal.lines inv.0 pr.0) le.0,
         le.1,
       );
+  still = inr (went_on c.args.journal.now c.loop-k.journal c.propagate.new.journal c.branch_on.new.journal c.loop-k.invariant.journal c.in_ok-k.ensures.journal c.in_ok-branch_on-in-Some.ensures.decided);
   journal = keeps_more c.args.journal.now c.propagate.new.journal c.branch_on.new.journal
       (keeps_more c.args.journal.now c.loop-k.journal c.propagate.new.journal c.loop-k.invariant.journal c.in_ok-k.ensures.journal) c.in_ok-branch_on-in-Some.ensures.journal;
 }
@@ -160,6 +163,7 @@ loop-k-preserved-else-branch-2 g c = record {
             (notes_more setting bound c.args.journal.now.lines c.loop-k.journal.lines c.propagate.new.journal.lines inv.0 pr.0) le.0,
         le.1,
       );
+  still = inr (went_on c.args.journal.now c.loop-k.journal c.propagate.new.journal c.learn_block.new.journal c.loop-k.invariant.journal c.in_ok-k.ensures.journal (c.learn_block.ensures.learnt (c.in_ok-learn_block-in-Contradiction.was ∙ ap Ok c.if-branch-2.false)));
   journal = keeps_more c.args.journal.now c.propagate.new.journal c.learn_block.new.journal
       (keeps_more c.args.journal.now c.loop-k.journal c.propagate.new.journal c.loop-k.invariant.journal c.in_ok-k.ensures.journal) c.in_ok-learn_block-in-Contradiction.ensures.journal;
 }
@@ -217,6 +221,7 @@ loop-k-init g c = record {
   enlarges = enlarges_same c.args.store.now c.args.self.now.propagation.clauses c.args.lines.now.items;
   fresh = λ f. f;
   budget = λ f n h. (h, refl);
+  still = inl refl;
   journal = keeps_same c.args.journal.now;
 }
 
@@ -325,3 +330,30 @@ returns-in_err-branch_on-in-Some-clause-budget_left g c e n f h =
 
 pub returns-in-None-clause-open_clauses : goal.returns-in-None-clause-open_clauses
 returns-in-None-clause-open_clauses g c e = record { clauses_true = c.in-None.ensures; rows = c.propagate.ensures.rows (c.in_ok-k.was ∙ ap Ok c.in-Nothing.is) }
+
+pub returns-in_err-k-clause-journal : goal.returns-in_err-k-clause-journal
+returns-in_err-k-clause-journal g c = keeps_more c.args.journal.now c.loop-k.journal c.propagate.new.journal c.loop-k.invariant.journal c.propagate.ensures.journal
+
+pub returns-in-None-clause-journal : goal.returns-in-None-clause-journal
+returns-in-None-clause-journal g c = keeps_more c.args.journal.now c.loop-k.journal c.propagate.new.journal c.loop-k.invariant.journal c.propagate.ensures.journal
+
+pub returns-in_err-learn-in-Clause-clause-journal : goal.returns-in_err-learn-in-Clause-clause-journal
+returns-in_err-learn-in-Clause-clause-journal g c = keeps_more c.args.journal.now c.propagate.new.journal c.learn.new.journal (keeps_more c.args.journal.now c.loop-k.journal c.propagate.new.journal c.loop-k.invariant.journal c.propagate.ensures.journal) c.learn.ensures.journal
+
+pub returns-then-branch-clause-journal : goal.returns-then-branch-clause-journal
+returns-then-branch-clause-journal g c = keeps_more c.args.journal.now c.propagate.new.journal c.learn.new.journal (keeps_more c.args.journal.now c.loop-k.journal c.propagate.new.journal c.loop-k.invariant.journal c.propagate.ensures.journal) c.learn.ensures.journal
+
+pub returns-in_err-learn_block-in-Contradiction-clause-journal : goal.returns-in_err-learn_block-in-Contradiction-clause-journal
+returns-in_err-learn_block-in-Contradiction-clause-journal g c = keeps_more c.args.journal.now c.propagate.new.journal c.learn_block.new.journal (keeps_more c.args.journal.now c.loop-k.journal c.propagate.new.journal c.loop-k.invariant.journal c.propagate.ensures.journal) c.learn_block.ensures.journal
+
+pub returns-then-branch-2-clause-journal : goal.returns-then-branch-2-clause-journal
+returns-then-branch-2-clause-journal g c = keeps_more c.args.journal.now c.propagate.new.journal c.learn_block.new.journal (keeps_more c.args.journal.now c.loop-k.journal c.propagate.new.journal c.loop-k.invariant.journal c.propagate.ensures.journal) c.learn_block.ensures.journal
+
+pub returns-in_err-branch_on-in-Some-clause-journal : goal.returns-in_err-branch_on-in-Some-clause-journal
+returns-in_err-branch_on-in-Some-clause-journal g c = keeps_more c.args.journal.now c.propagate.new.journal c.branch_on.new.journal (keeps_more c.args.journal.now c.loop-k.journal c.propagate.new.journal c.loop-k.invariant.journal c.propagate.ensures.journal) c.branch_on.ensures.journal
+
+-- ---- where no counted line was noted
+pub returns-in-None-clause-still : goal.returns-in-None-clause-still
+returns-in-None-clause-still g c e same =
+    let front = c.in_ok-k.ensures.front in
+    still_front c.args.self.now.propagation.trail c.loop-k.self.propagation.trail c.propagate.new.self.propagation.trail c.args.journal.now c.loop-k.journal c.propagate.new.journal c.loop-k.invariant.still c.propagate.ensures.journal same front

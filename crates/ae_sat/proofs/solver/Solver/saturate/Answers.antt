@@ -8,7 +8,7 @@ use Rattle.ae_journal.specs.Journals.{counted_in}
 use Rattle.ae_journal.proofs.Counting.{counted-append}
 use Rattle.ae_sat.proofs.Results.{on_ok_more}
 use Rattle.ae_sat.proofs.Learning.{trail_may_stand}
-use Rattle.ae_sat.proofs.Saturating.{theory_notes, theory_leaves, atoms_stand, theory_runs}
+use Rattle.ae_sat.proofs.Saturating.{theory_notes, theory_leaves, theory_own, atoms_stand, theory_runs}
 use Rattle.ae_sat.proofs.solver.Solver.saturate.Goals as goal
 use Rattle.ae_journal.specs.Standing.{MayStand}
 
@@ -40,7 +40,11 @@ returns-clause-alive g c =
 pub returns-clause-journal : goal.returns-clause-journal
 returns-clause-journal g c =
     let h = c.saturate.ensures.noted in
-    record { limit = h.limit; more = omega (arith, ap counted_in h.is, counted-append c.args.journal.now.lines h.added) }
+    record {
+      limit = h.limit;
+      more = omega (arith, ap counted_in h.is, counted-append c.args.journal.now.lines h.added);
+      own = (h.added, h.is, theory_own h.added h.theory);
+    }
 
 pub returns-clause-number : goal.returns-clause-number
 returns-clause-number g c wide e setting lines named state =

@@ -4,13 +4,14 @@ use Rattle.ae_core.specs.declared.proofs.ClauseLine.TheVariants.{Rup}
 use Rattle.ae_journal.specs.Noted.{Noted}
 use Rattle.ae_journal.specs.declared.lines.Line.TheVariants as line
 use Rattle.ae_explain.specs.Fronts.{IsFront}
-use Rattle.ae_sat.specs.Search.{IsStated, AllNamed}
+use Rattle.ae_sat.specs.Search.{IsStated, AllNamed, Keeps}
 use Rattle.ae_sat.proofs.Enlarging.{enlarges_same, enlarges_to, false_enlarges}
 use Rattle.ae_sat.proofs.Idling.{idle_true}
 use Rattle.ae_sat.proofs.LearnSteps.{HasTop, has_top, keeps_learn, progresses_learn, stated_more, learn_notes, learn_leaves, lines_either}
 use Rattle.ae_sat.specs.Standing.{HasRows}
 use Rattle.ae_sat.proofs.Propagating.{rows_clause, rows_front, prefix_state}
 use Rattle.ae_sat.proofs.Attaching.{learn_runs, attach_runs, named_more}
+use Rattle.ae_sat.proofs.Searching.{keeps_same}
 use Rattle.ae_sat.proofs.solver.Solver.take_in.Goals as goal
 
 pub go_back-requires-clause-running : goal.go_back-requires-clause-running
@@ -228,3 +229,12 @@ returns-clause-base g c z =
     let some : r.clause ≢ [] = λ e. true≢false (sym (c.if-is_empty.ensures.1 e)) in
     let l = c.requires.learnt.1 in
     absurd (omega (arith, z, (has_top s.propagation.trail s.propagation.clauses r.clause c.requires.learnt.0 r.level c.requires.alive.running.lawful l.false_ones l.empty l.one l.highest some l.level).below))
+
+pub returns-then-is_empty-clause-journal : goal.returns-then-is_empty-clause-journal
+returns-then-is_empty-clause-journal g c = keeps_same c.args.journal.now
+
+pub returns-in_err-noted-clause-journal : goal.returns-in_err-noted-clause-journal
+returns-in_err-noted-clause-journal g c = keeps_same c.args.journal.now
+
+pub returns-in_err-note-clause-journal : goal.returns-in_err-note-clause-journal
+returns-in_err-note-clause-journal g c = subst (Keeps c.args.journal.now) (sym c.in_err-note.ensures.err) (keeps_same c.args.journal.now)
