@@ -6,3 +6,4 @@ pub mod Fine
 pub mod Between
 pub mod Finished
 pub mod Owed
+pub mod Passing

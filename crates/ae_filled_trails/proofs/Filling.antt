@@ -80,21 +80,21 @@ module _ (p : Problem) (g bound : ℕ) (o : Search) (between : IsBetweenRounds p
   complete = is_open.complete.0
 
   -- ---- each literal is one of a clause
-  in_some : (j : ℕ) → j < length t → (k : ℕ) × (k < length cs) × Contains (clause cs k) (at t j).lit
+  pub in_some : (j : ℕ) → j < length t → (k : ℕ) × (k < length cs) × Contains (clause cs k) (at t j).lit
   in_some = in_clause t cs running.lawful running.stands
 
-  names_of : (l : Lit) → Holds t l → AreNamed o.store l.formula
+  pub names_of : (l : Lit) → Holds t l → AreNamed o.store l.formula
   names_of l h =
       let w = in_some h.0 h.1 in
       subst (λ (m : Lit). AreNamed o.store m.formula) h.2 (searching.alive.named (clause cs w.0) (at t h.0).lit (w.0, w.1, refl) w.2)
 
-  formula_sorted : (j : ℕ) → j < length t → formula_ok p.signature (at t j).lit.formula ≡ true
+  pub formula_sorted : (j : ℕ) → j < length t → formula_ok p.signature (at t j).lit.formula ≡ true
   formula_sorted j l =
       let w = in_some j l in
       sorted_one (λ (m : Lit). formula_ok p.signature m.formula) (clause cs w.0) (at t j).lit (clause_sorted p g o.lines.items cs o.solver.places searching.stated w.0 w.1) w.2
 
   -- ---- no term differs from itself
-  assumed : assumed_in o.solver.theory ≡ atoms t
+  pub assumed : assumed_in o.solver.theory ≡ atoms t
   assumed = running.told_all ∙ ap (λ (n : ℕ). atoms (take n t)) is_open.told ∙ ap atoms (take-length t)
 
   assumed_sorted : AreWellSorted o.solver.theory
@@ -108,7 +108,7 @@ module _ (p : Problem) (g bound : ℕ) (o : Search) (between : IsBetweenRounds p
       let w = value_there system.values h.0 (omega (arith, slice_get_within system.names h.0 u is, complete.completed.values)) in
       (meaning w.0, (h.0, is, ap (λ (q : Option Value). q >>= λ v. Some (meaning v)) w.1))
 
-  side_named : (u w : Term) (l : Lit) → l.formula ≡ Eq u w → Holds t l → Contains (terms_in o.store) u
+  pub side_named : (u w : Term) (l : Lit) → l.formula ≡ Eq u w → Holds t l → Contains (terms_in o.store) u
   side_named u w l e h =
       names_of l h u (subst (λ (f : Formula). Contains (outside f) u) (sym e) (subst (λ (ws : List Term). Contains ws u) (sym (outside_eq u w)) (contains_here u (w ∷ []))))
 

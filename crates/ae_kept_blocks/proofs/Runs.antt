@@ -24,12 +24,11 @@ use Rattle.ae_new_constants.proofs.Formulas.{part_below}
 use Rattle.ae_new_constants.proofs.Lines.{stated_below, row_line, block_line, derived_line}
 use Rattle.ae_new_constants.proofs.Terms.{built}
 use Rattle.ae_new_constants.specs.Below.{IsTermBelow, IsFormulaBelow, IsLineBelow, AreLinesBelow}
-use Rattle.ae_rules.specs.Built.{IsBuiltEquation}
 use Rattle.ae_rules.specs.Clauses.{Clause}
 use Rattle.ae_rules.specs.Derivations.{conclusion}
 use Rattle.ae_rules.specs.Lines.{states}
 use Rattle.ae_sat.proofs.Closure.{parts_said}
-use Rattle.ae_sat.specs.Lines.{AddsLinesOver, IsLineOver}
+use Rattle.ae_sat.specs.Lines.{AddsLinesOver, IsBuiltLine, IsLineOver}
 use Rattle.ae_sat.specs.Search.{AllAmong, HasParts, IsStated}
 use Rattle.ae_sat.specs.Standing.{IsOneOf}
 use Rattle.ae_store.specs.Stores.{Stored}
@@ -53,7 +52,7 @@ module _ (p : Problem) (g n : ℕ) (s : Stored) (names : AllByRecursion (IsTermB
     line_over (clause_line.Def r f) h = row_line n p g r f (all_contained (IsFormulaBelow n) fs f all h)
     line_over (clause_line.Block b) h =
         block_line n p g b (of_them b.deriv.hyps h.hyps)
-        (all_weaker (IsBuiltEquation s.signature (terms_in s)) (λ (l : EqLine). IsTermBelow n (states l).left × IsTermBelow n (states l).right)
+        (all_weaker (IsBuiltLine s.signature (terms_in s)) (λ (l : EqLine). IsTermBelow n (states l).left × IsTermBelow n (states l).right)
         (λ l e. (built n s.signature (terms_in s) names (states l).left e.left, built n s.signature (terms_in s) names (states l).right e.right)) b.deriv.lines h.lines)
     line_over (clause_line.Rup c hints) h = derived_line n p g c hints (of_them c h)
     line_over (clause_line.Hyp k ss) h = absurd h

@@ -45,6 +45,7 @@ use Rattle.ae_rules.specs.Instances.{fresh_clause}
 use Rattle.ae_sat.specs.Standing.{IsOneOf}
 use Rattle.ae_sat.specs.declared.solver.Solver.{Solver}
 use Rattle.ae_opening.specs.declared.opening.OpenedBlocks.{OpenedBlocks}
+use Rattle.ae_searching.proofs.Combinations.{instance_is_none}
 use Rattle.ae_searching.proofs.Searching.{searching_named, so_far}
 use Rattle.ae_searching.proofs.Settings.{for_setting, told_before}
 use Rattle.ae_searching.specs.Searching.{IsSearching}
@@ -187,6 +188,7 @@ module _ (p : Problem) (g bound level : ℕ) (o : Search) (s : IsSearchingBelow 
             added = [];
             is = ap (λ (z : Noted). z.lines) w.journal ∙ sym (append-nil o.journal.lines);
             forth = tt;
+            plain = tt;
           };
           came = nothing w.solver w.journal w.lines w.items
               (no_new_names o.store o2.store (clause_terms l.clause) h.store w.store w.brought.named (λ t k. clause_named l.clause t is_one k));
@@ -217,8 +219,10 @@ module _ (p : Problem) (g bound level : ℕ) (o : Search) (s : IsSearchingBelow 
         added = l.own ∷ [];
         is = ap (λ (z : Noted). z.lines) w.journal;
         forth = (not_back l.own l.statement r.stated_by, tt);
+        plain = (instance_is_none l.own (stated_instance l.own l.statement r.stated_by), tt);
       };
-      came = some w.news (let e : length o2.lines.items ≡ length (o.lines.items ++ l.statement ∷ []) = ap (λ (z : List ClauseLine). length z) w.lines in omega (arith, e, length-append o.lines.items (l.statement ∷ [])));
+      came = some w.news (omega (arith, ap (λ (z : Noted). length z.lines) w.journal, length-append o.journal.lines (l.own ∷ [])))
+          (let e : length o2.lines.items ≡ length (o.lines.items ++ l.statement ∷ []) = ap (λ (z : List ClauseLine). length z) w.lines in omega (arith, e, length-append o.lines.items (l.statement ∷ [])));
       noted = inr (ap (λ (z : Noted). z.lines) w.journal);
       brought = w.brought;
       looked = w.looked;

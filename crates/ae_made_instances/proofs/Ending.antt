@@ -1,7 +1,7 @@
 -- A batch at its end: where nothing came, and where the search goes back.
 use Rattle.std.specs.Prelude.{ℕ, ◌<◌, ◌≡◌, ◌⊎◌, List, [], ◌∷◌, ◌++◌, length}
 use Rattle.std.specs.List.{Contains}
-use Rattle.std.proofs.Common.{sym, ap, ◌∙◌, subst, arith, inl, inr}
+use Rattle.std.proofs.Common.{sym, ap, ◌∙◌, subst, arith, inl, inr, length-append}
 use Rattle.ae_between_rounds.proofs.Growing.{instances_lines}
 use Rattle.ae_between_rounds.specs.Between.{Holds, IsBetweenRounds, IsSearchingBelow, IsStopped}
 use Rattle.ae_between_rounds.specs.Fine.{AreFine, AreOrderless}
@@ -14,6 +14,7 @@ use Rattle.ae_core.specs.declared.problems.Problem.{Problem}
 use Rattle.ae_core.specs.declared.proofs.ClauseLine.{ClauseLine}
 use Rattle.ae_core.specs.declared.terms.Term.{Term}
 use Rattle.ae_journal.specs.Noted.{Noted}
+use Rattle.ae_journal.specs.declared.lines.Line.{Line}
 use Rattle.ae_journal.specs.declared.lines.Line.TheVariants as line
 use Rattle.ae_made_instances.specs.Inner.Beside.{IsInBatch}
 use Rattle.ae_made_instances.specs.Inner.Noting.{Came, GoesOn}
@@ -22,9 +23,10 @@ use Rattle.ae_opening.specs.declared.opening.OpenedBlocks.{OpenedBlocks}
 use Rattle.ae_propagation.specs.Settled.{last_level}
 use Rattle.ae_sat.specs.Search.{IsOpen}
 use Rattle.ae_sat.specs.declared.solver.Solver.{Solver}
+use Rattle.ae_searching.proofs.Combinations.{none_back, none_more}
 use Rattle.ae_searching.proofs.Searching.{searching_named}
 use Rattle.ae_searching.specs.Searching.{IsLawfulSoFar, IsSearching}
-use Rattle.ae_searching.specs.Steps.{Grows, HasNews, NotesNoInstance}
+use Rattle.ae_searching.specs.Steps.{Grows, HasNews, NotesNoCombination, NotesNoInstance}
 use Rattle.ae_state.proofs.Standing.{larger_fit}
 use Rattle.ae_state.specs.Complete.{IsComplete}
 use Rattle.ae_state.specs.Fitting.{FitsStore}
@@ -51,12 +53,13 @@ module _ (p : Problem) (g bound level : ℕ) (o o2 : Search) (y : GoesOn o o2) (
 -- no line came, so nothing did
 pub came_nothing : (o o2 : Search) → length o2.lines.items ≡ length o.lines.items → Came o o2 → (o2.solver ≡ o.solver) × (o2.journal ≡ o.journal) × (o2.lines ≡ o.lines) × (o2.lines.items ≡ o.lines.items) × (terms_in o2.store ≡ terms_in o.store)
 came_nothing o o2 e (nothing s j l i t) = (s, j, l, i, t)
-came_nothing o o2 e (some news more) = absurd (omega (arith, e, more))
+came_nothing o o2 e (some news later more) = absurd (omega (arith, e, more))
 
 -- a line came
-pub came_some : (o o2 : Search) → ¬ (length o2.lines.items ≡ length o.lines.items) → Came o o2 → HasNews o2.journal.lines × (length o.lines.items < length o2.lines.items)
+pub came_some : (o o2 : Search) → ¬ (length o2.lines.items ≡ length o.lines.items) → Came o o2
+    → HasNews o2.journal.lines × (length o.lines.items < length o2.lines.items) × (length o.journal.lines < length o2.journal.lines)
 came_some o o2 n (nothing s j l i t) = absurd (n (ap (λ (z : List ClauseLine). length z) i))
-came_some o o2 n (some news more) = (news, more)
+came_some o o2 n (some news later more) = (news, more, later)
 
 module _ (p : Problem) (g bound level : ℕ) (o o2 : Search) (b : IsBetweenRounds p g bound o) (y : GoesOn o o2) (m : IsInBatch p g bound level o2) (e : length o2.lines.items ≡ length o.lines.items) (c : Came o o2) where
   pub between_still : IsBetweenRounds p g bound o2
@@ -97,3 +100,13 @@ module _ (p : Problem) (g bound : ℕ) (o : Search) (solver : Solver Holding Mar
 pub limit_returned : (old new : Noted) (n : ℕ) → (new ≡ old) ⊎ (new ≡ record old { lines = old.lines ++ line.Back n ∷ [] }) → new.limit ≡ old.limit
 limit_returned old new n (inl q) = ap (λ (z : Noted). z.limit) q
 limit_returned old new n (inr q) = ap (λ (z : Noted). z.limit) q
+
+-- lines of instances came, and perhaps a `Back` line
+pub noted_batch : (o o2 : Search) (journal : Noted) (n : ℕ) → GoesOn o o2 → length o.journal.lines < length o2.journal.lines
+    → (journal ≡ o2.journal) ⊎ (journal ≡ record o2.journal { lines = o2.journal.lines ++ line.Back n ∷ [] })
+    → NotesNoCombination o.journal.lines journal.lines × (length o.journal.lines < length journal.lines)
+noted_batch o o2 journal n y later back =
+    let b = none_back o2.journal journal n back in (
+      none_more o.journal.lines o2.journal.lines journal.lines (record { added = y.added; is = y.is; none = y.plain }) b,
+      omega (arith, later, ap (λ (w : List Line). length w) b.is, length-append o2.journal.lines b.added),
+    )

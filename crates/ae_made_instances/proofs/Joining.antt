@@ -38,7 +38,7 @@ use Rattle.ae_owed.specs.Owed.{OwnerIsThere}
 use Rattle.ae_owners.specs.Owners.{owner_of}
 use Rattle.ae_owners.specs.declared.owners.Owner.{Owner as OwnerEntry}
 use Rattle.ae_searching.proofs.Settings.{contains_kept, for_setting, told_before}
-use Rattle.ae_searching.specs.Steps.{HasNews}
+use Rattle.ae_searching.specs.Steps.{HasNews, IsCombination}
 use Rattle.ae_searching.specs.Told.{IsToldIn}
 use Rattle.ae_settled.proofs.Nodes.{named_at}
 use Rattle.ae_store.proofs.TermLaws.{all_named_kept}
@@ -60,6 +60,7 @@ goes_nowhere o = record {
   added = [];
   is = sym (append-nil o.journal.lines);
   forth = tt;
+  plain = tt;
 }
 
 pub goes_join : (a b c : Search) → GoesOn a b → GoesOn b c → GoesOn a c
@@ -73,14 +74,16 @@ goes_join a b c x y = record {
   added = x.added ++ y.added;
   is = y.is ∙ (ap (λ (z : List Line). z ++ y.added) x.is ∙ append_assoc a.journal.lines x.added y.added);
   forth = all_append (λ (j : Line). ¬ IsBack j) x.added y.added x.forth y.forth;
+  plain = all_append (λ (j : Line). ¬ IsCombination j) x.added y.added x.plain y.plain;
 }
 
 pub came_join : (a b c : Search) → Came a b → Came b c → Came a c
 came_join a b c (nothing s j l i t) (nothing s2 j2 l2 i2 t2) = nothing (s2 ∙ s) (j2 ∙ j) (l2 ∙ l) (i2 ∙ i) (t2 ∙ t)
-came_join a b c (nothing s j l i t) (some news more) = some news (let e : length b.lines.items ≡ length a.lines.items = ap length i in omega (arith, e, more))
-came_join a b c (some news more) (nothing s j l i t) =
-    some (subst (λ (z : Noted). HasNews z.lines) (sym j) news) (let e : length c.lines.items ≡ length b.lines.items = ap length i in omega (arith, e, more))
-came_join a b c (some news more) (some news2 more2) = some news2 (omega (arith, more, more2))
+came_join a b c (nothing s j l i t) (some news later more) =
+    some news (omega (arith, ap (λ (z : Noted). length z.lines) j, later)) (let e : length b.lines.items ≡ length a.lines.items = ap length i in omega (arith, e, more))
+came_join a b c (some news later more) (nothing s j l i t) =
+    some (subst (λ (z : Noted). HasNews z.lines) (sym j) news) (omega (arith, ap (λ (z : Noted). length z.lines) j, later)) (let e : length c.lines.items ≡ length b.lines.items = ap length i in omega (arith, e, more))
+came_join a b c (some news later more) (some news2 later2 more2) = some news2 (omega (arith, later, later2)) (omega (arith, more, more2))
 
 pub said_of : (opened : List Opened) (n : ℕ) (old : Stored) (es : List Aged) (new : Stored) (fs : List Aged) (ls : List Lit) → AreBrought opened n old es new fs ls → AreSaid opened n old es new fs ls
 said_of opened n old es new fs ls b = record { had = b.had; stay = b.stay; bodies = b.bodies; justified = b.justified }

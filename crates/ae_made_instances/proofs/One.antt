@@ -48,18 +48,18 @@ module _ (p : Problem) (g : ℕ) (o : Search) (i : Instantiated) where
   due_other n w d = record { owner = d.owner; at = d.at; within = d.within; due = record { there = d.due.there; names = d.due.names; matched = d.due.matched } }
 
   pub goes_other : (o2 : Search) → GoesOn (record o { instances = i }) o2 → GoesOn o o2
-  goes_other o2 y = record { extends = y.extends; trail = y.trail; theory = y.theory; blocks = y.blocks; owners = y.owners; limit = y.limit; added = y.added; is = y.is; forth = y.forth }
+  goes_other o2 y = record { extends = y.extends; trail = y.trail; theory = y.theory; blocks = y.blocks; owners = y.owners; limit = y.limit; added = y.added; is = y.is; forth = y.forth; plain = y.plain }
 
   pub came_other : (o2 : Search) → Came (record o { instances = i }) o2 → Came o o2
   came_other o2 (nothing s j l e t) = nothing s j l e t
-  came_other o2 (some news more) = some news more
+  came_other o2 (some news later more) = some news later more
 
   pub goes_to_other : (first : Search) → GoesOn first o → GoesOn first (record o { instances = i })
-  goes_to_other first y = record { extends = y.extends; trail = y.trail; theory = y.theory; blocks = y.blocks; owners = y.owners; limit = y.limit; added = y.added; is = y.is; forth = y.forth }
+  goes_to_other first y = record { extends = y.extends; trail = y.trail; theory = y.theory; blocks = y.blocks; owners = y.owners; limit = y.limit; added = y.added; is = y.is; forth = y.forth; plain = y.plain }
 
   pub came_to_other : (first : Search) → Came first o → Came first (record o { instances = i })
   came_to_other first (nothing s j l e t) = nothing s j l e t
-  came_to_other first (some news more) = some news more
+  came_to_other first (some news later more) = some news later more
 
   pub batch_other : (bound level : ℕ) → i.made ≡ o.instances.made → i.taken.taken ≡ o.instances.taken.taken → IsInBatch p g bound level o → IsInBatch p g bound level (record o { instances = i })
   batch_other bound level em et b = record {
@@ -93,7 +93,8 @@ module _ (p : Problem) (g bound n : ℕ) (lt : n < bound) (o : Search) (i : Inst
 pub came_entered : (first o o2 : Search) → o.looked ≡ length first.store.nodes → o.looked < length o.store.nodes → o2.journal ≡ o.journal → length o.lines.items ≤ length o2.lines.items → Came first o → Came first o2
 came_entered first o o2 looked less ej more (nothing s j l e t) =
     absurd (let a = as_many o.store in let b = as_many first.store in let c = ap length t in omega (arith, looked, less, a, b, c))
-came_entered first o o2 looked less ej more (some news lt) = some (subst (λ (z : Noted). HasNews z.lines) (sym ej) news) (omega (arith, more, lt))
+came_entered first o o2 looked less ej more (some news later lt) =
+    some (subst (λ (z : Noted). HasNews z.lines) (sym ej) news) (omega (arith, ap (λ (z : Noted). length z.lines) ej, later)) (omega (arith, more, lt))
 
 pub goes_entered : (o o2 : Search) → Extends o.store o2.store → o2.solver.propagation.trail ≡ o.solver.propagation.trail → o2.solver.theory ≡ o.solver.theory → o2.journal ≡ o.journal → o2.blocks ≡ o.blocks → o2.owners ≡ o.owners
     → GoesOn o o2
@@ -107,4 +108,5 @@ goes_entered o o2 extends trail theory journal blocks owners = record {
   added = [];
   is = ap (λ (z : Noted). z.lines) journal ∙ sym (append-nil o.journal.lines);
   forth = tt;
+  plain = tt;
 }

@@ -10,6 +10,7 @@ ghost use Rattle.ae_journal.specs.declared.answers.WideAt.{WideAt};
 ghost use Rattle.ae_made_instances.specs.Inner.Beside.{IsInBatch};
 ghost use Rattle.ae_made_instances.specs.Inner.Making.{HasMade, IsDueOwed};
 ghost use Rattle.ae_made_instances.specs.Inner.Noting.{Came, GoesOn};
+ghost use Rattle.ae_searching.specs.Steps.{NotesNoCombination};
 ghost use Rattle.ae_theory.specs.declared.theory.Fail.TheVariants.{Number, Steps as OutOfSteps};
 
 use crate::making::make_one;
@@ -74,6 +75,8 @@ pub fn make_owed(task: Task<'_>, search: &mut Search, found: OwedAt) -> Result<b
     // Where no line was noted, nothing is left to do for the solver.
     ensures none { result ≡ Ok false → IsOpenSearch search.new × (search.new.solver ≡ search.old.solver) × (search.new.journal ≡ search.old.journal) × (search.new.lines ≡ search.old.lines) × (search.new.blocks ≡ search.old.blocks) }
     ensures made { OnOk result (length search.old.instances.made < length search.new.instances.made) }
+    // Lines of instances were noted, and perhaps one that goes back.
+    ensures noted { result ≡ Ok true → NotesNoCombination search.old.journal.lines search.new.journal.lines × (length search.old.journal.lines < length search.new.journal.lines) }
     ensures stopped { result ≡ Err OutOfSteps → IsStopped task.entry.problem.now task.entry.goal task.entry.generations search.new }
     ensures steps { result ≡ Err OutOfSteps → counted_in search.new.journal.lines ≡ search.new.journal.limit }
     ensures never_wide { (wide : WideAt) → ¬ (result ≡ Err (Number wide)) }

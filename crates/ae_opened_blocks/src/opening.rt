@@ -1,6 +1,7 @@
 //! Opening the blocks that ask for terms.
 ghost use Rattle.std.specs.Prelude.{◌<◌, ◌≡◌, true, false, length, Ok, IfOk, OnOk};
 ghost use Rattle.ae_between_rounds.specs.Between.{IsBetweenRounds};
+ghost use Rattle.ae_between_rounds.specs.Passing.{Passes};
 ghost use Rattle.ae_explain.specs.Trail as trails;
 ghost use Rattle.ae_opening.specs.Asking.{AllServed, IsNextUnopened};
 
@@ -30,6 +31,7 @@ fn open_place(task: Task<'_>, search: &mut Search, place: usize) -> Result<(), A
     ensures between { OnOk result (IsBetweenRounds task.entry.problem.now task.entry.goal task.entry.generations search.new) }
     ensures lines { OnOk result (length search.old.lines.items < length search.new.lines.items) }
     ensures journal { search.new.journal ≡ search.old.journal }
+    ensures passes { OnOk result (Passes search.old search.new) }
 {
     let formula = formula_at(task.alloc, search.solver.trail(), place)?;
     add_block(
@@ -56,6 +58,8 @@ pub fn open_blocks(task: Task<'_>, search: &mut Search) -> Result<bool, AllocErr
     ensures served { result ≡ Ok false → AllServed search.old.solver.propagation.trail search.old.blocks.opened }
     ensures lines { result ≡ Ok true → length search.old.lines.items < length search.new.lines.items }
     ensures journal { search.new.journal ≡ search.old.journal }
+    // The trail stays, and the names and the blocks only grow.
+    ensures passes { OnOk result (Passes search.old search.new) }
 {
     let mut some = false;
     'openings: loop {

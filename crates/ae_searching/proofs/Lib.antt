@@ -5,4 +5,5 @@ pub mod Searching
 pub mod Firing
 pub mod Open
 pub mod Instances
+pub mod Combinations
 mod Results

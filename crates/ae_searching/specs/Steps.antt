@@ -1,6 +1,6 @@
 -- What may come next.
 use Rattle.std.specs.Prelude.{◌≡◌, ◌⊎◌, ℕ, ◌≤◌, List, [], ◌∷◌, ◌++◌, Some}
-use Rattle.std.specs.List.{Contains}
+use Rattle.std.specs.List.{AllByRecursion, Contains}
 use Rattle.ae_core.specs.declared.formulas.Lit.{Lit}
 use Rattle.ae_core.specs.declared.problems.Problem.{Problem}
 use Rattle.ae_core.specs.declared.proofs.ClauseLine.{ClauseLine}
@@ -59,6 +59,17 @@ pub record NotesNoInstance (old new : List Line) : Type 0 where
   pub added : List Line
   pub is : new ≡ old ++ added
   pub none : (j : Line) → Contains added j → ¬ IsInstanceLine j
+
+-- a combination of rows
+abbrev pub IsCombination : Line → Type 0
+IsCombination (line.Combine strict f) = Unit {0}
+IsCombination _ = ⊥
+
+-- lines were noted, none of them a combination of rows
+pub record NotesNoCombination (old new : List Line) : Type 0 where
+  pub added : List Line
+  pub is : new ≡ old ++ added
+  pub none : AllByRecursion (λ j. ¬ IsCombination j) added
 
 -- since the last `Back` line, or the beginning, an instance or a `Learn` line has come
 pub record HasNews (js : List Line) : Type 0 where

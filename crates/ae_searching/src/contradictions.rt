@@ -10,7 +10,7 @@ ghost use Rattle.ae_journal.specs.declared.answers.WideAt.{WideAt};
 ghost use Rattle.ae_propagation.specs.Settled.{last_level};
 ghost use Rattle.ae_rules.specs.Clauses.{Clause, opposite};
 ghost use Rattle.ae_rules.specs.Derivations.{IsContradictory, clause_ok};
-ghost use Rattle.ae_sat.specs.Search.{AllAmong, EndsEmpty, HasParts, Keeps, Progresses};
+ghost use Rattle.ae_sat.specs.Search.{AddsLearnt, AllAmong, EndsEmpty, HasParts, Keeps, Progresses};
 ghost use Rattle.ae_sat.specs.Standing.{IsOneOf};
 ghost use Rattle.ae_searching.specs.Searching.{IsAliveIn, IsLawfulSoFar, IsSearching};
 ghost use Rattle.ae_searching.specs.Steps.{NotesNoInstance};
@@ -52,6 +52,8 @@ where
         (x : Setting) → IsToldIn p g store.now opened x → NotesNoInstance journal.old.lines journal.new.lines }
     ensures never_wide { (wide : WideAt) → ¬ (result ≡ Err (Number wide)) }
     ensures steps { result ≡ Err OutOfSteps → counted_in journal.new.lines ≡ journal.new.limit }
+    // The block and what is learnt from it are the last of the lines, over formulas that are there.
+    ensures lines { OnOk result (AddsLearnt block solver.old.propagation.clauses lines.old.items lines.new.items) }
     ensures journal { Keeps journal.old journal.new }
     ensures kept { (c : Clause) → IsOneOf solver.old.propagation.clauses c → OnOk result (IsOneOf solver.new.propagation.clauses c) }
     ensures formulas { (fs : List Formula) → HasParts fs → AllAmong fs solver.old.propagation.clauses → OnOk result (AllAmong fs solver.new.propagation.clauses) }

@@ -1,4 +1,4 @@
--- Lines that a search derives can be written: those over formulas that can, and blocks of equations that are built of its names.
+-- Lines that a search derives can be written: those over formulas that can, and blocks of lines between terms that are built of its names.
 use Rattle.std.specs.Prelude.{ℕ, ℤ, true, cond, List, [], ◌∷◌, ◌++◌, ◌≡◌}
 use Rattle.std.specs.List.{AllByRecursion, Contains, flat_map}
 use Rattle.std.proofs.Common.{refl, sym, subst}
@@ -20,14 +20,14 @@ use Rattle.ae_core.specs.declared.terms.Head.TheVariants as head
 use Rattle.ae_core.specs.declared.terms.Op.TheVariants as op
 use Rattle.ae_core.specs.declared.terms.Sort.{Sort}
 use Rattle.ae_core.specs.declared.terms.Term.{Term, Apply}
-use Rattle.ae_rules.specs.Built.{numeral, IsBuilt, of_name, of_number, of_product, of_sum, of_symbol, of_unplain, AreFactorsWithin, IsBuiltEquation}
+use Rattle.ae_rules.specs.Built.{numeral, IsBuilt, of_name, of_number, of_product, of_sum, of_symbol, of_unplain, AreFactorsWithin}
 use Rattle.ae_rules.specs.Clauses.{Clause}
 use Rattle.ae_journal.proofs.Splits.{all_contained}
 use Rattle.ae_legal_texts.specs.Numbers.{Number, count, counts, part_numbers, sum_numbers, sides_numbers, derived_numbers, ending_numbers, block_numbers, line_numbers, literal_numbers, term_numbers}
 use Rattle.ae_legal_texts.specs.Writable.{no_negations_in}
 use Rattle.ae_store.specs.Stores.{Stored}
 use Rattle.ae_theory.specs.Names.{terms_in}
-use Rattle.ae_sat.specs.Lines.{IsBlockOver, IsLineOver}
+use Rattle.ae_sat.specs.Lines.{IsBlockOver, IsBuiltLine, IsLineOver}
 use Rattle.ae_writable.specs.Numbers.{IsValueWithin, AreValuesWithin}
 use Rattle.ae_numerals_kept.specs.Lowest.{IsLowestTerm}
 use Rattle.ae_numerals_kept.proofs.Lowest.{whole_lowest, apply_lowest}
@@ -73,7 +73,7 @@ module _ (sig : Signature) (ts : List Term) (names : (t : Term) → Contains ts 
   two_within : (s t : Term) → IsBuilt sig ts s → IsBuilt sig ts t → AreValuesWithin (sides_numbers s t)
   two_within s t a b = all_append IsValueWithin (term_numbers s) (term_numbers t) (built_lowest s a) (built_lowest t b)
 
-  derived_within : (l : EqLine) → IsBuiltEquation sig ts l → AreValuesWithin (derived_numbers l)
+  derived_within : (l : EqLine) → IsBuiltLine sig ts l → AreValuesWithin (derived_numbers l)
   derived_within (EqHyp s t i) b = sides_within s t b.left b.right (count i ∷ []) (tt, tt)
   derived_within (EqRefl s t) b = two_within s t b.left b.right
   derived_within (EqSym s t k) b = sides_within s t b.left b.right (count k ∷ []) (tt, tt)
@@ -89,7 +89,7 @@ module _ (sig : Signature) (ts : List Term) (names : (t : Term) → Contains ts 
   derived_within (LtSum s t d xs) b = sides_within s t b.left b.right (sum_numbers d xs) (sum_within d xs b.factors)
   derived_within (LeRound s t k) b = sides_within s t b.left b.right (count k ∷ []) (tt, tt)
 
-  each_within : (ls : List EqLine) → AllByRecursion (IsBuiltEquation sig ts) ls → AreValuesWithin (flat_map derived_numbers ls)
+  each_within : (ls : List EqLine) → AllByRecursion (IsBuiltLine sig ts) ls → AreValuesWithin (flat_map derived_numbers ls)
   each_within [] a = tt
   each_within (l ∷ ls) a = all_append IsValueWithin (derived_numbers l) (flat_map derived_numbers ls) (derived_within l a.0) (each_within ls a.1)
 

@@ -1,6 +1,6 @@
 -- Lines of instances that may be noted, and what noting one changes.
 use Rattle.std.specs.Prelude.{ℕ, suc, ◌<◌, ◌≡◌, ◌⊎◌, true, List, [], ◌∷◌, ◌++◌, length, Some}
-use Rattle.std.specs.List.{Contains}
+use Rattle.std.specs.List.{AllByRecursion, Contains}
 use Rattle.ae_between_rounds.specs.Fine.{IsFineFormula, IsFineLine}
 use Rattle.ae_between_rounds.specs.declared.search.Search.{Search}
 use Rattle.ae_brought_clauses.specs.Brought.{AreBrought}
@@ -16,7 +16,7 @@ use Rattle.ae_new_constants.specs.Below.{IsLineBelow}
 use Rattle.ae_orderless.specs.Orderless.{is_orderless, IsOrderlessGoal}
 use Rattle.ae_rules.specs.Clauses.{Clause}
 use Rattle.ae_rules.specs.Derivations.{conclusion}
-use Rattle.ae_searching.specs.Steps.{HasNews, IsStatedBy}
+use Rattle.ae_searching.specs.Steps.{HasNews, IsCombination, IsStatedBy}
 use Rattle.ae_searching.specs.Told.{IsToldIn}
 use Rattle.ae_store.specs.Stores.{IsStore}
 use Rattle.ae_theory.specs.Names.{Extends, terms_in}
@@ -61,7 +61,7 @@ pub record Comes (n : ℕ) (l : InstanceLine) (o o2 : Search) : Type 0 where
   pub owners : o2.owners ≡ o.owners
   pub instances : o2.instances ≡ o.instances
 
--- names may have come, and lines of instances: the trail and the theory stay, and so do blocks and owners
+-- names may have come, and lines of instances, no others: the trail and the theory stay, and so do blocks and owners
 pub record GoesOn (o o2 : Search) : Type 0 where
   pub extends : Extends o.store o2.store
   pub trail : o2.solver.propagation.trail ≡ o.solver.propagation.trail
@@ -72,11 +72,12 @@ pub record GoesOn (o o2 : Search) : Type 0 where
   pub added : List Line
   pub is : o2.journal.lines ≡ o.journal.lines ++ added
   pub forth : NoBack added
+  pub plain : AllByRecursion (λ j. ¬ IsCombination j) added
 
 -- nothing was noted and no name came, or a line of an instance was noted
 pub data Came (o o2 : Search) : Type 0 where
   nothing : o2.solver ≡ o.solver → o2.journal ≡ o.journal → o2.lines ≡ o.lines → o2.lines.items ≡ o.lines.items → terms_in o2.store ≡ terms_in o.store → Came o o2
-  some : HasNews o2.journal.lines → length o.lines.items < length o2.lines.items → Came o o2
+  some : HasNews o2.journal.lines → length o.journal.lines < length o2.journal.lines → length o.lines.items < length o2.lines.items → Came o o2
 
 -- what noting a line at n comes to, whether it was there or not
 pub record IsNoted (p : Problem) (g n : ℕ) (l : InstanceLine) (o o2 : Search) : Type 0 where

@@ -5,7 +5,7 @@ use Rattle.ae_between_rounds.specs.Owed.{IsOwedAt}
 use Rattle.ae_between_rounds.specs.declared.search.Owed.{Owed}
 use Rattle.ae_between_rounds.specs.Rewriting.{IsMarkOf}
 use Rattle.ae_inst.specs.Matches.{is_match}
-use Rattle.ae_made_instances.proofs.Ending.{between_still, came_nothing, came_some, holds_returned, limit_returned, open_still, stopped_returned}
+use Rattle.ae_made_instances.proofs.Ending.{between_still, came_nothing, came_some, holds_returned, limit_returned, noted_batch, open_still, stopped_returned}
 use Rattle.ae_made_instances.proofs.Joining.{owed_due}
 use Rattle.ae_made_instances.proofs.batch.make_owed.Goals as goal
 use Rattle.ae_made_instances.specs.Inner.Making.{IsDueOwed}
@@ -96,3 +96,10 @@ returns-in_err-return_to-clause-limit g c = limit_returned c.make_all.new.search
 
 pub returns-clause-limit : goal.returns-clause-limit
 returns-clause-limit g c = limit_returned c.make_all.new.search.journal c.return_to.new.journal c.in_ok-level.level c.return_to.ensures.noted_or ∙ c.make_all.ensures.limit
+
+pub returns-clause-noted : goal.returns-clause-noted
+returns-clause-noted g c q =
+    let o2 = c.make_all.new.search in
+    let e = c.in_ok-level.ensures in
+    let news = came_some c.args.search.now o2 (λ same. c.if-len-before.false (c.len.ensures ∙ c.make_all.new.search.lines.ok.0 ∙ same ∙ sym c.args.search.now.lines.ok.0 ∙ sym c.len-before.ensures)) e.came in
+    noted_batch c.args.search.now o2 c.return_to.new.journal c.in_ok-level.level e.goes_on news.2 c.return_to.ensures.noted_or

@@ -1,5 +1,6 @@
 use Rattle.std.proofs.Common.{◌≡◌, ◌<◌, ◌-◌, ◌^◌, true, false, length}
 use Rattle.ae_between_rounds.specs.Between.{IsBetweenRounds}
+use Rattle.ae_between_rounds.specs.Passing.{Passes}
 use Rattle.ae_opened_blocks.proofs.opening.open_blocks.Given as goal
 
 abbrev pub invariant-openings : goal.invariant-openings
@@ -8,6 +9,7 @@ invariant-openings v l = record {
   none : l.some ≡ false → l.search ≡ l.fn.search;
   lines : l.some ≡ true → length l.fn.search.lines.items < length l.search.lines.items;
   journal : l.search.journal ≡ l.fn.search.journal;
+  passes : Passes l.fn.search l.search;
 }
 
 -- there is room for so many more lines

@@ -1,12 +1,19 @@
 use Rattle.std.proofs.Common.{◌≡◌, ◌<◌, ◌∙◌, List, refl, sym, ap, subst, arith, length, length-append, [], ◌∷◌}
+use Rattle.std.proofs.lemmas.List.Elements.{Contains-append_left}
+use Rattle.std.specs.List.{Contains}
 use Rattle.ae_between_rounds.specs.Between.{IsSearchingBelow}
+use Rattle.ae_between_rounds.specs.Passing.Passes.{rests}
+use Rattle.ae_block_constants.specs.declared.opened.Opened.{Opened}
 use Rattle.ae_explain.specs.Trail.{at}
 use Rattle.ae_explain.specs.declared.trail.Assigned.{Assigned}
 use Rattle.ae_opened_blocks.proofs.Holding.{holds_still}
 use Rattle.ae_opened_blocks.proofs.Placing.{block, can_be_opened, its_clause, unopened}
 use Rattle.ae_opened_blocks.proofs.Steps.{goes_on, sorted, there}
+use Rattle.ae_journal.specs.Noted.{Noted}
 use Rattle.ae_opened_blocks.proofs.opening.open_place.Goals as goal
+use Rattle.ae_opening.specs.declared.opening.OpenedBlocks.{OpenedBlocks}
 use Rattle.ae_propagation.specs.Settled.{last_level}
+use Rattle.ae_sat.proofs.Resting.{lengthens_none}
 
 pub formula_at-requires : goal.formula_at-requires
 formula_at-requires v c = record { within = subst (λ (t : List Assigned). c.args.place < length t) (sym c.trail.ensures) c.requires.next.within }
@@ -72,3 +79,14 @@ pub returns-clause-lines : goal.returns-clause-lines
 returns-clause-lines v c =
     let w = c.in_ok-add_block.ensures.comes in
     omega (arith, ap length w.lines, length-append c.args.search.now.lines.items (w.line ∷ []), c.in_ok-enter_names.ensures.lines)
+
+pub returns-clause-passes : goal.returns-clause-passes
+returns-clause-passes v c =
+    let o = c.args.search.now in
+    let added = c.in_ok-add_block.ensures in
+    let e = c.in_ok-enter_names.ensures in
+    let w = added.comes in
+    let last = c.enter_names.new.search in
+    rests (ap (λ (n : Noted). n.lines) e.journal) (lengthens_none o.solver.propagation.trail last.solver.propagation.trail (e.trail ∙ added.trail))
+    (record { signature = e.extends.signature ∙ w.brought.named.signature; keeps = λ i t h. e.extends.keeps i t (w.brought.named.keeps i t h) })
+    (λ d i. subst (λ (z : OpenedBlocks). Contains z.opened d) (sym e.blocks) (subst (λ (ds : List Opened). Contains ds d) (sym w.opens.more) (Contains-append_left o.blocks.opened _ d i)))

@@ -51,3 +51,6 @@ returns-clause-instances g c p n bound level opened low h x told =
     notes_no_instance x js c.learn_contradiction.new.journal.lines (c.learn_contradiction.ensures.legal x 0 (named_so g.T.Equalities.fits T.assumed T.fits_mark T.in_step p n bound s opened level o ks js x told h)
     (stated_so g.T.Equalities.fits T.assumed T.fits_mark T.in_step p n bound s opened level o ks js x told h)
     (state_so g.T.Equalities.fits T.assumed T.fits_mark T.in_step p n bound s opened level o ks js x told low h)).0
+
+pub returns-clause-lines : goal.returns-clause-lines
+returns-clause-lines g c = c.learn_contradiction.ensures.lines

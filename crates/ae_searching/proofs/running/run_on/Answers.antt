@@ -1,5 +1,7 @@
 use Rattle.std.proofs.Common.{OnOk}
+use Rattle.std.proofs.lemmas.Result.{on_ok_weaker}
 use Rattle.ae_journal.specs.Standing.{Setting}
+use Rattle.ae_sat.proofs.Enlarging.{over_lines}
 use Rattle.ae_sat.specs.Search.{IsLawfulState, NotesLegally}
 use Rattle.ae_searching.specs.Told.{IsToldIn}
 use Rattle.ae_searching.proofs.Instances.{notes_no_instance}
@@ -60,3 +62,10 @@ returns-clause-instances g c p n bound level opened low h x told =
     notes_no_instance x js c.run.new.journal.lines (c.run.ensures.legal x 0 (named_so g.T.Equalities.fits T.assumed T.fits_mark T.in_step p n bound s opened level o ks js x told h)
     (stated_so g.T.Equalities.fits T.assumed T.fits_mark T.in_step p n bound s opened level o ks js x told h)
     (state_so g.T.Equalities.fits T.assumed T.fits_mark T.in_step p n bound s opened level o ks js x told low h)).0
+
+pub returns-clause-still : goal.returns-clause-still
+returns-clause-still g c = c.run.ensures.still
+
+pub returns-clause-lines : goal.returns-clause-lines
+returns-clause-lines g c fs parts among =
+    on_ok_weaker c.run.result (over_lines c.args.store.now fs c.args.lines.now.items c.run.new.lines.items) (c.run.ensures.lines fs parts among)
