@@ -3,6 +3,7 @@ ghost use Rattle.std.specs.Prelude.{◌≡◌, ◌<◌, ◌≤◌, count_by, [],
 ghost use Rattle.std.specs.List.{AllByRecursion};
 ghost use Rattle.ae_base.specs.Options.{known};
 ghost use Rattle.ae_core.specs.Sorts.{sort_of};
+ghost use Rattle.ae_rules.specs.Built.{IsBuiltEquation};
 ghost use Rattle.ae_rules.specs.Derivations.{clause_ok};
 ghost use Rattle.ae_rules.specs.Lines.{AllAllowed, fact_ok};
 ghost use Rattle.ae_journal.specs.Systems.{IsCompleted};
@@ -95,7 +96,8 @@ impl State {
         self.held.system(alloc, store)
     }
 
-    /// Why a numeric name has its value: lines of which the last says that its denominator times the name is the sum of its parts.
+    /// Why a numeric name has its value: lines of which the last says that its denominator times the name is the sum of its parts, each between terms that are built
+    /// of the names.
     pub fn explain_value(
         &self,
         alloc: Global,
@@ -110,6 +112,7 @@ impl State {
         ensures tags { IfOk result (λ d. IsBlockOf (assumed_in self.now) d.deriv.hyps d.tags) }
         ensures stated { IfOk result (λ d. (real : Bool) → IsNumberName store.now.signature (terms_in store.now) real name →
             EndsWithValue (terms_in store.now) real name (number_at self.now.values name) d.deriv.lines) }
+        ensures built { IfOk result (λ d. AllByRecursion (IsBuiltEquation store.now.signature (terms_in store.now)) d.deriv.lines) }
     {
         self.held.explain_value(alloc, store, name)
     }

@@ -49,6 +49,7 @@ fn own_derived(alloc: Global, store: &Store, name: Name, real: bool) -> Result<D
     // It rests on nothing.
     ensures tags { IfOk result (λ d. (held : List (ℕ × AssumedView)) → IsBlockOf (tagged held) d.deriv.hyps d.tags) }
     ensures stated { IfOk result (λ d. EndsWithValue (terms_in store.now) real name (own name) d.deriv.lines) }
+    ensures built { IfOk result (λ d. AllByRecursion (IsBuiltEquation store.now.signature (terms_in store.now)) d.deriv.lines) }
 {
     let mut justs = Justs::new(alloc);
     let form = single(alloc, name)?;
@@ -64,7 +65,8 @@ fn is_real(sort: &Sort) -> bool
 }
 
 impl Holding {
-    /// Why a numeric name has its value: lines of which the last says that its denominator times the name is the sum of its parts.
+    /// Why a numeric name has its value: lines of which the last says that its denominator times the name is the sum of its parts, each between terms that are built
+    /// of the names.
     pub fn explain_value(
         &self,
         alloc: Global,
@@ -79,6 +81,7 @@ impl Holding {
         ensures tags { IfOk result (λ d. IsBlockOf (assumed_in self.now) d.deriv.hyps d.tags) }
         ensures stated { IfOk result (λ d. (real : Bool) → IsNumberName store.now.signature (terms_in store.now) real name →
             EndsWithValue (terms_in store.now) real name (number_at self.now.values name) d.deriv.lines) }
+        ensures built { IfOk result (λ d. AllByRecursion (IsBuiltEquation store.now.signature (terms_in store.now)) d.deriv.lines) }
     {
         match row_step(&self.values, name) {
             Some(step) => derived(store, &self.justs, step),
