@@ -1,6 +1,8 @@
 -- One line more, which says a row.
 use Rattle.std.specs.Prelude.{ℕ, suc, ℤ, pos, neg_ℤ, ◌+◌, ◌<◌, Some, ◌*ℤ◌, ◌<ℤ◌, ◌≡◌, ◌⊎◌, Bool, true, false, ◌||◌, List, [], ◌∷◌, ◌++◌, length, map}
+use Rattle.std.specs.List.{AllByRecursion}
 use Rattle.std.proofs.Common.{arith, refl, sym, ap, ◌∙◌, subst, inl, inr, length-append}
+use Rattle.ae_base.proofs.AllOf.{all_push}
 use native.Mathlib.Decide.{ℕ_discrete}
 use lib.IntN.{*ℤ-one}
 use borrow.Author.Differences.{ints}
@@ -24,10 +26,11 @@ use Rattle.ae_num.proofs.MeaningLaws.{product_positive}
 use Rattle.ae_rows.specs.Rows.{mixture, combination}
 use Rattle.ae_ineq.specs.Inner.Sets.{last_part}
 use Rattle.ae_ineq.proofs.LastLaws.{rising_last, last_within}
-use Rattle.ae_ineq.proofs.LineNumbers.{times_within}
+use Rattle.ae_ineq.proofs.LineNumbers.{factor_within, times_within}
 use Rattle.ae_row_lines.proofs.Dens.{denominator}
 use Rattle.ae_bounds.proofs.Lasts.{lower_last, upper_last}
 use Rattle.ae_bound_blocks.specs.declared.given.Given.{Given}
+use Rattle.ae_rules.specs.Built.{HasFactorsWithin}
 use Rattle.ae_rules.specs.Linear.{IsSame}
 use Rattle.ae_rules.specs.Lines.{Fact, Stated, Allowed, AllAllowed, fact_ok, HaveSort, MayCount, gap, total, states}
 use Rattle.ae_rules.proofs.Written.{all_append, stated_before, stated_last}
@@ -37,14 +40,16 @@ use Rattle.ae_row_lines.proofs.TwoRows.{at_most_line, below_line}
 use Rattle.ae_store.specs.Terms.{named}
 use Rattle.ae_bounds.specs.declared.rows.Unrounded.{Unrounded}
 use Rattle.ae_state_steps.specs.ValueSteps.{sort_for}
-use Rattle.ae_bound_blocks.specs.Said.{relation_of, row_fact, row_line, AreNumbersOf, IsGiven}
+use Rattle.ae_bound_blocks.specs.Said.{relation_of, row_fact, row_line, AreBuilt, AreNumbersOf, HasNumbers, IsBuiltLine, IsGiven}
 use Rattle.ae_bound_blocks.specs.Inner.Emitting.{IsSaid, IsSaidAfter, IsCombinationOf}
+use Rattle.ae_bound_blocks.proofs.Building.{built_joined, factors_in, neg_fits, row_built, times_fit}
 use Rattle.ae_bound_blocks.proofs.Saying.{says_row}
 use Rattle.ae_bound_blocks.proofs.Sorting.{is_number_sort, row_sorted, row_good, line_states}
 use Rattle.ae_bound_blocks.proofs.Naming.{names_stay}
 
 -- ---- the line pushed
-module _ (sig : Signature) (ts : List Term) (real : Bool) (r : Unrounded) (normal : IsNormal r.lin) (numbers : AreNumbersOf sig ts real r.lin) (d : ℤ) (ps : List Scaled) where
+module _ (sig : Signature) (ts : List Term) (real : Bool) (r : Unrounded) (normal : IsNormal r.lin) (numbers : AreNumbersOf sig ts real r.lin) (d : ℤ) (ps : List Scaled)
+    (integers : HasNumbers sig ts real) (fit : FitsLimits d) (fits : AllByRecursion (λ (p : Scaled). FitsLimits p.factor) ps) where
   line : EqLine
   line = row_line ts real r.strict r.lin d ps
 
@@ -58,17 +63,18 @@ module _ (sig : Signature) (ts : List Term) (real : Bool) (r : Unrounded) (norma
       let n : length (lines ++ line ∷ []) ≡ length lines + 1 = length-append lines (line ∷ []) in
       let s : length lines + 0 ≡ k = omega (arith, e, n) in
       let f : Stated (lines ++ line ∷ []) k (states line) = subst (λ i. Stated (lines ++ line ∷ []) i (states line)) s (stated_last lines line) in
-      record { stated = subst (Stated (lines ++ line ∷ []) k) (line_states ts real r.strict r.lin d ps) f; numbers = numbers }
+      record { stated = subst (Stated (lines ++ line ∷ []) k) (line_states ts real r.strict r.lin d ps) f; numbers = numbers; integers = integers }
 
   pub said_after : (old new : Deriv) (hyps : List Lit) (lines : List EqLine) → new.hyps ≡ hyps → new.lines ≡ lines ++ row_line ts real r.strict r.lin d ps ∷ []
-      → ((k : ℕ) (f : Fact) → Stated old.lines k f → Stated lines k f) → AllAllowed sig (fact_ok sig) hyps [] lines → Allowed sig hyps lines (row_line ts real r.strict r.lin d ps)
-      → IsSaidAfter sig ts real old new r
+      → ((k : ℕ) (f : Fact) → Stated old.lines k f → Stated lines k f) → (AreBuilt sig ts old.lines → AreBuilt sig ts lines) → AllAllowed sig (fact_ok sig) hyps [] lines
+      → Allowed sig hyps lines (row_line ts real r.strict r.lin d ps) → IsSaidAfter sig ts real old new r
   unfolding line
-  said_after old new hyps lines h l before a b = record {
+  said_after old new hyps lines h l before more a b = record {
     allowed = subst (λ hs. AllAllowed sig (fact_ok sig) hs [] new.lines) (sym h) (subst (AllAllowed sig (fact_ok sig) hyps []) (sym l) (pushed hyps lines a b));
     before = λ k f s. subst (λ ls. Stated ls k f) (sym l) (stated_before lines (line ∷ []) k f (before k f s));
     some = (let n : length new.lines ≡ length (lines ++ line ∷ []) = ap length l in let m = length-append lines (line ∷ []) in omega (arith, n, m));
     last = λ k e. subst (λ ls. IsSaid sig ts real ls k r) (sym l) (last_said lines k (e ∙ ap length l));
+    built = λ o. subst (AreBuilt sig ts) (sym l) (all_push (IsBuiltLine sig ts) lines line (more o) (row_built sig ts real integers r.lin normal numbers r.strict d ps fit fits));
   }
 
 -- ---- an assumed row
@@ -169,13 +175,15 @@ module _ (sig : Signature) (ts : List Term) (real : Bool) (r : Unrounded) (g : G
   given_some = let a = given_last in omega (arith, a)
 
   pub given_after : (new : Deriv) (from : ℕ) → IsNormal r.lin → ((k : ℕ) (f : Fact) → Stated deriv.lines k f → Stated both.lines k f)
-      → ((k : ℕ) (f : Fact) → Stated g.deriv.lines k f → Stated both.lines (length deriv.lines + k) f) → AllAllowed sig (fact_ok sig) both.hyps [] both.lines → from + 1 ≡ length both.lines → new.hyps ≡ both.hyps
+      → ((k : ℕ) (f : Fact) → Stated g.deriv.lines k f → Stated both.lines (length deriv.lines + k) f)
+      → (AllByRecursion HasFactorsWithin deriv.lines → AllByRecursion HasFactorsWithin g.deriv.lines → AllByRecursion HasFactorsWithin both.lines) → AllAllowed sig (fact_ok sig) both.hyps [] both.lines → from + 1 ≡ length both.lines → new.hyps ≡ both.hyps
       → new.lines ≡ both.lines ++ row_line ts real r.strict r.lin g.multiple (record { factor = r.lin.den; line = from } ∷ []) ∷ [] → IsSaidAfter sig ts real deriv new r
-  given_after new from normal before after allowed at hyps lines =
+  given_after new from normal before after factors allowed at hyps lines =
       let s : Stated g.deriv.lines (length given.front + 0) (states given.last) = subst (λ ls. Stated ls (length given.front + 0) (states given.last)) (sym given.lines) (stated_last given.front given.last) in
       let place : length deriv.lines + (length given.front + 0) ≡ from = (let a = given_last in omega (arith, a, at)) in
       let t : Stated both.lines from (states given.last) = subst (λ k. Stated both.lines k (states given.last)) place (after (length given.front + 0) (states given.last) s) in
-      said_after sig ts real r normal given.numbers g.multiple (record { factor = r.lin.den; line = from } ∷ []) deriv new both.hyps both.lines hyps lines before allowed
+      said_after sig ts real r normal given.numbers g.multiple (record { factor = r.lin.den; line = from } ∷ []) given.integers given.fits (normal.within.0, tt) deriv new both.hyps both.lines hyps lines before
+      (λ o. built_joined sig ts deriv.lines g.deriv.lines both.lines long before after (factors (factors_in sig ts deriv.lines o) (factors_in sig ts g.deriv.lines given.built)) o given.built) allowed
       (given_line sig ts real r.lin normal given.numbers g.multiple (states given.last) given.says given.sorted both.hyps both.lines from t r.strict given.relation)
 
 module _ (first second r : Unrounded) (c : IsCombinationOf first second r) where
@@ -215,6 +223,10 @@ module _ (first second r : Unrounded) (c : IsCombinationOf first second r) where
       let high : lin_factor second.lin.parts c.name <ℤ pos 0 = subst (λ z. z <ℤ pos 0) (sym (rising_last second.lin.parts _ c.second_normal.rising upper_part.1)) upper_part.2 in
       let parts : record { factor = neg_ℤ falling; line = j } ∷ record { factor = rising; line = k } ∷ [] ≡ parts_of_line c.name first.lin second.lin j k =
       λ i. record { factor = neg_ℤ (down i); line = j } ∷ record { factor = up i; line = k } ∷ [] in
-      said_after sig ts real r c.normal (numbers_stay sig ts real first second r c d times low high deriv.hyps deriv.lines j k one two) d (parts_of_line c.name first.lin second.lin j k) deriv new deriv.hyps deriv.lines hyps
-      (lines ∙ ap (λ ps. deriv.lines ++ row_line ts real r.strict r.lin d ps ∷ []) parts) (λ k f s. s) allowed
+      let fit : FitsLimits d = times_fit d r.lin.den (first.lin.den *ℤ second.lin.den) c.normal.positive times product_fits in
+      let rise : FitsLimits (lin_factor first.lin.parts c.name) = factor_within first.lin c.name c.first_normal in
+      let fall : FitsLimits (lin_factor second.lin.parts c.name) = factor_within second.lin c.name c.second_normal in
+      let turned = neg_fits (lin_factor second.lin.parts c.name) fall in
+      said_after sig ts real r c.normal (numbers_stay sig ts real first second r c d times low high deriv.hyps deriv.lines j k one two) d (parts_of_line c.name first.lin second.lin j k) one.integers fit (turned, (rise, tt)) deriv new deriv.hyps deriv.lines hyps
+      (lines ∙ ap (λ ps. deriv.lines ++ row_line ts real r.strict r.lin d ps ∷ []) parts) (λ k f s. s) (λ o. o) allowed
       (combined_line sig ts real first second r c d times low high deriv.hyps deriv.lines j k one two)

@@ -88,6 +88,9 @@ module _ (sig : Signature) (ts : List Term) (real : Bool) (rows : List Row) (pla
             says = subst (Says (named ts) row.lin.den (meaning row.lin)) (sym w.3) (says_row ts real row.strict row.lin o);
             sorted = subst (HaveSort sig (sort_for real)) (sym w.3) (row_sorted sig ts real row.strict row.lin o last_said.numbers);
             numbers = last_said.numbers;
+            integers = last_said.integers;
+            fits = o.within.0;
+            built = emitted.built;
           }
 
       pub tags_are : AreTagsOf rows place e.tags

@@ -2,6 +2,7 @@ pub mod Saying
 pub mod Sorting
 pub mod Naming
 pub mod Marking
+pub mod Building
 mod Adding
 pub mod Rounding
 pub mod OneMore

@@ -27,7 +27,7 @@ use Rattle.ae_bound_blocks.specs.declared.given.Given.{Given}
 use Rattle.ae_bound_blocks.specs.declared.emitting.Emitted.{Emitted}
 use Rattle.ae_bound_blocks.specs.Ancestors.{parents, tag_of, tags_of, hyps_of}
 use Rattle.ae_bound_blocks.specs.Inner.Emitting.{IsCombinationOf, IsSaid, IsRoundable, IsMore, AreReady, AreEmitted}
-use Rattle.ae_bound_blocks.specs.Said.{kept, was_of, was, row_fact}
+use Rattle.ae_bound_blocks.specs.Said.{kept, was_of, was, row_fact, AreBuilt}
 
 -- a row was the form that it is the row of
 pub was_form : (l : Lin) (strict : Bool) (r : Row) → IsRowOf l strict r → was r ≡ record { lin = l; strict = strict }
@@ -75,6 +75,7 @@ module _ (sig : Signature) (ts : List Term) (real : Bool) (rows : List Row) (giv
         ap suc (ap (λ xs. get_or xs k 0) more.places ∙ get_or_at old.places more.place [] 0 k (let z = a.places in omega (arith, z, s))) ∙ more.last;
     tags = tags ∙ ap (λ xs. xs ++ tag_of r.from) a.tags ∙ sym (tags_step marks rows n r m e) ∙ ap (λ k. tags_of (take k marks) rows) (let h : suc n ≡ n + 1 = omega arith in h);
     hyps = hyps ∙ ap (λ hs. hs ++ flat_map (hyps_of given) (tag_of r.from)) a.hyps ∙ sym (flat_map-append (hyps_of given) old.tags (tag_of r.from)) ∙ ap (flat_map (hyps_of given)) (sym tags);
+    built = more.said.built a.built;
   }
     where
       said : (k : ℕ) (x : Row) → k < n + 1 → marked marks k ≡ true → slice_get rows k ≡ Some x → IsSaid sig ts real new.deriv.lines (get_or new.places k 0) (kept x)
@@ -83,7 +84,7 @@ module _ (sig : Signature) (ts : List Term) (real : Bool) (rows : List Row) (giv
             let i = a.said k x b w q in
             let p : get_or new.places k 0 ≡ get_or old.places k 0 =
             ap (λ xs. get_or xs k 0) more.places ∙ get_or_append_left old.places (more.place ∷ []) 0 k (let s = a.places in omega (arith, b, s)) in
-            record { stated = subst (λ z. Stated new.deriv.lines z (row_fact ts real x.strict x.lin)) (sym p) (more.said.before _ _ i.stated); numbers = i.numbers }
+            record { stated = subst (λ z. Stated new.deriv.lines z (row_fact ts real x.strict x.lin)) (sym p) (more.said.before _ _ i.stated); numbers = i.numbers; integers = i.integers }
         | inr b ↦
             let s : n ≡ k = omega (arith, l, b) in
             let x_is : r ≡ x = cc (sym e ∙ ap (slice_get rows) s ∙ q) in
@@ -100,6 +101,7 @@ module _ (sig : Signature) (ts : List Term) (real : Bool) (rows : List Row) (giv
     last = λ k q w. absurd (true≢false (sym (subst (λ z. marked marks z ≡ true) (let s : k ≡ n = omega (arith, q) in s) w) ∙ m));
     tags = tags ∙ a.tags ∙ sym (tags_skip marks rows n m) ∙ ap (λ k. tags_of (take k marks) rows) (let h : suc n ≡ n + 1 = omega arith in h);
     hyps = hyps ∙ a.hyps ∙ ap (flat_map (hyps_of given)) (sym tags);
+    built = subst (AreBuilt sig ts) (sym lines) a.built;
   }
     where
       said : (k : ℕ) (x : Row) → k < n + 1 → marked marks k ≡ true → slice_get rows k ≡ Some x → IsSaid sig ts real new.deriv.lines (get_or new.places k 0) (kept x)
@@ -119,6 +121,7 @@ module _ (sig : Signature) (ts : List Term) (real : Bool) (rows : List Row) (giv
     last = λ k q w. absurd (omega (arith, q));
     tags = tags;
     hyps = hyps ∙ ap (flat_map (hyps_of given)) (sym tags);
+    built = subst (AreBuilt sig ts) (sym lines) tt;
   }
 
   -- ---- what a row is made of

@@ -1,5 +1,5 @@
 -- The facts that say rows between terms that are written out, and the lines that give assumed rows.
-use Rattle.std.specs.Prelude.{ℕ, ℤ, pos, Bool, false, cond, List, [], ◌∷◌, ◌++◌, ◌≡◌, slice_get, Option, Some, None}
+use Rattle.std.specs.Prelude.{ℕ, ℤ, pos, Bool, false, cond, List, [], ◌∷◌, ◌++◌, ◌≡◌, ◌⊎◌, true, slice_get, Option, Some, None}
 use Rattle.std.specs.List.{AllByRecursion}
 use Rattle.ae_core.specs.declared.terms.Term.{Term}
 use Rattle.ae_core.specs.declared.problems.Signature.{Signature}
@@ -10,6 +10,8 @@ use Rattle.ae_core.specs.declared.proofs.Relation.TheVariants.{AtMost, Below}
 use Rattle.ae_core.specs.declared.proofs.Scaled.{Scaled}
 use Rattle.ae_num.specs.declared.forms.Lin.{Lin}
 use Rattle.ae_num.specs.Forms.{meaning}
+use Rattle.ae_num.specs.Limits.{FitsLimits}
+use Rattle.ae_rules.specs.Built.{IsBuilt, HasFactorsWithin, HasIntegers}
 use Rattle.ae_rules.specs.Lines.{Fact, states, AllAllowed, fact_ok, HaveSort}
 use Rattle.ae_row_lines.specs.Says.{Says}
 use Rattle.ae_store.specs.Terms.{named}
@@ -57,12 +59,26 @@ row_line ts real strict l d ps = sum_line strict (whole real (pos 0)) (sum_term 
 abbrev pub round_line : List Term → Bool → Lin → ℕ → EqLine
 round_line ts real l k = LeRound (whole real (pos 0)) (sum_term ts real l) k
 
+-- ---- terms that are built of the names
+-- whole numbers of the sort are: one of the names is an integer where the sort is `int`
+abbrev pub HasNumbers : Signature → List Term → Bool → Type 0
+HasNumbers sig ts real = (real ≡ true) ⊎ HasIntegers sig ts
+
+-- the line states something of two terms that are built of the names, with factors within their limits
+pub record IsBuiltLine (sig : Signature) (ts : List Term) (l : EqLine) : Type 0 where
+  pub left : IsBuilt sig ts (states l).left
+  pub right : IsBuilt sig ts (states l).right
+  pub factors : HasFactorsWithin l
+
+abbrev pub AreBuilt : Signature → List Term → List EqLine → Type 0
+AreBuilt sig ts ls = AllByRecursion (IsBuiltLine sig ts) ls
+
 -- ---- given
 -- the names of a form are numbers of the sort
 abbrev pub AreNumbersOf : Signature → List Term → Bool → Lin → Type 0
 AreNumbersOf sig ts real l = AllByRecursion (λ p. IsNumberName sig ts real p.key) l.parts
 
--- allowed lines of which the last says a multiple of the form, of which each name is a number of the sort
+-- allowed lines between terms that are built of the names, of which the last says a multiple of the form, of which each name is a number of the sort
 pub record IsGiven (sig : Signature) (ts : List Term) (real : Bool) (u : Unrounded) (g : Given) : Type 0 where
   pub allowed : AllAllowed sig (fact_ok sig) g.deriv.hyps [] g.deriv.lines
   pub front : List EqLine
@@ -72,6 +88,9 @@ pub record IsGiven (sig : Signature) (ts : List Term) (real : Bool) (u : Unround
   pub says : Says (named ts) g.multiple (meaning u.lin) (states last)
   pub sorted : HaveSort sig (sort_for real) (states last)
   pub numbers : AreNumbersOf sig ts real u.lin
+  pub integers : HasNumbers sig ts real
+  pub fits : FitsLimits g.multiple
+  pub built : AreBuilt sig ts g.deriv.lines
 
 -- so it is for each assumed row of which the row of number `place` is made, as it was before it was rounded, under its tag
 abbrev pub AreGiven : Signature → List Term → Bool → List Row → ℕ → List Given → Type 0

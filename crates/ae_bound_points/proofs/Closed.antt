@@ -47,12 +47,12 @@ combination_weaker p q r n c = by_row c.of
 module _ (rows : List Row) (closed : AreClosed rows) (was : AreRounded rows) (none : NoneIsRefuted rows) (loose : ¬ HasZero rows) where
   -- a form of a row is as weak as the row
   to_row : (g : Form ℕ) (r : Row) (l : Lin) → Contains rows r → HasForm r l → IsWeaker g (meaning l) → IsWeaker g (meaning r.lin)
-  to_row g r _ c (own m) w = w
-  to_row g r _ c (assumed tag u e f) w = let h = was r u c f in weaker_on g (meaning u.lin) (meaning r.lin) w (row_weaker u.strict u.lin r.lin h.normal h.names h.row_normal h.is)
+  to_row g r _ c (own d m) w = w
+  to_row g r _ c (assumed d tag u e f) w = let h = was r u c f in weaker_on g (meaning u.lin) (meaning r.lin) w (row_weaker u.strict u.lin r.lin h.normal h.names h.row_normal h.is)
 
   row_some : (r : Row) (l : Lin) → Contains rows r → HasForm r l → ¬ IsZero (meaning l) → ¬ IsZero (meaning r.lin)
-  row_some r _ c (own m) n = n
-  row_some r _ c (assumed tag u e f) n = let h = was r u c f in rounded_nonzero u.strict u.lin r.lin h.row_normal h.names h.is
+  row_some r _ c (own d m) n = n
+  row_some r _ c (assumed d tag u e f) n = let h = was r u c f in rounded_nonzero u.strict u.lin r.lin h.row_normal h.names h.is
 
   covered : (p q : Row) (n : ℕ) → IsDone rows p q n → IsCovered (IsNonzeroRow rows) (combination n (meaning p.lin) (meaning q.lin))
   covered p q n d =

@@ -5,7 +5,7 @@ ghost use Rattle.std.specs.List.{AllByRecursion};
 ghost use Rattle.ae_num.specs.Forms.{IsNormal};
 ghost use Rattle.ae_rows.specs.Rows.{IsPoint};
 ghost use Rattle.ae_ineq.specs.Widths.{IsPointWide};
-ghost use Rattle.ae_ineq.specs.Inner.Points.{value_in};
+ghost use Rattle.ae_ineq.specs.Inner.Points.{IsNumber, value_in};
 ghost use Rattle.ae_ineq.specs.declared.steps.PointFail.TheVariants.{Wide};
 ghost use Rattle.ae_journal.specs.declared.answers.WideAt.{WideAt};
 ghost use Rattle.ae_bounds.specs.Rounding.{AreRounded};
@@ -33,6 +33,7 @@ pub fn point(alloc: Global, rows: &[Row]) -> Result<Items<Valuation>, PointFail>
     ensures positive { IfOk result (λ made. ArePositiveAt (value_in made) rows.now) }
     ensures chosen { IfOk result (λ made. IsPoint (IsNonzeroRow rows.now) (value_in made)) }
     ensures wide { (w : WideAt) → result ≡ Err (Wide w) → IsPointWide (IsNonzeroRow rows.now) w }
+    ensures numbers { IfOk result (λ made. AllByRecursion (λ at. IsNumber at.value) made) }
 {
     let stages = stages_of(alloc, rows)?;
     point_of(alloc, stages)

@@ -130,7 +130,7 @@ module _ (x : Setting) (js : List Line) (rows : List Row) (a : AreAgreed x js ro
     was = λ s tag h e. standing_stays x js r.strict r.lin (counted s) (a.was s tag (was_more s tag h e) e);
     sorted = sorted_more;
     literals = λ l s t b h e. let g = a.literals l s t b (surely_less x js r.strict r.lin l h) e in
-        (g.0, g.1, Contains-append_left rows (r ∷ []) g.0 g.2, g.3, g.4 ∙ same_difference x js r.strict r.lin s t);
+        (g.0, g.1, Contains-append_left rows (r ∷ []) g.0 g.2, g.3, g.4, g.5 ∙ same_difference x js r.strict r.lin s t);
     lines = λ before after b h e o. elim (line_before x js rows r.strict r.lin before after b h e o) [
       | inl k ↦ (r, c.lower, c.upper, Contains-append_right rows (r ∷ []) r (contains_here r []), c.from, k.0, k.1)
       | inr k ↦ (let g = a.lines before k.0 b h k.1 k.2 in (g.0, g.1, g.2, Contains-append_left rows (r ∷ []) g.0 g.3, g.4, g.5, g.6))
@@ -146,7 +146,7 @@ module _ (x : Setting) (js : List Line) (rows : List Row) (a : AreAgreed x js ro
     standing = (extended x 0 rows (rows ++ r ∷ []) js js a.standing (zero_more rows js r as_it_was c zero)).1;
     was = λ s tag h e. a.was s tag (was_more s tag h e) e;
     sorted = sorted_more;
-    literals = λ l s t b h e. let g = a.literals l s t b h e in (g.0, g.1, Contains-append_left rows (r ∷ []) g.0 g.2, g.3, g.4);
+    literals = λ l s t b h e. let g = a.literals l s t b h e in (g.0, g.1, Contains-append_left rows (r ∷ []) g.0 g.2, g.3, g.4, g.5);
     lines = λ before after b h e o. let g = a.lines before after b h e o in (g.0, g.1, g.2, Contains-append_left rows (r ∷ []) g.0 g.3, g.4, g.5, g.6);
     noted = λ s lower upper h f z. elim (Contains-append_cases rows (r ∷ []) s h) [
       | inl d ↦ a.noted s lower upper d f z

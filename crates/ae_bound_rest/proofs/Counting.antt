@@ -26,7 +26,7 @@ use Rattle.ae_bounds.specs.declared.rows.Unrounded.{Unrounded}
 use Rattle.ae_bounds.specs.declared.rows.Origin.{Origin}
 use Rattle.ae_bounds.specs.declared.rows.Origin.TheVariants.{Assumed, Combined}
 use Rattle.ae_bounds.specs.declared.directions.Direction.{Direction}
-use Rattle.ae_bounds.specs.Rounding.{AreRounded}
+use Rattle.ae_bounds.specs.Rounding.{DoesCount, AreRounded}
 use Rattle.ae_bounds.specs.Combinations.{IsThere}
 use Rattle.ae_bounds.specs.Inner.Directions.{IsEarlier, AreIndexed}
 use Rattle.ae_bounds.specs.declared.combining.Opposed.{Opposed}
@@ -41,8 +41,8 @@ use Rattle.ae_bound_rest.specs.declared.combining.Both.{Both}
 use Rattle.ae_bound_rest.proofs.Roundings.{rounded_one, outside_none}
 
 -- ---- the rows that count for kept ones
-pub counted_cases : (P : Row → Type 0) (r : Row) → ((tag : ℕ) (u : Unrounded) → r.from ≡ Assumed tag → r.unrounded ≡ Some u → P (plain u.lin u.strict r.integral))
-    → ((tag : ℕ) → r.from ≡ Assumed tag → P (plain r.lin r.strict r.integral)) → ((lower upper : ℕ) → r.from ≡ Combined lower upper → P (plain r.lin r.strict r.integral)) → P (counted r)
+pub counted_cases : (P : Row → Type 0) (r : Row) → ((tag : ℕ) (u : Unrounded) → r.from ≡ Assumed tag → r.unrounded ≡ Some u → P (plain u.lin u.strict r.integral r.counts))
+    → ((tag : ℕ) → r.from ≡ Assumed tag → P (plain r.lin r.strict r.integral r.counts)) → ((lower upper : ℕ) → r.from ≡ Combined lower upper → P (plain r.lin r.strict r.integral true)) → P (counted r)
 counted_cases P r a b c = by_both r.from r.unrounded refl refl
   where
     by_both : (o : Origin) (u : Option Unrounded) → r.from ≡ o → r.unrounded ≡ u → P (counted_of o u r)
@@ -52,6 +52,15 @@ counted_cases P r a b c = by_both r.from r.unrounded refl refl
 
 pub counted_plain : (r : Row) → IsPlain (counted r)
 counted_plain r = counted_cases IsPlain r (λ tag u e f. refl) (λ tag e. refl) (λ i j e. refl)
+
+-- it counts where the kept one does
+pub counted_does : (r : Row) → DoesCount r → (counted r).counts ≡ true
+counted_does r d = counted_cases (λ (y : Row). y.counts ≡ true) r (λ tag u e f. d tag e) (λ tag e. d tag e) (λ i j e. refl)
+
+pub counts_back : (r : Row) (tag : ℕ) → r.from ≡ Assumed tag → (counted r).counts ≡ true → r.counts ≡ true
+counts_back r tag a =
+    counted_cases (λ (y : Row). y.counts ≡ true → r.counts ≡ true) r (λ n u e f h. h) (λ n e h. h)
+    (λ i j e h. absurd (let z : ◌≡◌ {A = Origin} (Assumed tag) (Combined i j) = sym a ∙ e in cc))
 
 pub counted_normal : (rows : List Row) → AllByRecursion (λ (r : Row). IsNormal r.lin) rows → AreRounded rows → (r : Row) → Contains rows r → IsNormal (counted r).lin
 counted_normal rows all rounded r c =
@@ -84,19 +93,19 @@ alone r e tag u f g = let z : ◌≡◌ {A = Option Unrounded} None (Some u) = s
 pub unrounded_none : (r : Row) → IsPlain r → r.unrounded ≡ None
 unrounded_none r e = ap (λ (x : Row). x.unrounded) e
 
-pub plain_is : (r : Row) (l : Lin) (s i : Bool) → r ≡ plain l s i → IsPlain r
-plain_is r l s i e = subst IsPlain (sym e) refl
+pub plain_is : (r : Row) (l : Lin) (s i c : Bool) → r ≡ plain l s i c → IsPlain r
+plain_is r l s i c e = subst IsPlain (sym e) refl
 
 pub rounding_plain : (p r : Row) → IsRoundingOf p r → IsPlain r
-rounding_plain p r h = plain_is r r.lin false true h.own
+rounding_plain p r h = plain_is r r.lin false true p.counts h.own
 
 -- a row over integers that allows equality, of a form
-pub same_plain : (p r : Row) → IsPlain p → p.integral ≡ true → p.strict ≡ false → r.lin ≡ p.lin → r ≡ plain r.lin false true → r ≡ p
-same_plain p r e i s f o = o ∙ (λ k. plain (f k) (sym s k) (sym i k)) ∙ sym e
+pub same_plain : (p r : Row) → IsPlain p → p.integral ≡ true → p.strict ≡ false → r.lin ≡ p.lin → r ≡ plain r.lin false true p.counts → r ≡ p
+same_plain p r e i s f o = o ∙ (λ k. plain (f k) (sym s k) (sym i k) p.counts) ∙ sym e
 
 -- what a row is rounded is one row
 pub rounding_one : (p r s : Row) → IsNormal p.lin → IsRoundingOf p r → IsRoundingOf p s → r ≡ s
-rounding_one p r s n h k = let e : r.lin ≡ s.lin = rounded_one p.strict p.lin n h.names r.lin s.lin h.is k.is in h.own ∙ ap (λ (l : Lin). plain l false true) e ∙ sym k.own
+rounding_one p r s n h k = let e : r.lin ≡ s.lin = rounded_one p.strict p.lin n h.names r.lin s.lin h.is k.is in h.own ∙ ap (λ (l : Lin). plain l false true p.counts) e ∙ sym k.own
 
 -- ---- rows that rounding leaves as they are
 pub itself_not : (p : Row) → (p.integral ≡ true → p.lin.parts ≢ [] → ⊥) → IsItself p
@@ -128,13 +137,13 @@ row_one_of p b q n h (inr k) = by_option b.rounded refl
     by_option (Some r) e = inr (e ∙ ap Some (rounding_one p r q n (subst (λ (o : Option Row). IfSome o (IsRoundingOf p)) e h.rounded) k))
 
 -- ---- rows that were added
-pub there_last : (rows : List Row) (r : Row) → r.unrounded ≡ None → IsThere (rows ++ r ∷ []) (meaning r.lin)
-there_last rows r e =
-    record { row = r; among = Contains-append_right rows (r ∷ []) r (contains_here r []); form = r.lin; of = own_unrounded r e; times = one_ℚ; positive = positive_one; same = scale_one ℕ_discrete (meaning r.lin) }
+pub there_last : (rows : List Row) (r : Row) → r.counts ≡ true → r.unrounded ≡ None → IsThere (rows ++ r ∷ []) (meaning r.lin)
+there_last rows r c e =
+    record { row = r; among = Contains-append_right rows (r ∷ []) r (contains_here r []); form = r.lin; of = own_unrounded r (λ tag f. c) e; times = one_ℚ; positive = positive_one; same = scale_one ℕ_discrete (meaning r.lin) }
 
-pub there_noted : {T : Type 0} (rows new : List Row) (r : Row) (result : Result T Fail) → r.unrounded ≡ None → OnOk result (new ≡ rows ++ r ∷ []) → OnOk result (IsThere new (meaning r.lin))
-there_noted rows new r (Ok x) u e = subst (λ (rs : List Row). IsThere rs (meaning r.lin)) (sym e) (there_last rows r u)
-there_noted rows new r (Err x) u e = tt
+pub there_noted : {T : Type 0} (rows new : List Row) (r : Row) (result : Result T Fail) → r.counts ≡ true → r.unrounded ≡ None → OnOk result (new ≡ rows ++ r ∷ []) → OnOk result (IsThere new (meaning r.lin))
+there_noted rows new r (Ok x) c u e = subst (λ (rs : List Row). IsThere rs (meaning r.lin)) (sym e) (there_last rows r c u)
+there_noted rows new r (Err x) c u e = tt
 
 pub grown_noted : {T : Type 0} (rows new : List Row) (j k : Noted) (r : Row) (result : Result T Fail) → IsMade rows r → IsNormal r.lin → ¬ IsThere rows (meaning r.lin) → OnOk result (new ≡ rows ++ r ∷ [])
     → OnOk result (k ≡ record j { lines = j.lines ++ line.Combine r.strict r.lin ∷ [] }) → OnErr result ((new ≡ rows) × (k ≡ j)) → IsGrown rows j.lines new k.lines
@@ -195,8 +204,16 @@ made_plain : (a : List Row) (r : Row) → IsMade a r → IsPlain r
 made_plain a r m = by_form m.is
   where
     by_form : IsFormRow m.form (m.first.strict || m.second.strict) (m.first.integral && m.second.integral) r → IsPlain r
-    by_form (inl e) = plain_is r m.form (m.first.strict || m.second.strict) (m.first.integral && m.second.integral) e
-    by_form (inr h) = rounding_plain (plain m.form (m.first.strict || m.second.strict) (m.first.integral && m.second.integral)) r h
+    by_form (inl e) = plain_is r m.form (m.first.strict || m.second.strict) (m.first.integral && m.second.integral) true e
+    by_form (inr h) = rounding_plain (plain m.form (m.first.strict || m.second.strict) (m.first.integral && m.second.integral) true) r h
+
+-- and combinations count
+pub made_counts : (a : List Row) (r : Row) → IsMade a r → r.counts ≡ true
+made_counts a r m = by_form m.is
+  where
+    by_form : IsFormRow m.form (m.first.strict || m.second.strict) (m.first.integral && m.second.integral) r → r.counts ≡ true
+    by_form (inl e) = ap (λ (y : Row). y.counts) e
+    by_form (inr h) = ap (λ (y : Row). y.counts) h.own
 
 pub plain_grown : (a : List Row) (js : List Line) → ((r : Row) → Contains a r → IsPlain r) → (b : List Row) (ks : List Line) → IsGrown a js b ks → (r : Row) → Contains b r → IsPlain r
 plain_grown a js all _ _ as_it_was r c = all r c
@@ -231,7 +248,7 @@ module _ (sure : List Row) (p q : Row) (normal_p : IsNormal p.lin) (normal_q : I
     wide = h.wide;
   }
 
-  module _ (form : Lin) (row : Row) (is : row ≡ plain form (p.strict || q.strict) (p.integral && q.integral)) (normal : IsNormal form) (same : SameMeaning (meaning form) (combination o.name (meaning p.lin) (meaning q.lin))) where
+  module _ (form : Lin) (row : Row) (is : row ≡ plain form (p.strict || q.strict) (p.integral && q.integral) true) (normal : IsNormal form) (same : SameMeaning (meaning form) (combination o.name (meaning p.lin) (meaning q.lin))) where
     pub form_made : (r : Row) → IsFormRow form (p.strict || q.strict) (p.integral && q.integral) r → IsStandingIn sure p → IsStandingIn sure q → IsMade sure r
     form_made r h a b = record { first = p; second = q; name = o.name; opposed = opposed_in a b; form = form; form_normal = normal; same = same; is = h }
 

@@ -38,12 +38,12 @@ use Rattle.ae_bounds.specs.declared.rows.Row.{Row}
 use Rattle.ae_bounds.specs.declared.rows.Unrounded.{Unrounded}
 use Rattle.ae_bounds.specs.declared.rows.Origin.{Origin}
 use Rattle.ae_bounds.specs.declared.rows.Origin.TheVariants.{Assumed, Combined}
-use Rattle.ae_bounds.specs.Rounding.{StaysUnrounded, IsRowOf, HasForm, IsLeastRounded, WasRounded, AreSettled}
+use Rattle.ae_bounds.specs.Rounding.{StaysUnrounded, DoesCount, IsRowOf, HasForm, IsLeastRounded, WasRounded, AreSettled}
 use Rattle.ae_bounds.specs.Rounding.StaysUnrounded.{a_number, outside, no_change}
 use Rattle.ae_bounds.specs.Rounding.IsRowOf.{as_it_is, rounded}
 use Rattle.ae_bounds.specs.Rounding.HasForm.{own as has_own, assumed}
 use Rattle.ae_bounds.specs.Combinations.{IsThere, IsCombinationOf, IsDone}
-use Rattle.ae_bounds.proofs.OwnForms.{own_unrounded}
+use Rattle.ae_bounds.proofs.OwnForms.{counts_of, own_unrounded}
 use Rattle.ae_bounds.proofs.Rounded.{IsWeaker}
 use Rattle.ae_bounds.proofs.SameDirection.{turned}
 use Rattle.ae_bounds.proofs.Zeros.{bare_form}
@@ -61,7 +61,7 @@ use Rattle.ae_bound_rest.proofs.Roundings.{divided_some, rounded_again}
 use Rattle.ae_bound_rest.proofs.Above.{IsAbove, same_above, firm_above, above_on, weaker_factor, above_lower, above_upper, combination_above, multiple_of}
 use Rattle.ae_bound_rest.proofs.Solid.{rounded_above, most_by_firm, weaker_rounded}
 use Rattle.ae_bound_rest.proofs.Edges.{loose_inside, beyond, over_edge, rounded_constant}
-use Rattle.ae_bound_rest.proofs.Counting.{counted_cases, counted_plain, unrounded_none, contains_grown}
+use Rattle.ae_bound_rest.proofs.Counting.{counted_cases, counted_plain, counted_does, unrounded_none, contains_grown}
 use Rattle.ae_bound_rest.proofs.Growth.{IsFine, fine_in, grown_fine, in_map, map_in}
 use Rattle.ae_bound_rest.proofs.Leaving.{member, none_left}
 
@@ -144,8 +144,8 @@ module _ (x : Setting) (js : List Line) (rows : List Row) (a : AreAgreed x js ro
       by_unrounded None e = by_stays (settled r c e i)
       by_unrounded (Some u) e = let w = done.rounded r u c e in may_equal w.loose (rounded_again u.strict u.lin w.normal w.names r.lin w.is)
 
-  own_dominated : (r : Row) → Contains rows r → r.lin.parts ≢ [] → IsDominated rows (plain r.lin r.strict r.integral)
-  own_dominated r c m = record { row = r; among = c; sort = refl; names = m; above = record { weaker = itself_weaker (meaning r.lin); firm = λ e. inr (and_parts r.integral r.strict e).1 } }
+  own_dominated : (r : Row) → Contains rows r → (b : Bool) → r.lin.parts ≢ [] → IsDominated rows (plain r.lin r.strict r.integral b)
+  own_dominated r c b m = record { row = r; among = c; sort = refl; names = m; above = record { weaker = itself_weaker (meaning r.lin); firm = λ e. inr (and_parts r.integral r.strict e).1 } }
 
   counted_dominated : (r : Row) → Contains rows r → (counted r).lin.parts ≢ [] → IsDominated rows (counted r)
   counted_dominated r c =
@@ -158,7 +158,7 @@ module _ (x : Setting) (js : List Line) (rows : List Row) (a : AreAgreed x js ro
         names = divided_names u r w;
         above = (let h = rounded_above u.strict u.lin r.lin w.normal w.names w.row_normal w.is r.strict in record { weaker = h.weaker; firm = λ d. h.firm ((and_parts r.integral u.strict d).1) });
       })
-      (λ tag e m. own_dominated r c m) (λ i j e m. own_dominated r c m)
+      (λ tag e m. own_dominated r c r.counts m) (λ i j e m. own_dominated r c true m)
     where
       divided_names : (u : Unrounded) (r : Row) → WasRounded u r → r.lin.parts ≢ []
       divided_names u r w = divided_some u.strict u.lin w.normal w.names r.lin w.is
@@ -221,14 +221,14 @@ module _ (x : Setting) (js : List Line) (rows : List Row) (a : AreAgreed x js ro
       by_row (rounded j z d s u) = absurd (true_false (sym t ∙ s))
 
   -- ---- a combination of two rows that are above kept ones
-  module _ (sure : List Row) (start : (r : Row) → Contains rows r → Contains sure (counted r)) (p q : Row) (n : ℕ) (form : Lin) (sorted : IsSorted x (plain form (p.strict || q.strict) (p.integral && q.integral)))
+  module _ (sure : List Row) (start : (r : Row) → Contains rows r → Contains sure (counted r)) (p q : Row) (n : ℕ) (form : Lin) (sorted : IsSorted x (plain form (p.strict || q.strict) (p.integral && q.integral) true))
       (d : IsDominated rows p) (e : IsDominated rows q) (low : IsLower n (meaning p.lin)) (up : IsUpper n (meaning q.lin)) (same : SameMeaning (meaning form) (combination n (meaning p.lin) (meaning q.lin)))
       (some : form.parts ≢ []) (normal : IsNormal form) where
     abbrev strict : Bool
     strict = (p.integral && q.integral) && (p.strict || q.strict)
 
     abbrev own : Row
-    own = plain form (p.strict || q.strict) (p.integral && q.integral)
+    own = plain form (p.strict || q.strict) (p.integral && q.integral) true
 
     done_row : IsDone rows d.row e.row n
     done_row = done.closed n d.row e.row d.among e.among (above_lower n (meaning p.lin) (meaning d.row.lin) d.above.weaker low) (above_upper n (meaning q.lin) (meaning e.row.lin) e.above.weaker up)
@@ -276,9 +276,9 @@ module _ (x : Setting) (js : List Line) (rows : List Row) (a : AreAgreed x js ro
     near_by r c h = dominated (record { row = r; among = c; sort = sort_below r c h.weaker; names = some_below r.lin h.weaker; above = h })
 
     -- the row that is made is held by a row that allows equality: a positive number is left over, or no more than a multiple
-    near_loose : (r : Row) → Contains rows r → IsWeaker (meaning made.lin) (meaning r.lin) → ((c : made.integral ≡ true) → made.strict ≡ true → IsOutside true made.lin → IsMultiple (meaning (counted r).lin) (meaning made.lin))
+    near_loose : (r : Row) → Contains rows r → DoesCount r → IsWeaker (meaning made.lin) (meaning r.lin) → ((c : made.integral ≡ true) → made.strict ≡ true → IsOutside true made.lin → IsMultiple (meaning (counted r).lin) (meaning made.lin))
         → IsNear rows sure own
-    near_loose r c w multiple = by_strict strict refl
+    near_loose r c counts w multiple = by_strict strict refl
       where
         weak : IsWeaker (meaning form) (meaning r.lin)
         weak = weaker_on (meaning form) (meaning made.lin) (meaning r.lin) to_made.weaker w
@@ -312,7 +312,7 @@ module _ (x : Setting) (js : List Line) (rows : List Row) (a : AreAgreed x js ro
                 row = counted r;
                 among = start r c;
                 form = (counted r).lin;
-                of = own_unrounded (counted r) (unrounded_none (counted r) (counted_plain r));
+                of = own_unrounded (counted r) (λ tag e. counted_does r counts) (unrounded_none (counted r) (counted_plain r));
                 times = m.times;
                 positive = m.positive;
                 same = m.same;
@@ -337,6 +337,9 @@ module _ (x : Setting) (js : List Line) (rows : List Row) (a : AreAgreed x js ro
         t : IsThere rows (meaning made.lin)
         t = done_row.held.there
 
+        counting : DoesCount t.row
+        counting = counts_of t.row t.form t.of
+
         down : (l : Lin) → IsMultiple (meaning l) (meaning made.lin) → IsWeaker (meaning made.lin) (meaning l)
         down l k = multiple_weaker (meaning made.lin) (meaning l) (turned (meaning l) (meaning made.lin) k)
 
@@ -355,7 +358,7 @@ module _ (x : Setting) (js : List Line) (rows : List Row) (a : AreAgreed x js ro
         by_own : (b : Bool) → t.row.strict ≡ b → ¬ IsLeastRounded t.row → IsMultiple (meaning t.row.lin) (meaning made.lin) → IsNear rows sure own
         by_own true f more k =
             near_by t.row t.among (above_on (meaning form) (meaning made.lin) (meaning t.row.lin) strict made.strict t.row.strict to_made (record { weaker = down t.row.lin k; firm = λ z. inr f }))
-        by_own false f more k = near_loose t.row t.among (down t.row.lin k) (own_multiple more f k)
+        by_own false f more k = near_loose t.row t.among counting (down t.row.lin k) (own_multiple more f k)
 
         by_earlier : (u : Unrounded) (tag : ℕ) → t.row.from ≡ Assumed tag → t.row.unrounded ≡ Some u → IsMultiple (meaning u.lin) (meaning made.lin) → (b : Bool) → u.strict ≡ b → IsNear rows sure own
         by_earlier u tag f g k true h =
@@ -366,13 +369,13 @@ module _ (x : Setting) (js : List Line) (rows : List Row) (a : AreAgreed x js ro
             (rounded_above u.strict u.lin t.row.lin w.normal w.names w.row_normal w.is t.row.strict)))
         by_earlier u tag f g k false h =
             let w = done.rounded t.row u t.among g in
-            let is : counted t.row ≡ plain u.lin u.strict t.row.integral = (λ i. counted_of (f i) (g i) t.row) in
-            near_loose t.row t.among (weaker_on (meaning made.lin) (meaning u.lin) (meaning t.row.lin) (down u.lin k) (rounded_above u.strict u.lin t.row.lin w.normal w.names w.row_normal w.is t.row.strict).weaker)
+            let is : counted t.row ≡ plain u.lin u.strict t.row.integral t.row.counts = (λ i. counted_of (f i) (g i) t.row) in
+            near_loose t.row t.among counting (weaker_on (meaning made.lin) (meaning u.lin) (meaning t.row.lin) (down u.lin k) (rounded_above u.strict u.lin t.row.lin w.normal w.names w.row_normal w.is t.row.strict).weaker)
             (λ i s o. subst (λ (y : Row). IsMultiple (meaning y.lin) (meaning made.lin)) (sym is) k)
 
         by_form : (l : Lin) → HasForm t.row l → IsMultiple (meaning l) (meaning made.lin) → IsNear rows sure own
-        by_form _ (has_own more) k = by_own t.row.strict refl more k
-        by_form _ (assumed tag u f g) k = by_earlier u tag f g k u.strict refl
+        by_form _ (has_own d more) k = by_own t.row.strict refl more k
+        by_form _ (assumed d tag u f g) k = by_earlier u tag f g k u.strict refl
 
   -- ---- all rows that count
   made_dominated : (rs : List Row) (ls : List Line) → ((r : Row) → Contains rows r → Contains rs (counted r)) → ((s : Row) → Contains rs s → IsFine x ls s) → ((s : Row) → Contains rs s → s.lin.parts ≢ [] → IsDominated rows s)
@@ -389,22 +392,22 @@ module _ (x : Setting) (js : List Line) (rows : List Row) (a : AreAgreed x js ro
       second : IsDominated rows m.second
       second = standing m.second m.opposed.second_in (some_parts m.second.lin m.name (negative_some (factor_at m.name (meaning m.second.lin)) m.opposed.above.sign))
 
-      sorted : IsSorted x (plain m.form (m.first.strict || m.second.strict) (m.first.integral && m.second.integral))
+      sorted : IsSorted x (plain m.form (m.first.strict || m.second.strict) (m.first.integral && m.second.integral) true)
       sorted =
-          combined_sorted x m.first m.second (plain m.form (m.first.strict || m.second.strict) (m.first.integral && m.second.integral)) m.name (fine_in x ls rs fine m.first m.opposed.first_in).sorted
+          combined_sorted x m.first m.second (plain m.form (m.first.strict || m.second.strict) (m.first.integral && m.second.integral) true) m.name (fine_in x ls rs fine m.first m.opposed.first_in).sorted
           (fine_in x ls rs fine m.second m.opposed.second_in).sorted m.opposed.below m.opposed.above refl (λ k h z. h (m.same.factors k ∙ z))
 
-      near : m.form.parts ≢ [] → IsNear rows rs (plain m.form (m.first.strict || m.second.strict) (m.first.integral && m.second.integral))
+      near : m.form.parts ≢ [] → IsNear rows rs (plain m.form (m.first.strict || m.second.strict) (m.first.integral && m.second.integral) true)
       near n = form_near rs start m.first m.second m.name m.form sorted first second m.opposed.below m.opposed.above m.same n m.form_normal
 
       -- the combination as it is
-      plainly : r ≡ plain m.form (m.first.strict || m.second.strict) (m.first.integral && m.second.integral) → IsNear rows rs (plain m.form (m.first.strict || m.second.strict) (m.first.integral && m.second.integral)) → IsDominated rows r
+      plainly : r ≡ plain m.form (m.first.strict || m.second.strict) (m.first.integral && m.second.integral) true → IsNear rows rs (plain m.form (m.first.strict || m.second.strict) (m.first.integral && m.second.integral) true) → IsDominated rows r
       plainly e (dominated d) = subst (IsDominated rows) (sym e) d
       plainly e (held k) = absurd (new (subst (λ (y : Row). IsThere rs (meaning y.lin)) (sym e) k.there))
 
       -- and rounded
-      roundly : IsRoundingOf (plain m.form (m.first.strict || m.second.strict) (m.first.integral && m.second.integral)) r → IsNear rows rs (plain m.form (m.first.strict || m.second.strict) (m.first.integral && m.second.integral)) → IsDominated rows r
-      roundly h (dominated d) = rounding_dominated (plain m.form (m.first.strict || m.second.strict) (m.first.integral && m.second.integral)) r m.form_normal d h
+      roundly : IsRoundingOf (plain m.form (m.first.strict || m.second.strict) (m.first.integral && m.second.integral) true) r → IsNear rows rs (plain m.form (m.first.strict || m.second.strict) (m.first.integral && m.second.integral) true) → IsDominated rows r
+      roundly h (dominated d) = rounding_dominated (plain m.form (m.first.strict || m.second.strict) (m.first.integral && m.second.integral) true) r m.form_normal d h
       roundly h (held k) =
           weakly r k.row k.among (k.sort ∙ h.whole ∙ sym (ap (λ (y : Row). y.integral) h.own)) k.names (ap (λ (y : Row). y.strict) h.own)
           (weaker_on (meaning r.lin) (meaning k.edge) (meaning k.row.lin)

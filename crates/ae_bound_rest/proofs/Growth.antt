@@ -41,16 +41,16 @@ use Rattle.ae_bound_rest.specs.Rest.{plain, counted, counted_of, IsRoundingOf, I
 use Rattle.ae_bound_rest.specs.Rest.IsGrown.{as_it_was, one_more}
 use Rattle.ae_bound_rest.specs.Laws.{IsWholeName, IsStanding, IsSorted, AreAgreed}
 use Rattle.ae_bound_rest.specs.Inner.Pairs.{IsPlain}
-use Rattle.ae_bound_rest.proofs.Counting.{counted_cases, counted_plain, plain_grown, unrounded_none}
+use Rattle.ae_bound_rest.proofs.Counting.{counted_cases, counted_plain, counted_does, made_counts, plain_grown, unrounded_none}
 use Rattle.ae_bound_rest.proofs.Agreed.{all_whole, combined_sorted, names_weaker, standing_stays, own_standing}
 use Rattle.ae_bound_rest.proofs.Pairing.{scaled, absent_back, over_back}
 
 -- ---- the rows that count for kept ones
-pub counted_combined : (r : Row) (lower upper : ℕ) → r.from ≡ Combined lower upper → counted r ≡ plain r.lin r.strict r.integral
+pub counted_combined : (r : Row) (lower upper : ℕ) → r.from ≡ Combined lower upper → counted r ≡ plain r.lin r.strict r.integral true
 counted_combined r lower upper e = ap (λ (o : Origin). counted_of o r.unrounded r) e
 
 -- what a kept row was, and the row
-pub rounding_was : (u : Unrounded) (r : Row) → WasRounded u r → IsRoundingOf (plain u.lin u.strict r.integral) (plain r.lin false true)
+pub rounding_was : (u : Unrounded) (r : Row) → WasRounded u r → IsRoundingOf (plain u.lin u.strict r.integral true) (plain r.lin false true true)
 rounding_was u r w = record { whole = w.integral; names = w.names; normal = w.row_normal; is = w.is; own = refl }
 
 pub in_map : {X Y : Type 0} (f : X → Y) (xs : List X) (y : Y) → Contains (map f xs) y → (x : X) × Contains xs x × (f x ≡ y)
@@ -122,7 +122,7 @@ opposed_fine x js sure all p q n o =
     }
 
 -- ---- one combination more
-module _ (x : Setting) (js : List Line) (sure : List Row) (all : (r : Row) → Contains sure r → IsFine x js r) (known : (g : Sum) → IsSure x js g → (s : Row) × Contains sure s × (sum_of_lin s.lin ≡ g)) (plain_all : (s : Row) → Contains sure s → s.unrounded ≡ None) (r : Row) (m : IsMade sure r)
+module _ (x : Setting) (js : List Line) (sure : List Row) (all : (r : Row) → Contains sure r → IsFine x js r) (known : (g : Sum) → IsSure x js g → (s : Row) × Contains sure s × (s.counts ≡ true) × (sum_of_lin s.lin ≡ g)) (plain_all : (s : Row) → Contains sure s → s.unrounded ≡ None) (r : Row) (m : IsMade sure r)
     (normal : IsNormal r.lin) (new : ¬ IsThere sure (meaning r.lin)) where
   abbrev p : Row
   p = m.first
@@ -131,7 +131,7 @@ module _ (x : Setting) (js : List Line) (sure : List Row) (all : (r : Row) → C
   q = m.second
 
   abbrev form_row : Row
-  form_row = plain m.form (p.strict || q.strict) (p.integral && q.integral)
+  form_row = plain m.form (p.strict || q.strict) (p.integral && q.integral) true
 
   opposed : AreOpposed x js m.name p.strict p.lin q.strict q.lin
   opposed = opposed_fine x js sure all p q m.name m.opposed
@@ -156,8 +156,8 @@ module _ (x : Setting) (js : List Line) (sure : List Row) (all : (r : Row) → C
   no_multiple : (g : Sum) → IsSure x js g → ¬ IsMultiple (sum_of_lin r.lin) g
   no_multiple g s u =
       let a = known g s in
-      let k = multiple_form r.lin (a.0).lin (subst (IsMultiple (sum_of_lin r.lin)) (sym a.2) u) in
-      new (record { row = a.0; among = a.1; form = (a.0).lin; of = own_unrounded a.0 (plain_all a.0 a.1); times = k.0; positive = k.1; same = k.2 })
+      let k = multiple_form r.lin (a.0).lin (subst (IsMultiple (sum_of_lin r.lin)) (sym a.3) u) in
+      new (record { row = a.0; among = a.1; form = (a.0).lin; of = own_unrounded a.0 (λ tag e. a.2) (plain_all a.0 a.1); times = k.0; positive = k.1; same = k.2 })
 
   pub legal_line : MayCombine x js r.strict r.lin
   legal_line = by_form m.is
@@ -198,17 +198,17 @@ module _ (x : Setting) (js : List Line) (sure : List Row) (all : (r : Row) → C
             (record { normal = normal; named = row_named; sorted = row_sorted; standing = own_standing x js r normal row_sorted })
       ]
 
-  pub known_more : (g : Sum) → IsSure x (js ++ line.Combine r.strict r.lin ∷ []) g → (s : Row) × Contains (sure ++ r ∷ []) s × (sum_of_lin s.lin ≡ g)
+  pub known_more : (g : Sum) → IsSure x (js ++ line.Combine r.strict r.lin ∷ []) g → (s : Row) × Contains (sure ++ r ∷ []) s × (s.counts ≡ true) × (sum_of_lin s.lin ≡ g)
   known_more g s =
       elim (sure_less x js r.strict r.lin g s) [
-        | inl h ↦ (let a = known g h in (a.0, Contains-append_left sure (r ∷ []) a.0 a.1, a.2))
-        | inr e ↦ (r, Contains-append_right sure (r ∷ []) r (contains_here r []), sym e)
+        | inl h ↦ (let a = known g h in (a.0, Contains-append_left sure (r ∷ []) a.0 a.1, a.2, a.3))
+        | inr e ↦ (r, Contains-append_right sure (r ∷ []) r (contains_here r []), made_counts sure r m, sym e)
       ]
 
 -- ---- all of them
 pub record AreFine (x : Setting) (bound : ℕ) (js : List Line) (sure : List Row) (ks : List Line) : Type 0 where
   pub fine : (r : Row) → Contains sure r → IsFine x ks r
-  pub known : (g : Sum) → IsSure x ks g → (s : Row) × Contains sure s × (sum_of_lin s.lin ≡ g)
+  pub known : (g : Sum) → IsSure x ks g → (s : Row) × Contains sure s × (s.counts ≡ true) × (sum_of_lin s.lin ≡ g)
   pub added : List Line
   pub lines : ks ≡ js ++ added
   pub are_legal : AreLegal x bound js added
@@ -226,23 +226,23 @@ module _ (x : Setting) (bound : ℕ) (js : List Line) (rows : List Row) (a : Are
   counted_named : (r : Row) → Contains rows r → IsOver (length x.names) (meaning (counted r).lin)
   counted_named r c =
       counted_cases (λ (y : Row). IsOver (length x.names) (meaning y.lin)) r
-      (λ tag u e f. let w = done.rounded r u c f in over_back (plain u.lin u.strict r.integral) (plain r.lin false true) w.normal (rounding_was u r w) (length x.names) (row_over r c)) (λ tag e. row_over r c) (λ i j e. row_over r c)
+      (λ tag u e f. let w = done.rounded r u c f in over_back (plain u.lin u.strict r.integral true) (plain r.lin false true true) w.normal (rounding_was u r w) (length x.names) (row_over r c)) (λ tag e. row_over r c) (λ i j e. row_over r c)
 
-  own_sorted : (r : Row) → Contains rows r → IsSorted x (plain r.lin r.strict r.integral)
-  own_sorted r c = record { whole = (a.sorted r c).whole; integral = (a.sorted r c).integral }
+  own_sorted : (r : Row) → Contains rows r → (b : Bool) → IsSorted x (plain r.lin r.strict r.integral b)
+  own_sorted r c b = record { whole = (a.sorted r c).whole; integral = (a.sorted r c).integral }
 
   counted_sorted : (r : Row) → Contains rows r → IsSorted x (counted r)
   counted_sorted r c =
       counted_cases (IsSorted x) r
       (λ tag u e f. let w = done.rounded r u c f in
-      let names : (k : ℕ) → factor_at k (meaning u.lin) ≢ zero_ℚ → factor_at k (meaning r.lin) ≢ zero_ℚ = λ k m z. m (absent_back (plain u.lin u.strict r.integral) (plain r.lin false true) w.normal (rounding_was u r w) k z) in
+      let names : (k : ℕ) → factor_at k (meaning u.lin) ≢ zero_ℚ → factor_at k (meaning r.lin) ≢ zero_ℚ = λ k m z. m (absent_back (plain u.lin u.strict r.integral true) (plain r.lin false true true) w.normal (rounding_was u r w) k z) in
       record { whole = λ k m i. (a.sorted r c).whole k (names k m) i; integral = λ k m h. (a.sorted r c).integral k (names k m) h })
-      (λ tag e. own_sorted r c) (λ i j e. own_sorted r c)
+      (λ tag e. own_sorted r c r.counts) (λ i j e. own_sorted r c true)
 
   not_zero : (r : Row) (lower upper : ℕ) → Contains rows r → r.from ≡ Combined lower upper → ¬ IsZero (meaning r.lin)
   not_zero r lower upper c e z = done.loose (record { row = r; among = c; zero = z; lower = lower; upper = upper; from = e })
 
-  combined_standing : (r : Row) (lower upper : ℕ) → Contains rows r → r.from ≡ Combined lower upper → IsStanding x js (plain r.lin r.strict r.integral)
+  combined_standing : (r : Row) (lower upper : ℕ) → Contains rows r → r.from ≡ Combined lower upper → IsStanding x js (plain r.lin r.strict r.integral true)
   combined_standing r lower upper c e =
       let n = a.noted r lower upper c e (not_zero r lower upper c e) in
       record {
@@ -262,10 +262,10 @@ module _ (x : Setting) (bound : ℕ) (js : List Line) (rows : List Row) (a : Are
       let m = in_map counted rows s h in
       subst (IsFine x js) m.2 (record { normal = counted_normal m.0 m.1; named = counted_named m.0 m.1; sorted = counted_sorted m.0 m.1; standing = counted_standing m.0 m.1 })
 
-  start_known : (g : Sum) → IsSure x js g → (s : Row) × Contains (map counted rows) s × (sum_of_lin s.lin ≡ g)
-  start_known _ (sure_literal l s t b h e) = let k = a.literals l s t b h e in (counted k.0, map_in counted rows k.0 k.2, k.4)
+  start_known : (g : Sum) → IsSure x js g → (s : Row) × Contains (map counted rows) s × (s.counts ≡ true) × (sum_of_lin s.lin ≡ g)
+  start_known _ (sure_literal l s t b h e) = let k = a.literals l s t b h e in (counted k.0, map_in counted rows k.0 k.2, counted_does k.0 (λ tag f. k.4), k.5)
   start_known _ (sure_line before after b h e o) =
-      let k = a.lines before after b h e o in (counted k.0, map_in counted rows k.0 k.3, ap (λ (y : Row). sum_of_lin y.lin) (counted_combined k.0 k.1 k.2 k.4) ∙ ap sum_of_lin k.5)
+      let k = a.lines before after b h e o in (counted k.0, map_in counted rows k.0 k.3, ap (λ (y : Row). y.counts) (counted_combined k.0 k.1 k.2 k.4), ap (λ (y : Row). sum_of_lin y.lin) (counted_combined k.0 k.1 k.2 k.4) ∙ ap sum_of_lin k.5)
 
   start_plain : (s : Row) → Contains (map counted rows) s → IsPlain s
   start_plain s h = let m = in_map counted rows s h in subst IsPlain m.2 (counted_plain m.0)

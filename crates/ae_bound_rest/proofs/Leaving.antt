@@ -42,7 +42,8 @@ use Rattle.ae_bound_widths.specs.Fractions.{IsNoted}
 use Rattle.ae_bound_widths.proofs.InStep.{line_before, noted_more}
 use Rattle.ae_bound_rest.proofs.Agreed.{combined_sorted}
 use Rattle.ae_bound_rest.proofs.Roundings.{rounded_one, rounded_again}
-use Rattle.ae_bound_rest.proofs.Counting.{contains_grown, plain_grown, counted_cases}
+use Rattle.ae_bounds.proofs.OwnForms.{counts_of}
+use Rattle.ae_bound_rest.proofs.Counting.{contains_grown, plain_grown, counted_cases, counts_back}
 use Rattle.ae_bound_rest.proofs.Growth.{fine_in, AreFine, grown_fine, map_in, in_map, counted_combined}
 
 -- forms with one sum are one form
@@ -115,7 +116,7 @@ module _ (x : Setting) (js : List Line) (rows : List Row) (ks : List Line) (a : 
 
           by_place : IsStandingIn sure p → (q : Row) × IsStandingIn sure q × (q.lin ≡ r) × (q.strict ≡ false) × (r.parts ≢ [] → q.integral ≡ true)
           by_place (inl c) =
-              (plain r false true, inr (p, c, record { whole = i names; names = own_names; normal = n; is = is; own = refl }), refl, refl, λ z. refl)
+              (plain r false true p.counts, inr (p, c, record { whole = i names; names = own_names; normal = n; is = is; own = refl }), refl, refl, λ z. refl)
           -- what is rounded isn't rounded any further
           by_place (inr h) =
               let loose : p.strict ≡ false = ap (λ (y : Row). y.strict) (h.2).own in
@@ -130,25 +131,25 @@ module _ (x : Setting) (js : List Line) (rows : List Row) (ks : List Line) (a : 
   member _ _ (of_whole f w) = let k = (whole_member _ f w).1 in (k.0, k.1, ap sum_of_lin k.2, k.3)
 
   -- each row that counts is surely there
-  sure_start : (s : Row) → Contains (map counted rows) s → IsSure x ks (sum_of_lin s.lin)
+  sure_start : (s : Row) → Contains (map counted rows) s → s.counts ≡ true → IsSure x ks (sum_of_lin s.lin)
   sure_start s h =
       let m = in_map counted rows s h in
-      subst (λ (y : Row). IsSure x ks (sum_of_lin y.lin)) m.2 (by_origin m.0 m.1 (m.0).from refl)
+      subst (λ (y : Row). y.counts ≡ true → IsSure x ks (sum_of_lin y.lin)) m.2 (by_origin m.0 m.1 (m.0).from refl)
     where
-      by_origin : (r : Row) → Contains rows r → (o : Origin) → r.from ≡ o → IsSure x ks (sum_of_lin (counted r).lin)
-      by_origin r c (Assumed tag) e = given.sure r tag c e
-      by_origin r c (Combined lower upper) e =
+      by_origin : (r : Row) → Contains rows r → (o : Origin) → r.from ≡ o → (counted r).counts ≡ true → IsSure x ks (sum_of_lin (counted r).lin)
+      by_origin r c (Assumed tag) e f = given.sure r tag c e (counts_back r tag e f)
+      by_origin r c (Combined lower upper) e f =
           let n = still_noted x (map counted rows) js sure ks all.grown r (a.noted r lower upper c e (λ z. done.loose (record { row = r; among = c; zero = z; lower = lower; upper = upper; from = e }))) in
           subst (λ (y : Row). IsSure x ks (sum_of_lin y.lin)) (sym (counted_combined r lower upper e)) (sure_line n.0 n.1 r.strict r.lin n.2 n.3)
 
-  is_there_sure : (s : Row) → Contains sure s → IsSure x ks (sum_of_lin s.lin)
-  is_there_sure s c = in_growth sure ks all.grown [] (sym (append-nil ks)) tt s c
+  is_there_sure : (s : Row) → Contains sure s → s.counts ≡ true → IsSure x ks (sum_of_lin s.lin)
+  is_there_sure s c f = in_growth sure ks all.grown [] (sym (append-nil ks)) tt s c f
     where
-      in_growth : (rs : List Row) (ls : List Line) → IsGrown (map counted rows) js rs ls → (more : List Line) → ks ≡ ls ++ more → OnlyCombines more → (s : Row) → Contains rs s → IsSure x ks (sum_of_lin s.lin)
-      in_growth _ _ as_it_was more e o s c = sure_start s c
-      in_growth _ _ (one_more rs ls r g m n d) more e o s c =
+      in_growth : (rs : List Row) (ls : List Line) → IsGrown (map counted rows) js rs ls → (more : List Line) → ks ≡ ls ++ more → OnlyCombines more → (s : Row) → Contains rs s → s.counts ≡ true → IsSure x ks (sum_of_lin s.lin)
+      in_growth _ _ as_it_was more e o s c f = sure_start s c f
+      in_growth _ _ (one_more rs ls r g m n d) more e o s c f =
           elim (Contains-append_cases rs (r ∷ []) s c) [
-            | inl h ↦ in_growth rs ls g (line.Combine r.strict r.lin ∷ more) (e ∙ append_assoc ls (line.Combine r.strict r.lin ∷ []) more) o s h
+            | inl h ↦ in_growth rs ls g (line.Combine r.strict r.lin ∷ more) (e ∙ append_assoc ls (line.Combine r.strict r.lin ∷ []) more) o s h f
             | inr h ↦ subst (λ (y : Row). IsSure x ks (sum_of_lin y.lin)) (contains_one r s h)
                 (sure_line ls more r.strict r.lin (e ∙ append_assoc ls (line.Combine r.strict r.lin ∷ []) more) o)
           ]
@@ -195,11 +196,11 @@ module _ (x : Setting) (js : List Line) (rows : List Row) (ks : List Line) (a : 
     not_there h e t =
         let own_form : t.form ≡ t.row.lin = by_form t.form t.of in
         let multiple = sum_multiple h t.row.lin t.times t.positive (subst (λ (l : Lin). SameForm ℕ_discrete (scale t.times (meaning l)) (meaning h)) own_form t.same) in
-        by_sure (sum_of_lin t.row.lin) (is_there_sure t.row t.among) (subst (λ (s : Sum). IsMultiple s (sum_of_lin t.row.lin)) (sym e) multiple)
+        by_sure (sum_of_lin t.row.lin) (is_there_sure t.row t.among (counts_of t.row t.form t.of 0 (ap (λ (y : Row). y.from) (is_plain t.row t.among)))) (subst (λ (s : Sum). IsMultiple s (sum_of_lin t.row.lin)) (sym e) multiple)
       where
         by_form : (l : Lin) → HasForm t.row l → l ≡ t.row.lin
-        by_form _ (own m) = refl
-        by_form _ (assumed tag u o v) = absurd (let z : ◌≡◌ {A = Option Unrounded} None (Some u) = sym (ap (λ (y : Row). y.unrounded) (is_plain t.row t.among)) ∙ v in cc)
+        by_form _ (own d m) = refl
+        by_form _ (assumed d tag u o v) = absurd (let z : ◌≡◌ {A = Option Unrounded} None (Some u) = sym (ap (λ (y : Row). y.unrounded) (is_plain t.row t.among)) ∙ v in cc)
 
         by_sure : (g : Sum) → IsSure x ks g → IsMultiple (sum_of_lin f) g → ⊥
         by_sure _ (sure_literal l s u b w d) k = m.no_literal l s u b w d k
@@ -210,7 +211,7 @@ module _ (x : Setting) (js : List Line) (rows : List Row) (ks : List Line) (a : 
     both_whole h e w some =
         let k = whole_name x h (subst IsNormal (sym e) made.normal) w some in
         let at : factor_at k.0 (combination m.combination.key (meaning (one.0).lin) (meaning (other.0).lin)) ≢ zero_ℚ = λ z. k.2 (ap (λ (l : Lin). factor_at k.0 (meaning l)) e ∙ made.same.factors k.0 ∙ z) in
-        (combined_sorted x one.0 other.0 (plain h false ((one.0).integral && (other.0).integral)) m.combination.key (fine_in x ks sure fine.fine one.0 one.1).sorted (fine_in x ks sure fine.fine other.0 other.1).sorted opposed.below opposed.above refl
+        (combined_sorted x one.0 other.0 (plain h false ((one.0).integral && (other.0).integral) true) m.combination.key (fine_in x ks sure fine.fine one.0 one.1).sorted (fine_in x ks sure fine.fine other.0 other.1).sorted opposed.below opposed.above refl
         (λ j v z. v (ap (λ (l : Lin). factor_at j (meaning l)) e ∙ made.same.factors j ∙ z))).integral k.0 k.2 (k.1, k.3, k.4)
 
     rounded_there : (h : Lin) → IsNormal h → sum_of_lin h ≡ m.plain → AreWhole x.problem.signature x.names h → IsRounded m.was_strict h f → ⊥
@@ -218,7 +219,7 @@ module _ (x : Setting) (js : List Line) (rows : List Row) (ks : List Line) (a : 
         let some : h.parts ≢ [] = λ z. number_rounded m.was_strict h f z d in
         let same : h ≡ made.form = one_form h made.form n made.normal (e ∙ sym plain_is_sum) in
         let strictness : m.was_strict ≡ (one.0).strict || (other.0).strict = m.combination.strictness ∙ (λ i. sym one.3 i || sym other.3 i) in
-        not_there f refl (made.rounded (plain f false true) (record {
+        not_there f refl (made.rounded (plain f false true true) (record {
           whole = both_whole h same w some;
           names = λ z. some (ap (λ (l : Lin). l.parts) same ∙ z);
           normal = m.normal;

@@ -46,24 +46,24 @@ pub record IsSorted (x : Setting) (r : Row) : Type 0 where
   pub whole : (k : ℕ) → factor_at k (meaning r.lin) ≢ zero_ℚ → r.integral ≡ true → IsWholeName x k
   pub integral : (k : ℕ) → factor_at k (meaning r.lin) ≢ zero_ℚ → IsWholeName x k → r.integral ≡ true
 
--- rows that agree with a journal: they stand, rounded and as they were before; the row of each inequality literal that surely stands was assumed, each `Combine` line
+-- rows that agree with a journal: they stand, rounded and as they were before; the row of each inequality literal that surely stands was assumed and counts, each `Combine` line
 -- that stands is that of a row, and each combination that isn't 0 has its line
 pub record AreAgreed (x : Setting) (js : List Line) (rows : List Row) : Type 0 where
   pub standing : AreStanding x js rows
   pub was : (r : Row) (tag : ℕ) → Contains rows r → r.from ≡ Assumed tag → IsStanding x js (counted r)
   pub sorted : (r : Row) → Contains rows r → IsSorted x r
   pub literals : (l : Lit) (s t : Term) (strict : Bool) → SurelyStands x js l → inequality l ≡ Some (s, t, strict)
-      → (r : Row) × (tag : ℕ) × Contains rows r × (r.from ≡ Assumed tag) × (sum_of_lin (counted r).lin ≡ sum_in (minus_val (value_now x js s) (value_now x js t)))
+      → (r : Row) × (tag : ℕ) × Contains rows r × (r.from ≡ Assumed tag) × (r.counts ≡ true) × (sum_of_lin (counted r).lin ≡ sum_in (minus_val (value_now x js s) (value_now x js t)))
   pub lines : (before after : List Line) (b : Bool) (h : Lin) → js ≡ before ++ line.Combine b h ∷ after → OnlyCombines after
       → (r : Row) × (lower : ℕ) × (upper : ℕ) × Contains rows r × (r.from ≡ Combined lower upper) × (r.lin ≡ h) × (r.strict ≡ b)
   pub noted : (r : Row) (lower upper : ℕ) → Contains rows r → r.from ≡ Combined lower upper → ¬ IsZero (meaning r.lin) → IsNoted js r
 
--- the row of each inequality literal that may stand was assumed, and each row that was assumed is that of one which surely stands
+-- the row of each inequality literal that may stand was assumed, and each row that was assumed and counts is that of one which surely stands
 pub record AreThoseAssumed (x : Setting) (js : List Line) (rows : List Row) : Type 0 where
   pub may : (l : Lit) (s t : Term) (strict : Bool) → MayStand x js l → inequality l ≡ Some (s, t, strict)
       → (r : Row) × (tag : ℕ) × Contains rows r × (r.from ≡ Assumed tag) × (sum_of_lin (counted r).lin ≡ sum_in (minus_val (value_now x js s) (value_now x js t))) × ((counted r).strict ≡ strict)
       × (sort_of x.problem.signature s ≡ Some Int → r.integral ≡ true)
-  pub sure : (r : Row) (tag : ℕ) → Contains rows r → r.from ≡ Assumed tag → IsSure x js (sum_of_lin (counted r).lin)
+  pub sure : (r : Row) (tag : ℕ) → Contains rows r → r.from ≡ Assumed tag → r.counts ≡ true → IsSure x js (sum_of_lin (counted r).lin)
 
 -- ---- laws
 -- rows that agree still do after combinations of them were noted

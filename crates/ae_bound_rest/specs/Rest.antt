@@ -16,14 +16,14 @@ use Rattle.ae_bounds.specs.declared.rows.Origin.TheVariants.{Assumed, Combined}
 use Rattle.ae_bounds.specs.Combinations.{IsThere}
 
 -- a row of a form that isn't rounded
-abbrev pub plain : Lin → Bool → Bool → Row
-plain l strict integral = record { lin = l; strict = strict; integral = integral; unrounded = None; from = Assumed 0 }
+abbrev pub plain : Lin → Bool → Bool → Bool → Row
+plain l strict integral counts = record { lin = l; strict = strict; integral = integral; unrounded = None; counts = counts; from = Assumed 0 }
 
 -- the row that counts in a journal: an assumed one as it was before it was rounded, a combination as it is
 abbrev pub counted_of : Origin → Option Unrounded → Row → Row
-counted_of (Assumed tag) (Some u) r = plain u.lin u.strict r.integral
-counted_of (Assumed tag) None r = plain r.lin r.strict r.integral
-counted_of (Combined lower upper) u r = plain r.lin r.strict r.integral
+counted_of (Assumed tag) (Some u) r = plain u.lin u.strict r.integral r.counts
+counted_of (Assumed tag) None r = plain r.lin r.strict r.integral r.counts
+counted_of (Combined lower upper) u r = plain r.lin r.strict r.integral true
 
 abbrev pub counted : Row → Row
 counted r = counted_of r.from r.unrounded r
@@ -34,7 +34,7 @@ pub record IsRoundingOf (p r : Row) : Type 0 where
   pub names : p.lin.parts ≢ []
   pub normal : IsNormal r.lin
   pub is : IsRounded p.strict p.lin r.lin
-  pub own : r ≡ plain r.lin false true
+  pub own : r ≡ plain r.lin false true p.counts
 
 -- one of the rows, or one of them rounded
 abbrev pub IsStandingIn : List Row → Row → Type 0
@@ -50,7 +50,7 @@ pub record AreOpposedIn (sure : List Row) (first second : Row) (name : ℕ) : Ty
 
 -- the row of a form, or that row rounded
 abbrev pub IsFormRow : Lin → Bool → Bool → Row → Type 0
-IsFormRow l strict integral r = (r ≡ plain l strict integral) ⊎ IsRoundingOf (plain l strict integral) r
+IsFormRow l strict integral r = (r ≡ plain l strict integral true) ⊎ IsRoundingOf (plain l strict integral true) r
 
 -- the combination of two of these, rounded or not
 pub record IsMade (sure : List Row) (r : Row) : Type 0 where
@@ -75,7 +75,7 @@ pub record IsDoneIn (sure : List Row) (first second : Row) (name : ℕ) : Type 0
   pub normal : IsNormal form
   pub same : SameMeaning (meaning form) (combination name (meaning first.lin) (meaning second.lin))
   pub there : IsThere sure (meaning form)
-  pub rounded : (r : Row) → IsRoundingOf (plain form (first.strict || second.strict) (first.integral && second.integral)) r → IsThere sure (meaning r.lin)
+  pub rounded : (r : Row) → IsRoundingOf (plain form (first.strict || second.strict) (first.integral && second.integral) true) r → IsThere sure (meaning r.lin)
 
 -- so it is for each two of them
 abbrev pub IsComplete : List Row → Type 0

@@ -68,7 +68,7 @@ fn rounded_of(alloc: Global, row: &Row) -> Result<Option<Row>, AllocError>
     if is_unchanged(row, &form) {
         return Ok(None);
     }
-    Ok(Some(plain(form, false, true)))
+    Ok(Some(plain(form, false, true, row.counts)))
 }
 
 /// A row with what it is rounded.
@@ -78,7 +78,7 @@ fn with_rounded(alloc: Global, row: &Row) -> Result<Both, AllocError>
     ensures { IfOk result (λ made. IsBoth row.now made) }
 {
     let rounded = rounded_of(alloc, row)?;
-    let own = with_form(alloc, &row.lin, row.strict, row.integral)?;
+    let own = with_form(alloc, &row.lin, row.strict, row.integral, row.counts)?;
     Ok(Both { own, rounded })
 }
 
@@ -95,6 +95,7 @@ fn note_one(
 ) -> Result<(), Fail>
     requires normal { IsNormal row.lin }
     requires plain { row.unrounded ≡ None }
+    requires counts { row.counts ≡ true }
     requires indexed { AreIndexed sure.old directions.old.keys }
     ensures there { OnOk result (IsThere sure.new (meaning row.lin)) }
     ensures grown { IsMade sure.old row → IsGrown sure.old journal.old.lines sure.new journal.new.lines }
@@ -122,6 +123,7 @@ fn note_both(
 ) -> Result<(), Fail>
     requires normal { IsNormal row.lin }
     requires plain { IsPlain row }
+    requires counts { row.counts ≡ true }
     requires indexed { AreIndexed sure.old directions.old.keys }
     ensures there { OnOk result (IsThere sure.new (meaning row.lin)) }
     ensures rounded { OnOk result ((r : RowValue) → IsRoundingOf row r → IsThere sure.new (meaning r.lin)) }
@@ -179,7 +181,7 @@ fn combine_two(
             let strict = one_strict(low, high);
             let integral = both_integral(low, high);
             let lin = combined(alloc, at, &low.lin, &high.lin)?;
-            let row = plain(lin, strict, integral);
+            let row = plain(lin, strict, integral, true);
             note_both(alloc, sure, directions, journal, row)
         }
         None => Ok(()),

@@ -9,7 +9,7 @@ ghost use Rattle.ae_bound_rest.specs.Inner.Pairs.{AreCounted};
 ghost use Rattle.ae_bound_rest.specs.Rest.{plain as plain_row, counted};
 
 use ae_bounds::directions::{Direction, direction_of};
-use ae_bounds::noting::add;
+use ae_bounds::noting::add_assumed;
 use ae_bounds::rows::{Origin, Row};
 use ae_num::copies::copied;
 use ae_num::forms::Lin;
@@ -18,24 +18,31 @@ use sqlite_items::Items;
 use std::alloc::{AllocError, Global};
 
 /// A row of a form that isn't rounded.
-pub fn plain(lin: Lin, strict: bool, integral: bool) -> Row
-    ensures { result ≡ plain_row lin strict integral }
+pub fn plain(lin: Lin, strict: bool, integral: bool, counts: bool) -> Row
+    ensures { result ≡ plain_row lin strict integral counts }
 {
     Row {
         lin,
         strict,
         integral,
         unrounded: None,
+        counts,
         from: Origin::Assumed(0),
     }
 }
 
 /// A row with a copy of a form.
-pub fn with_form(alloc: Global, form: &Lin, strict: bool, integral: bool) -> Result<Row, AllocError>
-    ensures { IfOk result (λ row. row ≡ plain_row form.now strict integral) }
+pub fn with_form(
+    alloc: Global,
+    form: &Lin,
+    strict: bool,
+    integral: bool,
+    counts: bool,
+) -> Result<Row, AllocError>
+    ensures { IfOk result (λ row. row ≡ plain_row form.now strict integral counts) }
 {
     let lin = copied(alloc, form)?;
-    Ok(plain(lin, strict, integral))
+    Ok(plain(lin, strict, integral, counts))
 }
 
 /// The row that counts for a kept one.
@@ -44,13 +51,24 @@ fn counted_row(alloc: Global, row: &Row) -> Result<Row, AllocError>
 {
     match (row.from, &row.unrounded) {
         (Origin::Assumed(_), Some(earlier)) => {
-            with_form(alloc, &earlier.lin, earlier.strict, row.integral)
+            with_form(
+                alloc,
+                &earlier.lin,
+                earlier.strict,
+                row.integral,
+                row.counts,
+            )
         }
-        _ => with_form(alloc, &row.lin, row.strict, row.integral),
+        (Origin::Assumed(_), None) => {
+            with_form(alloc, &row.lin, row.strict, row.integral, row.counts)
+        }
+        (Origin::Combined { .. }, _) => {
+            with_form(alloc, &row.lin, row.strict, row.integral, true)
+        }
     }
 }
 
-/// Adds a row with its direction.
+/// Adds a row, with its direction where it counts.
 fn enter(
     alloc: Global,
     sure: &mut Items<Row>,
@@ -64,7 +82,7 @@ fn enter(
     ensures indexed { OnOk result (AreIndexed sure.new directions.new.keys) }
 {
     let direction = direction_of(alloc, &row.lin)?;
-    add(sure, directions, row, direction)
+    add_assumed(sure, directions, row, direction, None)
 }
 
 /// Adds the rows that count for kept ones.

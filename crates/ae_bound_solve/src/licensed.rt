@@ -1,6 +1,6 @@
 //! What kept rows come to, where a width is to be licensed.
 ghost use Rattle.std.specs.Prelude.{◌≡◌, ◌⊎◌, ◌≢◌, ℕ, List, Ok, Err, OnOk, true, false};
-ghost use Rattle.std.specs.List.{flat_map};
+ghost use Rattle.std.specs.List.{AllByRecursion, flat_map};
 ghost use Rattle.ae_core.specs.declared.proofs.Ending.TheVariants.{Zero};
 ghost use Rattle.ae_journal.specs.Journals.{counted_in};
 ghost use Rattle.ae_journal.specs.Standing.{Setting};
@@ -11,12 +11,13 @@ ghost use Rattle.ae_journal.specs.declared.lines.Line.{Line};
 ghost use Rattle.ae_rules.specs.Derivations.{IsContradictory};
 ghost use Rattle.ae_store.specs.Shapes.{shapes};
 ghost use Rattle.ae_store.specs.Terms.{terms};
-ghost use Rattle.ae_ineq.specs.Inner.Points.{value_in};
+ghost use Rattle.ae_ineq.specs.Inner.Points.{IsNumber, value_in};
 ghost use Rattle.ae_theory.specs.declared.theory.Fail.TheVariants.{Steps, Number};
 ghost use Rattle.ae_bounds.specs.Combinations.{IsExtended};
 ghost use Rattle.ae_bounds.specs.Findings.{IsRefutedAt, NoneIsRefuted};
 ghost use Rattle.ae_bound_points.specs.Points.{ArePositiveAt};
 ghost use Rattle.ae_bound_blocks.specs.Ancestors.{AreTagsOf, hyps_of};
+ghost use Rattle.ae_bound_blocks.specs.Said.{AreBuilt};
 ghost use Rattle.ae_bound_blocks.specs.Tight.{AreTight};
 ghost use Rattle.ae_bound_rest.specs.Laws.{AreAgreed, AreThoseAssumed};
 ghost use Rattle.ae_bound_solve.specs.Given.{AreAllGiven, AreOpaqueNames};
@@ -76,10 +77,12 @@ pub fn solve_licensed(
     requires given { AreAllGiven store.now.signature (terms (shapes store.now.nodes)) bounds.old given.now }
     requires opaque { AreOpaqueNames (terms (shapes store.now.nodes)) bounds.old }
     ensures point { (made : _) → result ≡ Ok (Point made) → ArePositiveAt (value_in made) bounds.new }
+    ensures numbers { (made : _) → result ≡ Ok (Point made) → AllByRecursion (λ at. IsNumber at.value) made }
     ensures contradictory { (e : _) → result ≡ Ok (Contradiction e) → IsContradictory store.now.signature e.block }
     ensures zero { (e : _) → result ≡ Ok (Contradiction e) → (line : ℕ) × (e.block.ending ≡ Zero line) }
     ensures tags { (e : _) → result ≡ Ok (Contradiction e) → (place : ℕ) × IsRefutedAt bounds.new place × AreTagsOf bounds.new place e.tags }
     ensures hyps { (e : _) → result ≡ Ok (Contradiction e) → e.block.deriv.hyps ≡ flat_map (hyps_of given.now) e.tags }
+    ensures built { (e : _) → result ≡ Ok (Contradiction e) → AreBuilt store.now.signature (terms (shapes store.now.nodes)) e.block.deriv.lines }
     ensures tight { (numbers : List ℕ) → result ≡ Ok (Tight numbers) → AreTight bounds.new numbers }
     ensures tight_last { (numbers : List ℕ) → result ≡ Ok (Tight numbers) → NoneIsRefuted bounds.new }
     ensures kept { OnOk result (IsExtended bounds.old journal.old.lines bounds.new journal.new.lines) }

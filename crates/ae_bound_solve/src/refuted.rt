@@ -9,6 +9,7 @@ ghost use Rattle.ae_store.specs.Terms.{terms};
 ghost use Rattle.ae_bounds.specs.Rounding.{AreRounded};
 ghost use Rattle.ae_bounds.specs.Findings.{AreFounded, IsRefutedAt};
 ghost use Rattle.ae_bound_blocks.specs.Ancestors.{AreTagsOf, hyps_of};
+ghost use Rattle.ae_bound_blocks.specs.Said.{AreBuilt};
 ghost use Rattle.ae_bound_solve.specs.Given.{AreAllGiven, AreOpaqueNames};
 
 use crate::sorts::is_real;
@@ -37,6 +38,7 @@ pub fn refuted(
     ensures zero { IfOk result (λ e. (line : ℕ) × (e.block.ending ≡ Zero line)) }
     ensures tags { IfOk result (λ e. AreTagsOf rows.now place e.tags) }
     ensures hyps { IfOk result (λ e. e.block.deriv.hyps ≡ flat_map (hyps_of given.now) e.tags) }
+    ensures built { IfOk result (λ e. AreBuilt store.now.signature (terms (shapes store.now.nodes)) e.block.deriv.lines) }
 {
     let real = is_real(rows, given, place);
     explain(alloc, store, rows, place, real, given)

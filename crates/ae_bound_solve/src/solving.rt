@@ -8,7 +8,7 @@ ghost use Rattle.ae_journal.specs.declared.answers.WideAt.{WideAt};
 ghost use Rattle.ae_rules.specs.Derivations.{IsContradictory};
 ghost use Rattle.ae_store.specs.Shapes.{shapes};
 ghost use Rattle.ae_store.specs.Terms.{terms};
-ghost use Rattle.ae_ineq.specs.Inner.Points.{value_in};
+ghost use Rattle.ae_ineq.specs.Inner.Points.{IsNumber, value_in};
 ghost use Rattle.ae_ineq.specs.Widths.{IsPointWide};
 ghost use Rattle.ae_journal.specs.Standing.{Setting};
 ghost use Rattle.ae_journal.specs.Licences.{IsLicensed};
@@ -18,6 +18,7 @@ ghost use Rattle.ae_bounds.specs.Combinations.{IsExtended, IsWideIn, AreClosed, 
 ghost use Rattle.ae_bounds.specs.Findings.{AreFounded, IsRefutedAt, NoneIsRefuted};
 ghost use Rattle.ae_bound_points.specs.Points.{IsNonzeroRow, ArePositiveAt};
 ghost use Rattle.ae_bound_blocks.specs.Ancestors.{AreTagsOf, hyps_of};
+ghost use Rattle.ae_bound_blocks.specs.Said.{AreBuilt};
 ghost use Rattle.ae_bound_blocks.specs.Tight.{AreTight};
 ghost use Rattle.ae_bound_widths.specs.Fractions.{AreInStep, AreOverFractions, AreAssumed, AreFinished};
 ghost use Rattle.ae_bound_solve.specs.Given.{AreAllGiven, AreOpaqueNames};
@@ -45,6 +46,7 @@ fn point_answer(alloc: Global, rows: &[Row]) -> Result<Answer, Fail>
     requires possible { NoneIsRefuted rows.now }
     requires loose { HasZero rows.now → ⊥ }
     ensures point { (made : _) → result ≡ Ok (Point made) → ArePositiveAt (value_in made) rows.now }
+    ensures numbers { (made : _) → result ≡ Ok (Point made) → AllByRecursion (λ at. IsNumber at.value) made }
     ensures contradiction { (e : _) → result ≡ Ok (Contradiction e) → ⊥ }
     ensures tight { (numbers : List ℕ) → result ≡ Ok (Tight numbers) → ⊥ }
     ensures steps { result ≡ Err Steps → ⊥ }
@@ -66,10 +68,12 @@ fn answer_of(alloc: Global, store: &Store, rows: &[Row], given: &[Given]) -> Res
     requires given { AreAllGiven store.now.signature (terms (shapes store.now.nodes)) rows.now given.now }
     requires opaque { AreOpaqueNames (terms (shapes store.now.nodes)) rows.now }
     ensures point { (made : _) → result ≡ Ok (Point made) → ArePositiveAt (value_in made) rows.now }
+    ensures numbers { (made : _) → result ≡ Ok (Point made) → AllByRecursion (λ at. IsNumber at.value) made }
     ensures contradictory { (e : _) → result ≡ Ok (Contradiction e) → IsContradictory store.now.signature e.block }
     ensures zero { (e : _) → result ≡ Ok (Contradiction e) → (line : ℕ) × (e.block.ending ≡ Zero line) }
     ensures tags { (e : _) → result ≡ Ok (Contradiction e) → (place : ℕ) × IsRefutedAt rows.now place × AreTagsOf rows.now place e.tags }
     ensures hyps { (e : _) → result ≡ Ok (Contradiction e) → e.block.deriv.hyps ≡ flat_map (hyps_of given.now) e.tags }
+    ensures built { (e : _) → result ≡ Ok (Contradiction e) → AreBuilt store.now.signature (terms (shapes store.now.nodes)) e.block.deriv.lines }
     ensures tight { (numbers : List ℕ) → result ≡ Ok (Tight numbers) → AreTight rows.now numbers }
     ensures tight_last { (numbers : List ℕ) → result ≡ Ok (Tight numbers) → NoneIsRefuted rows.now }
     ensures steps { result ≡ Err Steps → ⊥ }
@@ -105,10 +109,12 @@ pub fn solve(
     requires given { AreAllGiven store.now.signature (terms (shapes store.now.nodes)) bounds.old given.now }
     requires opaque { AreOpaqueNames (terms (shapes store.now.nodes)) bounds.old }
     ensures point { (made : _) → result ≡ Ok (Point made) → ArePositiveAt (value_in made) bounds.new }
+    ensures numbers { (made : _) → result ≡ Ok (Point made) → AllByRecursion (λ at. IsNumber at.value) made }
     ensures contradictory { (e : _) → result ≡ Ok (Contradiction e) → IsContradictory store.now.signature e.block }
     ensures zero { (e : _) → result ≡ Ok (Contradiction e) → (line : ℕ) × (e.block.ending ≡ Zero line) }
     ensures tags { (e : _) → result ≡ Ok (Contradiction e) → (place : ℕ) × IsRefutedAt bounds.new place × AreTagsOf bounds.new place e.tags }
     ensures hyps { (e : _) → result ≡ Ok (Contradiction e) → e.block.deriv.hyps ≡ flat_map (hyps_of given.now) e.tags }
+    ensures built { (e : _) → result ≡ Ok (Contradiction e) → AreBuilt store.now.signature (terms (shapes store.now.nodes)) e.block.deriv.lines }
     ensures tight { (numbers : List ℕ) → result ≡ Ok (Tight numbers) → AreTight bounds.new numbers }
     ensures tight_last { (numbers : List ℕ) → result ≡ Ok (Tight numbers) → NoneIsRefuted bounds.new }
     ensures extended { IsExtended bounds.old journal.old.lines bounds.new journal.new.lines }

@@ -133,8 +133,8 @@ module _ (x : Setting) (rows : List Row) (js : List Line) (step : AreInStep x js
 
   -- a form that counts is a row's own
   own_form : (r : Row) (l : Lin) → Contains rows r → HasForm r l → l ≡ r.lin
-  own_form r _ c (own m) = refl
-  own_form r _ c (assumed tag u e f) = absurd (true_false (sym (done.rounded r u c f).integral ∙ over.real r c))
+  own_form r _ c (own d m) = refl
+  own_form r _ c (assumed d tag u e f) = absurd (true_false (sym (done.rounded r u c f).integral ∙ over.real r c))
 
   -- each row that isn't 0 is surely there
   sure_row : (r : Row) → Contains rows r → ¬ IsZero (meaning r.lin) → IsSure x js (sum_of_lin r.lin)

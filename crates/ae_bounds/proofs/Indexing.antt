@@ -17,9 +17,10 @@ use Rattle.ae_bounds.specs.declared.rows.Row.{Row}
 use Rattle.ae_bounds.specs.declared.rows.Unrounded.{Unrounded}
 use Rattle.ae_bounds.specs.declared.directions.Direction.{Direction}
 use Rattle.ae_bounds.specs.Combinations.{IsThere}
-use Rattle.ae_bounds.specs.Rounding.{HasForm, IsLeastRounded}
+use Rattle.ae_bounds.specs.Rounding.{DoesCount, HasForm, IsLeastRounded}
 use Rattle.ae_bounds.specs.Rounding.HasForm.{own, assumed}
 use Rattle.ae_bounds.specs.Inner.Directions.{IsDirectionOf, IsEarlier, AreIndexed, is_same, is_same_decides, is_same_equiv}
+use Rattle.ae_bounds.proofs.OwnForms.{counts_of}
 use Rattle.ae_bounds.proofs.Zeros.{direction_normal}
 use Rattle.ae_bounds.proofs.SameDirection.{there_by_direction, direction_by_there}
 
@@ -97,27 +98,27 @@ push rows ds es r x n more here less = record {
 
 -- its own form alone
 forms_alone : (r : Row) (d : Direction) (es : List Direction) → IsEarlier r None → IsDirectionOf r.lin d.form → Contains es d → (l : Lin) → HasForm r l → (e : Direction) × Contains es e × IsDirectionOf l e.form
-forms_alone r d es alone i c _ (own m) = (d, c, i)
-forms_alone r d es alone i c _ (assumed tag u f g) = absurd (alone tag u f g)
+forms_alone r d es alone i c _ (own k m) = (d, c, i)
+forms_alone r d es alone i c _ (assumed k tag u f g) = absurd (alone tag u f g)
 
-pub indexed_added : (rows new : List Row) (ds es : List Direction) (r : Row) (d : Direction) → AreIndexed rows ds → IsDirectionOf r.lin d.form → IsEarlier r None → new ≡ rows ++ r ∷ [] → es ≡ insert_key is_same ds d → AreIndexed new es
-indexed_added rows new ds es r d x i alone e f =
+pub indexed_added : (rows new : List Row) (ds es : List Direction) (r : Row) (d : Direction) → DoesCount r → AreIndexed rows ds → IsDirectionOf r.lin d.form → IsEarlier r None → new ≡ rows ++ r ∷ [] → es ≡ insert_key is_same ds d → AreIndexed new es
+indexed_added rows new ds es r d k x i alone e f =
     subst (λ (w : List Row). AreIndexed w es) (sym e)
     (subst (AreIndexed (rows ++ r ∷ [])) (sym f)
     (push rows ds (insert_key is_same ds d) r x (direction_normal r.lin d.form i) (λ h c. insert_more ds d h c) (forms_alone r d (insert_key is_same ds d) alone i (insert_here ds d))
-    (λ h c. elim (insert_less ds d h c) [ inl a ↦ inl a | inr b ↦ inr (r.lin, own (λ l. alone l.tag l.earlier l.from l.was), subst (λ (s : Direction). IsDirectionOf r.lin s.form) b i) ])))
+    (λ h c. elim (insert_less ds d h c) [ inl a ↦ inl a | inr b ↦ inr (r.lin, own k (λ l. alone l.tag l.earlier l.from l.was), subst (λ (s : Direction). IsDirectionOf r.lin s.form) b i) ])))
 
 -- and the form that it had before it was rounded
 pub same_some : (u v : Unrounded) (o : Option Unrounded) → o ≡ Some u → o ≡ Some v → u ≡ v
 same_some u v o e f = let g : Some u ≡ Some v = sym e ∙ f in cc
 
 forms_both : (r : Row) (d e : Direction) (es : List Direction) → IsEarlier r (Some e) → IsDirectionOf r.lin d.form → Contains es d → Contains es e → (l : Lin) → HasForm r l → (h : Direction) × Contains es h × IsDirectionOf l h.form
-forms_both r d e es two i c k _ (own m) = (d, c, i)
-forms_both r d e es two i c k _ (assumed tag u f g) = (e, k, subst (λ (v : Unrounded). IsDirectionOf v.lin e.form) (same_some two.1 u r.unrounded two.3 g) two.4)
+forms_both r d e es two i c k _ (own n m) = (d, c, i)
+forms_both r d e es two i c k _ (assumed n tag u f g) = (e, k, subst (λ (v : Unrounded). IsDirectionOf v.lin e.form) (same_some two.1 u r.unrounded two.3 g) two.4)
 
-pub indexed_both : (rows new : List Row) (ds mid es : List Direction) (r : Row) (d e : Direction) → AreIndexed rows ds → IsDirectionOf r.lin d.form → ¬ IsLeastRounded r → IsEarlier r (Some e) → new ≡ rows ++ r ∷ [] → mid ≡ insert_key is_same ds d → es ≡ insert_key is_same mid e
+pub indexed_both : (rows new : List Row) (ds mid es : List Direction) (r : Row) (d e : Direction) → DoesCount r → AreIndexed rows ds → IsDirectionOf r.lin d.form → ¬ IsLeastRounded r → IsEarlier r (Some e) → new ≡ rows ++ r ∷ [] → mid ≡ insert_key is_same ds d → es ≡ insert_key is_same mid e
     → AreIndexed new es
-indexed_both rows new ds mid es r d e x i more two h f g =
+indexed_both rows new ds mid es r d e counts x i more two h f g =
     subst (λ (w : List Row). AreIndexed w es) (sym h)
     (push rows ds es r x (direction_normal r.lin d.form i)
     (λ k c. subst (λ (ws : List Direction). Contains ws k) (sym g) (insert_more mid e k (subst (λ (ws : List Direction). Contains ws k) (sym f) (insert_more ds d k c))))
@@ -127,23 +128,27 @@ indexed_both rows new ds mid es r d e x i more two h f g =
     (λ k c. elim (insert_less mid e k (subst (λ (ws : List Direction). Contains ws k) g c)) [
       | inl a ↦ elim (insert_less ds d k (subst (λ (ws : List Direction). Contains ws k) f a)) [
         | inl b ↦ inl b
-        | inr b ↦ inr (r.lin, own more, subst (λ (s : Direction). IsDirectionOf r.lin s.form) b i)
+        | inr b ↦ inr (r.lin, own counts more, subst (λ (s : Direction). IsDirectionOf r.lin s.form) b i)
       ]
-      | inr b ↦ inr ((two.1).lin, assumed two.0 two.1 two.2 two.3, subst (λ (s : Direction). IsDirectionOf (two.1).lin s.form) b two.4)
+      | inr b ↦ inr ((two.1).lin, assumed counts two.0 two.1 two.2 two.3, subst (λ (s : Direction). IsDirectionOf (two.1).lin s.form) b two.4)
     ]))
 
 -- the form that it had alone, where its own doesn't count
 forms_least : (r : Row) (e : Direction) (es : List Direction) → ¬ FitsLimits (r.lin.constant -ℤ pos 1) → IsEarlier r (Some e) → Contains es e → (l : Lin) → HasForm r l → (h : Direction) × Contains es h × IsDirectionOf l h.form
-forms_least r e es least two k _ (own m) = absurd (m (record { tag = two.0; from = two.2; earlier = two.1; was = two.3; least = least }))
-forms_least r e es least two k _ (assumed tag u f g) = (e, k, subst (λ (v : Unrounded). IsDirectionOf v.lin e.form) (same_some two.1 u r.unrounded two.3 g) two.4)
+forms_least r e es least two k _ (own n m) = absurd (m (record { tag = two.0; from = two.2; earlier = two.1; was = two.3; least = least }))
+forms_least r e es least two k _ (assumed n tag u f g) = (e, k, subst (λ (v : Unrounded). IsDirectionOf v.lin e.form) (same_some two.1 u r.unrounded two.3 g) two.4)
 
-pub indexed_least : (rows new : List Row) (ds es : List Direction) (r : Row) (e : Direction) → AreIndexed rows ds → IsNormal r.lin → ¬ FitsLimits (r.lin.constant -ℤ pos 1) → IsEarlier r (Some e) → new ≡ rows ++ r ∷ []
+pub indexed_least : (rows new : List Row) (ds es : List Direction) (r : Row) (e : Direction) → DoesCount r → AreIndexed rows ds → IsNormal r.lin → ¬ FitsLimits (r.lin.constant -ℤ pos 1) → IsEarlier r (Some e) → new ≡ rows ++ r ∷ []
     → es ≡ insert_key is_same ds e → AreIndexed new es
-indexed_least rows new ds es r e x n least two h f =
+indexed_least rows new ds es r e counts x n least two h f =
     subst (λ (w : List Row). AreIndexed w es) (sym h)
     (subst (AreIndexed (rows ++ r ∷ [])) (sym f)
     (push rows ds (insert_key is_same ds e) r x n (λ k c. insert_more ds e k c) (forms_least r e (insert_key is_same ds e) least two (insert_here ds e))
     (λ k c. elim (insert_less ds e k c) [
       | inl a ↦ inl a
-      | inr b ↦ inr ((two.1).lin, assumed two.0 two.1 two.2 two.3, subst (λ (s : Direction). IsDirectionOf (two.1).lin s.form) b two.4)
+      | inr b ↦ inr ((two.1).lin, assumed counts two.0 two.1 two.2 two.3, subst (λ (s : Direction). IsDirectionOf (two.1).lin s.form) b two.4)
     ])))
+
+-- a row that doesn't count has no direction
+pub indexed_alone : (rows : List Row) (ds : List Direction) (r : Row) → AreIndexed rows ds → IsNormal r.lin → ¬ DoesCount r → AreIndexed (rows ++ r ∷ []) ds
+indexed_alone rows ds r x n none = push rows ds ds r x n (λ e c. c) (λ l f. absurd (none (counts_of r l f))) (λ e c. inl c)

@@ -1,13 +1,13 @@
 pub mod Zeros
 pub mod Rounded
 pub mod SameDirection
+pub mod OwnForms
 pub mod Indexing
 pub mod Pushed
 pub mod Closing
 pub mod LargestNames
 pub mod Lasts
 pub mod Made
-pub mod OwnForms
 pub mod Noted
 pub mod Feeding
 pub mod Sums

@@ -16,7 +16,7 @@ use Rattle.ae_bounds.specs.declared.rows.Row.{Row}
 use Rattle.ae_bounds.specs.declared.rows.Origin.TheVariants.{Combined}
 use Rattle.ae_bounds.specs.Rounding.{IsRowOf, HasForm}
 
--- the form is a positive multiple of a row's, or of one that a row had before it was rounded; rows that were rounded to the least constant don't count
+-- the form is a positive multiple of a row's, or of one that a row had before it was rounded; rows that were rounded to the least constant don't count, nor those that were assumed as such
 pub record IsThere (rows : List Row) (f : Form ℕ) : Type 0 where
   pub row : Row
   pub among : Contains rows row

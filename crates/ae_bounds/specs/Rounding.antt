@@ -36,10 +36,14 @@ pub record IsLeastRounded (r : Row) : Type 0 where
   pub was : r.unrounded ≡ Some earlier
   pub least : ¬ FitsLimits (r.lin.constant -ℤ pos 1)
 
--- the forms of a row that count where a combination may be a multiple of them: its own, unless it is such a row, and of an assumed row the one that it had before it was rounded
+-- each combination counts, and so does an assumed row that says so
+abbrev pub DoesCount : Row → Type 0
+DoesCount r = (tag : ℕ) → r.from ≡ Assumed tag → r.counts ≡ true
+
+-- the forms of a row that count where a combination may be a multiple of them, where the row does: its own, unless it is such a row, and of an assumed row the one that it had before it was rounded
 pub data HasForm (r : Row) : Lin → Type 0 where
-  own : ¬ IsLeastRounded r → HasForm r r.lin
-  assumed : (tag : ℕ) (u : Unrounded) → r.from ≡ Assumed tag → r.unrounded ≡ Some u → HasForm r u.lin
+  own : DoesCount r → ¬ IsLeastRounded r → HasForm r r.lin
+  assumed : DoesCount r → (tag : ℕ) (u : Unrounded) → r.from ≡ Assumed tag → r.unrounded ≡ Some u → HasForm r u.lin
 
 -- what a row of sort `int` was before it was rounded
 pub record WasRounded (u : Unrounded) (r : Row) : Type 0 where

@@ -67,7 +67,7 @@ fn made(alloc: Global, rows: &[Row], lower: usize, upper: usize) -> Result<Optio
             let integral = both_integral(low, high);
             let lin = combined(alloc, at, &low.lin, &high.lin)?;
             let from = Origin::Combined { lower, upper };
-            let row = row_of(alloc, lin, strict, integral, from)?;
+            let row = row_of(alloc, lin, strict, integral, true, from)?;
             Ok(Some(row))
         }
         None => Ok(None),
@@ -281,20 +281,22 @@ impl Bounds {
         self.rows.as_slice()
     }
 
-    /// Adds a row: `lin >= 0`, or `lin > 0` where `strict`. Where `integral`, its sides have the sort `int`, and so have its names: it is rounded at once.
+    /// Adds a row: `lin >= 0`, or `lin > 0` where `strict`. Where `integral`, its sides have the sort `int`, and so have its names: it is rounded at once. Unless it
+    /// `counts`, a combination that is a positive multiple of it is still noted.
     pub fn assume(
         &mut self,
         alloc: Global,
         lin: Lin,
         strict: bool,
         integral: bool,
+        counts: bool,
         tag: usize,
     ) -> Result<(), AllocError>
         requires normal { IsNormal lin }
-        ensures added { OnOk result ((row : Row) × (self.new ≡ self.old ++ row ∷ []) × IsAssumed lin strict integral tag row) }
+        ensures added { OnOk result ((row : Row) × (self.new ≡ self.old ++ row ∷ []) × IsAssumed lin strict integral tag row × (row.counts ≡ counts)) }
         ensures kept { OnErr result (self.new ≡ self.old) }
     {
-        let row = row_of(alloc, lin, strict, integral, Origin::Assumed(tag))?;
+        let row = row_of(alloc, lin, strict, integral, counts, Origin::Assumed(tag))?;
         let direction = direction_of(alloc, &row.lin)?;
         let earlier = earlier_direction(alloc, &row, tag)?;
         add_assumed(

@@ -8,11 +8,11 @@ ghost use Rattle.ae_journal.specs.declared.answers.WideAt.{WideAt};
 ghost use Rattle.ae_num.specs.Forms.{IsNormal};
 ghost use Rattle.ae_num.specs.Limits.{FitsLimits};
 ghost use Rattle.ae_theory.specs.declared.theory.Fail.TheVariants.{Steps, Number};
-ghost use Rattle.ae_bounds.specs.Rounding.{IsLeastRounded};
+ghost use Rattle.ae_bounds.specs.Rounding.{IsLeastRounded, DoesCount};
 ghost use Rattle.ae_bounds.specs.Inner.Directions.{AreIndexed, IsDirectionOf, IsEarlier, is_same};
 
 use crate::directions::Direction;
-use crate::rows::Row;
+use crate::rows::{Origin, Row};
 use ae_core::sorts::is_within;
 use ae_journal::journal::{Journal, JournalFail};
 use ae_journal::lines::Line;
@@ -91,6 +91,7 @@ pub fn add(
 ) -> Result<(), AllocError>
     requires direction { IsDirectionOf row.lin direction.form }
     requires alone { IsEarlier row None }
+    requires counts { DoesCount row }
     requires indexed { AreIndexed rows.old directions.old.keys }
     ensures added { OnOk result (rows.new ≡ rows.old ++ row ∷ []) }
     ensures kept { OnErr result ((rows.new ≡ rows.old) × (directions.new.keys ≡ directions.old.keys)) }
@@ -107,6 +108,7 @@ fn add_earlier(
     earlier: Direction,
 ) -> Result<(), AllocError>
     requires normal { IsNormal row.lin }
+    requires counts { DoesCount row }
     requires least { FitsLimits (row.lin.constant -ℤ pos 1) → ⊥ }
     requires earlier { IsEarlier row (Some earlier) }
     requires indexed { AreIndexed rows.old directions.old.keys }
@@ -126,6 +128,7 @@ fn add_two(
     earlier: Direction,
 ) -> Result<(), AllocError>
     requires direction { IsDirectionOf row.lin direction.form }
+    requires counts { DoesCount row }
     requires more { IsLeastRounded row → ⊥ }
     requires earlier { IsEarlier row (Some earlier) }
     requires indexed { AreIndexed rows.old directions.old.keys }
@@ -170,6 +173,7 @@ fn add_both(
 ) -> Result<(), AllocError>
     requires normal { IsNormal row.lin }
     requires direction { IsDirectionOf row.lin direction.form }
+    requires counts { DoesCount row }
     requires earlier { IsEarlier row (Some earlier) }
     requires indexed { AreIndexed rows.old directions.old.keys }
     ensures added { OnOk result (rows.new ≡ rows.old ++ row ∷ []) }
@@ -183,7 +187,53 @@ fn add_both(
     add_two(rows, directions, row, direction, earlier)
 }
 
-/// Adds a row that was assumed. Refused memory leaves the rows as they were.
+/// Adds a row that was assumed and counts. Refused memory leaves the rows as they were.
+fn add_counted(
+    rows: &mut Items<Row>,
+    directions: &mut IndexSet<Direction>,
+    row: Row,
+    direction: Direction,
+    earlier: Option<Direction>,
+) -> Result<(), AllocError>
+    requires normal { IsNormal row.lin }
+    requires direction { IsDirectionOf row.lin direction.form }
+    requires counts { DoesCount row }
+    requires earlier { IsEarlier row earlier }
+    requires indexed { AreIndexed rows.old directions.old.keys }
+    ensures added { OnOk result (rows.new ≡ rows.old ++ row ∷ []) }
+    ensures kept { OnErr result ((rows.new ≡ rows.old) × (directions.new.keys ≡ directions.old.keys)) }
+    ensures indexed { AreIndexed rows.new directions.new.keys }
+{
+    match earlier {
+        Some(earlier) => add_both(rows, directions, row, direction, earlier),
+        None => add(rows, directions, row, direction),
+    }
+}
+
+/// Whether combinations that are positive multiples of a row are left out.
+fn does_count(row: &Row) -> bool
+    ensures yes { result ≡ true → DoesCount row.now }
+    ensures no { result ≡ false → DoesCount row.now → ⊥ }
+{
+    match row.from {
+        Origin::Assumed(_) => row.counts,
+        Origin::Combined { .. } => true,
+    }
+}
+
+/// Lets go the directions of a row that doesn't count.
+fn let_go_both(_direction: Direction, _earlier: Option<Direction>) {}
+
+/// Adds a row without a direction. Refused memory leaves the rows as they were.
+fn push_alone(rows: &mut Items<Row>, row: Row) -> Result<(), AllocError>
+    ensures added { OnOk result (rows.new ≡ rows.old ++ row ∷ []) }
+    ensures kept { OnErr result (rows.new ≡ rows.old) }
+{
+    rows.push(row)?;
+    Ok(())
+}
+
+/// Adds a row that was assumed, with its directions where it counts. Refused memory leaves the rows as they were.
 pub fn add_assumed(
     rows: &mut Items<Row>,
     directions: &mut IndexSet<Direction>,
@@ -199,10 +249,11 @@ pub fn add_assumed(
     ensures kept { OnErr result ((rows.new ≡ rows.old) × (directions.new.keys ≡ directions.old.keys)) }
     ensures indexed { AreIndexed rows.new directions.new.keys }
 {
-    match earlier {
-        Some(earlier) => add_both(rows, directions, row, direction, earlier),
-        None => add(rows, directions, row, direction),
+    if !does_count(&row) {
+        let_go_both(direction, earlier);
+        return push_alone(rows, row);
     }
+    add_counted(rows, directions, row, direction, earlier)
 }
 
 /// Takes off the last row and the last direction.
@@ -240,20 +291,21 @@ fn note_last(
     rows: &mut Items<Row>,
     directions: &mut IndexSet<Direction>,
     journal: &mut Journal,
-    line: Line,
+    strict: bool,
+    form: Lin,
 ) -> Result<(), Fail>
     requires rows { rows.old ≢ [] }
     requires directions { directions.old.keys ≢ [] }
     ensures rows { OnOk result (rows.new ≡ rows.old) }
     ensures directions { OnOk result (directions.new.keys ≡ directions.old.keys) }
-    ensures lines { OnOk result (journal.new ≡ record journal.old { lines = journal.old.lines ++ line ∷ [] }) }
+    ensures lines { OnOk result (journal.new ≡ record journal.old { lines = journal.old.lines ++ Combine strict form ∷ [] }) }
     ensures taken { OnErr result ((front : _) (row : _) → rows.old ≡ front ++ row ∷ [] → rows.new ≡ front) }
     ensures cut { OnErr result ((front : _) (last : _) → directions.old.keys ≡ front ++ last ∷ [] → directions.new.keys ≡ front) }
     ensures kept { OnErr result (journal.new ≡ journal.old) }
     ensures steps { result ≡ Err Steps → counted_in journal.new.lines ≡ journal.new.limit }
     ensures number { (wide : WideAt) → result ≡ Err (Number wide) → ⊥ }
 {
-    match journal.note(line) {
+    match journal.note(Line::Combine { strict, row: form }) {
         Ok(()) => Ok(()),
         Err(JournalFail::Full) => {
             take_both(rows, directions);
@@ -266,38 +318,28 @@ fn note_last(
     }
 }
 
-/// Adds a row with a direction that isn't there yet, and notes its line; where it isn't noted, nothing changes.
+/// Adds a row with a direction that isn't there yet, and notes its line, which has this form; where it isn't noted, nothing changes.
 fn note_line(
     rows: &mut Items<Row>,
     directions: &mut IndexSet<Direction>,
     journal: &mut Journal,
     row: Row,
     direction: Direction,
-    line: Line,
+    form: Lin,
 ) -> Result<(), Fail>
     requires new { contains is_same directions.old direction ≡ false }
     ensures rows { OnOk result (rows.new ≡ rows.old ++ row ∷ []) }
     ensures directions { OnOk result (directions.new.keys ≡ directions.old.keys ++ direction ∷ []) }
-    ensures lines { OnOk result (journal.new ≡ record journal.old { lines = journal.old.lines ++ line ∷ [] }) }
+    ensures lines { OnOk result (journal.new ≡ record journal.old { lines = journal.old.lines ++ Combine row.strict form ∷ [] }) }
     ensures taken { OnErr result (rows.new ≡ rows.old) }
     ensures cut { OnErr result (directions.new.keys ≡ directions.old.keys) }
     ensures kept { OnErr result (journal.new ≡ journal.old) }
     ensures steps { result ≡ Err Steps → counted_in journal.new.lines ≡ journal.new.limit }
     ensures number { (wide : WideAt) → result ≡ Err (Number wide) → ⊥ }
 {
+    let strict = row.strict;
     push_new(rows, directions, row, direction)?;
-    note_last(rows, directions, journal, line)
-}
-
-/// The line of a row.
-fn line_of(alloc: Global, row: &Row) -> Result<Line, AllocError>
-    ensures { IfOk result (λ line. line ≡ Combine row.now.strict row.now.lin) }
-{
-    let form = copied(alloc, &row.lin)?;
-    Ok(Line::Combine {
-        strict: row.strict,
-        row: form,
-    })
+    note_last(rows, directions, journal, strict, form)
 }
 
 /// Notes the line of a row, and adds the row, which no row has the direction of; where the line isn't noted, nothing changes.
@@ -311,6 +353,7 @@ pub fn note(
 ) -> Result<(), Fail>
     requires direction { IsDirectionOf row.lin direction.form }
     requires alone { IsEarlier row None }
+    requires counts { DoesCount row }
     requires new { contains is_same directions.old direction ≡ false }
     requires indexed { AreIndexed rows.old directions.old.keys }
     ensures rows { OnOk result (rows.new ≡ rows.old ++ row ∷ []) }
@@ -320,6 +363,6 @@ pub fn note(
     ensures steps { result ≡ Err Steps → counted_in journal.new.lines ≡ journal.new.limit }
     ensures number { (wide : WideAt) → result ≡ Err (Number wide) → ⊥ }
 {
-    let line = line_of(alloc, &row)?;
-    note_line(rows, directions, journal, row, direction, line)
+    let form = copied(alloc, &row.lin)?;
+    note_line(rows, directions, journal, row, direction, form)
 }

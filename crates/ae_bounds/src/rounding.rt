@@ -11,11 +11,12 @@ use ae_rounding::rounding::rounded;
 use std::alloc::{AllocError, Global};
 
 /// The row of a form that isn't rounded.
-fn as_it_is(lin: Lin, strict: bool, integral: bool, from: Origin) -> Row
+fn as_it_is(lin: Lin, strict: bool, integral: bool, counts: bool, from: Origin) -> Row
     requires stays { integral ≡ true → StaysUnrounded strict lin }
     ensures row { IsRowOf lin strict result }
     ensures same { result.lin ≡ lin }
     ensures integral { result.integral ≡ integral }
+    ensures counts { result.counts ≡ counts }
     ensures from { result.from ≡ from }
 {
     Row {
@@ -23,6 +24,7 @@ fn as_it_is(lin: Lin, strict: bool, integral: bool, from: Origin) -> Row
         strict,
         integral,
         unrounded: None,
+        counts,
         from,
     }
 }
@@ -36,27 +38,35 @@ fn is_unchanged(lin: &Lin, strict: bool, form: &Lin) -> bool
 }
 
 /// The row of a form over integers, rounded where it has names, its rounded constant is within the limits, and rounding changes it.
-fn rounded_row(alloc: Global, lin: Lin, strict: bool, from: Origin) -> Result<Row, AllocError>
+fn rounded_row(
+    alloc: Global,
+    lin: Lin,
+    strict: bool,
+    counts: bool,
+    from: Origin,
+) -> Result<Row, AllocError>
     requires normal { IsNormal lin }
     ensures row { IfOk result (λ row. IsRowOf lin strict row) }
     ensures normal { IfOk result (λ row. IsNormal row.lin) }
     ensures integral { IfOk result (λ row. row.integral ≡ true) }
+    ensures counts { IfOk result (λ row. row.counts ≡ counts) }
     ensures from { IfOk result (λ row. row.from ≡ from) }
 {
     if lin.parts.is_empty() {
-        return Ok(as_it_is(lin, strict, true, from));
+        return Ok(as_it_is(lin, strict, true, counts, from));
     }
     let Some(form) = rounded(alloc, &lin, strict)? else {
-        return Ok(as_it_is(lin, strict, true, from));
+        return Ok(as_it_is(lin, strict, true, counts, from));
     };
     if is_unchanged(&lin, strict, &form) {
-        return Ok(as_it_is(lin, strict, true, from));
+        return Ok(as_it_is(lin, strict, true, counts, from));
     }
     Ok(Row {
         lin: form,
         strict: false,
         integral: true,
         unrounded: Some(Unrounded { lin, strict }),
+        counts,
         from,
     })
 }
@@ -67,16 +77,18 @@ pub fn row_of(
     lin: Lin,
     strict: bool,
     integral: bool,
+    counts: bool,
     from: Origin,
 ) -> Result<Row, AllocError>
     requires normal { IsNormal lin }
     ensures row { IfOk result (λ row. IsRowOf lin strict row) }
     ensures normal { IfOk result (λ row. IsNormal row.lin) }
     ensures integral { IfOk result (λ row. row.integral ≡ integral) }
+    ensures counts { IfOk result (λ row. row.counts ≡ counts) }
     ensures from { IfOk result (λ row. row.from ≡ from) }
 {
     if integral {
-        return rounded_row(alloc, lin, strict, from);
+        return rounded_row(alloc, lin, strict, counts, from);
     }
-    Ok(as_it_is(lin, strict, false, from))
+    Ok(as_it_is(lin, strict, false, counts, from))
 }

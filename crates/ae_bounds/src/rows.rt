@@ -27,5 +27,7 @@ pub struct Row {
     pub integral: bool,
     /// What it was before it was rounded, where it was.
     pub unrounded: Option<Unrounded>,
+    /// Of a row that was assumed: whether a combination that is a positive multiple of it is left out. Each combination counts.
+    pub counts: bool,
     pub from: Origin,
 }

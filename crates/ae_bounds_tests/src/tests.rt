@@ -76,7 +76,7 @@ fn form_of(alloc: Global, given: Given) -> Result<Lin, NumFail>
 /// Assumes a row.
 fn assume(alloc: Global, bounds: &mut Bounds, given: Given) -> Result<(), Fail> {
     let form = form_of(alloc, given)?;
-    bounds.assume(alloc, form, given.strict, given.integral, 7)?;
+    bounds.assume(alloc, form, given.strict, given.integral, true, 7)?;
     Ok(())
 }
 

@@ -2,4 +2,4 @@ mod Sources
 mod JoinedTags
 mod Numbered
 mod Legal
-mod More
+pub mod More

@@ -1,5 +1,5 @@
 -- What contracts see of rows with their derivations, and when these are right over a store.
-use Rattle.std.specs.Prelude.{ℕ, List, [], ◌∷◌, ◌++◌, ◌≡◌, length, slice_get, refl}
+use Rattle.std.specs.Prelude.{ℕ, Bool, List, [], ◌∷◌, ◌++◌, ◌≡◌, length, slice_get, refl}
 use Rattle.std.specs.List.{flat_map}
 use Rattle.std.specs.Coded.{Coded, code_by, coded×, coded_list, coded_ℕ}
 use Rattle.ae_base.specs.Options.{or_else}
@@ -46,9 +46,10 @@ pub record Fits (s : Stored) (b : Held) : Type 0 where
   pub given : AreAllGiven s.signature (terms_in s) b.rows b.given
   pub opaque : (n : ℕ) → IsWholeName b.rows n → form (named (terms_in s) n) ≡ single (named (terms_in s) n)
 
--- the row was added under the next number
-pub record IsAdded (old : Held) (r : Row) (new : Held) : Type 0 where
+-- the row was added under the next number, as one that counts or not
+pub record IsAdded (old : Held) (r : Row) (counts : Bool) (new : Held) : Type 0 where
   pub kept : Kept
+  pub marked : kept.counts ≡ counts
   pub assumed : IsAssumed r.lin r.strict r.integral (length old.given) kept
   pub rows : new.rows ≡ old.rows ++ kept ∷ []
   pub given : new.given ≡ old.given ++ given_by r ∷ []

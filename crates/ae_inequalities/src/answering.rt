@@ -5,7 +5,8 @@ ghost use Rattle.ae_num.specs.Forms.{IsNormal};
 ghost use Rattle.ae_journal.specs.States.{at_point};
 ghost use Rattle.ae_journal.specs.declared.answers.WideAt.{WideAt};
 ghost use Rattle.ae_journal.specs.declared.systems.PointAt.{PointAt as PointAtValue};
-ghost use Rattle.ae_ineq.specs.Inner.Points.{value_in};
+ghost use Rattle.ae_ineq.specs.Inner.Points.{IsNumber, value_in};
+ghost use Rattle.ae_inequalities.specs.Points.{IsPointNumber};
 ghost use Rattle.ae_ineq.specs.declared.point.Valuation.{Valuation as ValuationValue};
 ghost use Rattle.ae_theory.specs.Names.{terms_in};
 ghost use Rattle.ae_theory.specs.declared.theory.Explained.{Explained as ExplainedValue};
@@ -46,7 +47,8 @@ fn fraction_at(at: &Valuation) -> PointAt
 
 /// The point with its values as fractions.
 fn fractions(alloc: Global, made: &[Valuation]) -> Result<List<PointAt>, AllocError>
-    ensures { IfOk result (λ point. at_point point ≡ value_in made.now) }
+    ensures at { IfOk result (λ point. at_point point ≡ value_in made.now) }
+    ensures each { AllByRecursion (λ at. IsNumber at.value) made.now → IfOk result (AllByRecursion IsPointNumber) }
 {
     let mut point = List::new(alloc);
     for at in made {
@@ -95,6 +97,7 @@ pub fn answered(
     requires opaque { AreOpaqueNames (terms_in store.now) rows.now }
     requires tight { (numbers : List ℕ) → answer ≡ TightAnswer numbers → AreTight rows.now numbers }
     ensures point { (made : List PointAtValue) → result ≡ Ok (Point made) → (values : List ValuationValue) × (answer ≡ PointAnswer values) × (at_point made ≡ value_in values) }
+    ensures stand { (made : List PointAtValue) → result ≡ Ok (Point made) → (values : List ValuationValue) × (answer ≡ PointAnswer values) × (AllByRecursion (λ at. IsNumber at.value) values → AllByRecursion IsPointNumber made) }
     ensures contradiction { (e : ExplainedValue) → result ≡ Ok (Contradiction e) → (f : ExplainedValue) × (answer ≡ ContradictionAnswer f) × (e.block ≡ f.block) × (e.tags ≡ flat_map (tags_at tags.now) f.tags) }
     ensures tight { (found : List RowValue) → result ≡ Ok (Tight found) → AreTightRows store.now (record { rows = rows.now; given = given.now; tags = tags.now }) found }
     ensures numbers { (found : List RowValue) → result ≡ Ok (Tight found) → (numbers : List ℕ) × (answer ≡ TightAnswer numbers) }

@@ -20,11 +20,13 @@ ghost use Rattle.ae_theory.specs.declared.theory.Explained.{Explained as Explain
 ghost use Rattle.ae_theory.specs.declared.theory.Fail.TheVariants.{Steps, Number};
 ghost use Rattle.ae_bounds.specs.Combinations.{IsExtended};
 ghost use Rattle.ae_bounds.specs.Findings.{NoneIsRefuted};
+ghost use Rattle.ae_bound_blocks.specs.Said.{AreBuilt};
 ghost use Rattle.ae_bound_points.specs.Points.{ArePositiveAt};
 ghost use Rattle.ae_bound_rest.specs.Laws.{AreAgreed, AreThoseAssumed};
 ghost use Rattle.ae_bound_solve.specs.Widths.{AreNotedOrNone};
 ghost use Rattle.ae_inequalities.specs.declared.answer.Ineq.TheVariants.{Point, Contradiction, Tight};
 ghost use Rattle.ae_inequalities.specs.declared.rows.Row.{Row as RowValue};
+ghost use Rattle.ae_inequalities.specs.Points.{IsPointNumber};
 ghost use Rattle.ae_inequalities.specs.Rows.{IsRightRow};
 ghost use Rattle.ae_inequalities.specs.Held.{Fits, IsAdded, AreOfTags, IsMadeOfRows};
 ghost use Rattle.ae_inequalities.specs.Tight.{AreTightRows};
@@ -92,12 +94,19 @@ impl Bounds {
         all[number].as_slice()
     }
 
-    /// Adds a row. Where it is over integers it is rounded at once. Refused memory leaves the rows as they were.
-    pub fn assume(&mut self, alloc: Global, store: &Store, row: Row) -> Result<(), AllocError>
+    /// Adds a row. Where it is over integers it is rounded at once. Unless it `counts`, a combination that is a positive multiple of it is still noted. Refused
+    /// memory leaves the rows as they were.
+    pub fn assume(
+        &mut self,
+        alloc: Global,
+        store: &Store,
+        row: Row,
+        counts: bool,
+    ) -> Result<(), AllocError>
         requires normal { IsNormal row.lin }
         requires right { IsRightRow store.now.signature (terms_in store.now) row }
         requires fits { Fits store.now self.old }
-        ensures added { OnOk result (IsAdded self.old row self.new) }
+        ensures added { OnOk result (IsAdded self.old row counts self.new) }
         ensures kept { OnErr result (self.new ≡ self.old) }
         ensures of_tags { (assumed : List Tagged) → AreOfTags assumed self.old → IsBlockOf assumed row.from.deriv.hyps row.from.tags → AreOfTags assumed self.new }
         ensures fits { Fits store.now self.new }
@@ -109,6 +118,7 @@ impl Bounds {
             &mut self.given,
             &mut self.tags,
             row,
+            counts,
         )
     }
 
@@ -119,7 +129,7 @@ impl Bounds {
     /// its hypotheses and tags are those of the derivations of exactly the assumed rows that this one is made of. `Tight` comes where there is none, with
     /// rows, assumed or rounded, of which a positive sum is `0 >= 0`, each with lines that say it. `Steps` comes only where the journal is full, and `Number` only where a stated
     /// product or sum of a combination, or of the making of the point, leaves the limits: it is licensed then, where the rows agree with the journal and the row of
-    /// each inequality literal that may stand was assumed, and no other. After a refusal the assumed rows are as before, and the noted lines stay.
+    /// each inequality literal that may stand was assumed, those alone counting that are rows of literals which surely stand. After a refusal the assumed rows are as before, and the noted lines stay.
     pub fn solve(
         &mut self,
         alloc: Global,
@@ -128,8 +138,10 @@ impl Bounds {
     ) -> Result<Ineq, Fail>
         requires fits { Fits store.now self.old }
         ensures point { (made : List PointAtValue) → result ≡ Ok (Point made) → ArePositiveAt (at_point made) self.new.rows }
+        ensures stand { (made : List PointAtValue) → result ≡ Ok (Point made) → AllByRecursion IsPointNumber made }
         ensures contradictory { (e : ExplainedValue) → result ≡ Ok (Contradiction e) → IsContradictory store.now.signature e.block }
         ensures zero { (e : ExplainedValue) → result ≡ Ok (Contradiction e) → (line : ℕ) × (e.block.ending ≡ Zero line) }
+        ensures built { (e : ExplainedValue) → result ≡ Ok (Contradiction e) → AreBuilt store.now.signature (terms_in store.now) e.block.deriv.lines }
         ensures made_of { (e : ExplainedValue) → result ≡ Ok (Contradiction e) → IsMadeOfRows self.new e }
         ensures literals { (e : ExplainedValue) (assumed : List Tagged) → result ≡ Ok (Contradiction e) → AreOfTags assumed self.old → IsBlockOf assumed e.block.deriv.hyps e.tags }
         ensures tight { (tight : List RowValue) → result ≡ Ok (Tight tight) → AreTightRows store.now self.new tight }

@@ -1,5 +1,6 @@
 //! Rows with their derivations, by their parts.
 ghost use Rattle.std.specs.Prelude.{◌≡◌, ◌++◌, ◌∷◌, ◌⊎◌, [], ℕ, List, Ok, Err, OnOk, OnErr, length};
+ghost use Rattle.std.specs.List.{AllByRecursion};
 ghost use Rattle.ae_num.specs.Forms.{IsNormal};
 ghost use Rattle.ae_core.specs.declared.proofs.Ending.TheVariants.{Zero};
 ghost use Rattle.ae_journal.specs.Journals.{counted_in};
@@ -18,11 +19,13 @@ ghost use Rattle.ae_theory.specs.declared.theory.Explained.{Explained as Explain
 ghost use Rattle.ae_theory.specs.declared.theory.Fail.TheVariants.{Steps, Number};
 ghost use Rattle.ae_bounds.specs.Combinations.{IsExtended};
 ghost use Rattle.ae_bounds.specs.Findings.{NoneIsRefuted};
+ghost use Rattle.ae_bound_blocks.specs.Said.{AreBuilt};
 ghost use Rattle.ae_bound_points.specs.Points.{ArePositiveAt};
 ghost use Rattle.ae_bound_rest.specs.Laws.{AreAgreed, AreThoseAssumed};
 ghost use Rattle.ae_bound_solve.specs.Widths.{AreNotedOrNone};
 ghost use Rattle.ae_inequalities.specs.declared.answer.Ineq.TheVariants.{Point, Contradiction, Tight};
 ghost use Rattle.ae_inequalities.specs.declared.rows.Row.{Row as RowValue};
+ghost use Rattle.ae_inequalities.specs.Points.{IsPointNumber};
 ghost use Rattle.ae_inequalities.specs.Rows.{IsRightRow};
 ghost use Rattle.ae_inequalities.specs.Held.{Fits, IsAdded, AreOfTags, IsMadeOfRows};
 ghost use Rattle.ae_inequalities.specs.Tight.{AreTightRows};
@@ -74,7 +77,7 @@ fn push_source(
     }
 }
 
-/// Adds a row.
+/// Adds a row, as one that counts or not.
 pub fn assume_row(
     alloc: Global,
     store: &Store,
@@ -82,12 +85,13 @@ pub fn assume_row(
     given: &mut List<Given>,
     tags: &mut List<List<usize>>,
     row: Row,
+    counts: bool,
 ) -> Result<(), AllocError>
     requires normal { IsNormal row.lin }
     requires right { IsRightRow store.now.signature (terms_in store.now) row }
     requires fits { Fits store.now (record { rows = rows.old; given = given.old; tags = tags.old }) }
     requires same { length tags.old ≡ length given.old }
-    ensures added { OnOk result (IsAdded (record { rows = rows.old; given = given.old; tags = tags.old }) row (record { rows = rows.new; given = given.new; tags = tags.new })) }
+    ensures added { OnOk result (IsAdded (record { rows = rows.old; given = given.old; tags = tags.old }) row counts (record { rows = rows.new; given = given.new; tags = tags.new })) }
     ensures kept { OnErr result ((rows.new ≡ rows.old) × (given.new ≡ given.old) × (tags.new ≡ tags.old)) }
     ensures of_tags { (assumed : List Tagged) → AreOfTags assumed (record { rows = rows.old; given = given.old; tags = tags.old }) → IsBlockOf assumed row.from.deriv.hyps row.from.tags → AreOfTags assumed (record { rows = rows.new; given = given.new; tags = tags.new }) }
     ensures fits { Fits store.now (record { rows = rows.new; given = given.new; tags = tags.new }) }
@@ -110,7 +114,7 @@ pub fn assume_row(
         real,
     };
     push_source(given, tags, lines, own)?;
-    match rows.assume(alloc, lin, strict, integral, number) {
+    match rows.assume(alloc, lin, strict, integral, counts, number) {
         Ok(()) => Ok(()),
         Err(refused) => {
             take_given(given);
@@ -131,8 +135,10 @@ pub fn solve_rows(
 ) -> Result<Ineq, Fail>
     requires fits { Fits store.now (record { rows = rows.old; given = given.now; tags = tags.now }) }
     ensures point { (made : List PointAtValue) → result ≡ Ok (Point made) → ArePositiveAt (at_point made) rows.new }
+    ensures stand { (made : List PointAtValue) → result ≡ Ok (Point made) → AllByRecursion IsPointNumber made }
     ensures contradictory { (e : ExplainedValue) → result ≡ Ok (Contradiction e) → IsContradictory store.now.signature e.block }
     ensures zero { (e : ExplainedValue) → result ≡ Ok (Contradiction e) → (line : ℕ) × (e.block.ending ≡ Zero line) }
+    ensures built { (e : ExplainedValue) → result ≡ Ok (Contradiction e) → AreBuilt store.now.signature (terms_in store.now) e.block.deriv.lines }
     ensures made_of { (e : ExplainedValue) → result ≡ Ok (Contradiction e) → IsMadeOfRows (record { rows = rows.new; given = given.now; tags = tags.now }) e }
     ensures literals { (e : ExplainedValue) (assumed : List Tagged) → result ≡ Ok (Contradiction e) → AreOfTags assumed (record { rows = rows.old; given = given.now; tags = tags.now }) → IsBlockOf assumed e.block.deriv.hyps e.tags }
     ensures tight { (tight : List RowValue) → result ≡ Ok (Tight tight) → AreTightRows store.now (record { rows = rows.new; given = given.now; tags = tags.now }) tight }

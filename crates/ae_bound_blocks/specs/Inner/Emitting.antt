@@ -20,7 +20,7 @@ use Rattle.ae_trim.specs.Inner.Marks.{marked}
 use Rattle.ae_bound_blocks.specs.declared.given.Given.{Given}
 use Rattle.ae_bound_blocks.specs.declared.emitting.Emitted.{Emitted}
 use Rattle.ae_bound_blocks.specs.Ancestors.{sources_at, tags_of, hyps_of}
-use Rattle.ae_bound_blocks.specs.Said.{kept, was, row_fact, AreNumbersOf, IsGiven}
+use Rattle.ae_bound_blocks.specs.Said.{kept, was, row_fact, AreBuilt, AreNumbersOf, HasNumbers, IsGiven}
 
 -- a form is the combination of two others
 pub record IsCombinationOf (first second r : Unrounded) : Type 0 where
@@ -38,13 +38,15 @@ pub record IsCombinationOf (first second r : Unrounded) : Type 0 where
 pub record IsSaid (sig : Signature) (ts : List Term) (real : Bool) (lines : List EqLine) (line : ℕ) (r : Unrounded) : Type 0 where
   pub stated : Stated lines line (row_fact ts real r.strict r.lin)
   pub numbers : AreNumbersOf sig ts real r.lin
+  pub integers : HasNumbers sig ts real
 
--- allowed lines, after the old ones, of which the last says the form
+-- allowed lines, after the old ones, of which the last says the form; the new ones are between terms that are built of the names
 pub record IsSaidAfter (sig : Signature) (ts : List Term) (real : Bool) (old new : Deriv) (r : Unrounded) : Type 0 where
   pub allowed : AllAllowed sig (fact_ok sig) new.hyps [] new.lines
   pub before : (k : ℕ) (f : Fact) → Stated old.lines k f → Stated new.lines k f
   pub some : 0 < length new.lines
   pub last : (k : ℕ) → suc k ≡ length new.lines → IsSaid sig ts real new.lines k r
+  pub built : AreBuilt sig ts old.lines → AreBuilt sig ts new.lines
 
 -- a row that was rounded is over integers, and the names of the form that it had are opaque terms, different names different ones
 abbrev pub IsRoundable : List Term → Bool → Row → Type 0
@@ -74,3 +76,4 @@ pub record AreEmitted (sig : Signature) (ts : List Term) (real : Bool) (rows : L
   pub last : (k : ℕ) → suc k ≡ count → marked marks k ≡ true → suc (get_or e.places k 0) ≡ length e.deriv.lines
   pub tags : e.tags ≡ tags_of (take count marks) rows
   pub hyps : e.deriv.hyps ≡ flat_map (hyps_of given) e.tags
+  pub built : AreBuilt sig ts e.deriv.lines

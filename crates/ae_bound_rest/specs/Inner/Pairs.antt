@@ -10,7 +10,7 @@ use Rattle.ae_bound_rest.specs.declared.combining.Both.{Both}
 use Rattle.ae_bound_rest.specs.Rest.{plain, IsRoundingOf, IsStandingIn, IsDoneIn}
 
 abbrev pub IsPlain : Row → Type 0
-IsPlain p = p ≡ plain p.lin p.strict p.integral
+IsPlain p = p ≡ plain p.lin p.strict p.integral p.counts
 
 -- rounding leaves the row as it is, or isn't within the limits
 abbrev pub IsItself : Row → Type 0

@@ -25,4 +25,4 @@ returns-clause-said c =
     let from = c.last_line-from.result in
     let s : suc from ≡ length both.lines = c.last_line-from.ensures in
     let at : from + 1 ≡ length both.lines = omega (arith, s) in
-    given_after sig ts c.args.real u c.args.given.now c.requires.given c.args.deriv both w.lines _ from c.requires.normal w.before w.after (w.allowed sig c.requires.allowed c.requires.given.allowed) at refl (search rules)
+    given_after sig ts c.args.real u c.args.given.now c.requires.given c.args.deriv both w.lines _ from c.requires.normal w.before w.after w.factors (w.allowed sig c.requires.allowed c.requires.given.allowed) at refl (search rules)

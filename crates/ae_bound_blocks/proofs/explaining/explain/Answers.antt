@@ -26,3 +26,6 @@ returns-clause-tags c = c.in_ok-grounds.ensures.tags
 
 pub returns-clause-hyps : goal.returns-clause-hyps
 returns-clause-hyps c = c.in_ok-grounds.ensures.hyps
+
+pub returns-clause-built : goal.returns-clause-built
+returns-clause-built c = let r = c.requires.refuted in (c.in_ok-grounds.ensures.said r.row r.at).built

@@ -47,3 +47,6 @@ returns-clause-wide c =
     let stages = c.in_ok-stages.stages in
     let staged = c.in_ok-stages.ensures in
     λ w e. wide_same (HasStage stages) (IsNonzeroRow rows) (to_rows rows c.requires.normal stages staged) (to_stages rows c.requires.normal stages staged) w (c.point.ensures.wide w e)
+
+pub returns-clause-numbers : goal.returns-clause-numbers
+returns-clause-numbers c = c.point.ensures.numbers

@@ -1,4 +1,4 @@
-use Rattle.std.specs.Prelude.{◌≡◌, ◌&&◌, ◌||◌, Err}
+use Rattle.std.specs.Prelude.{◌≡◌, ◌&&◌, ◌||◌, true, Err}
 use Rattle.std.proofs.Common.{ap, ◌∙◌, refl, inl}
 use Rattle.std.proofs.lemmas.Result.{err_from_is_err_and}
 use Rattle.ae_theory.specs.declared.theory.Fail.TheVariants.{Number}
@@ -20,12 +20,12 @@ returns-in_err-lin-in-Some-clause-number c = λ w e a b.
 pub returns-in_ok-lin-in-Some-clause-done : goal.returns-in_ok-lin-in-Some-clause-done
 returns-in_ok-lin-in-Some-clause-done c =
     done_form c.note_both.new.sure c.args.low.now c.args.high.now c.requires.lower c.requires.upper c.in-Some.at c.in-Some.ensures.some c.in_ok-lin-in-Some.lin c.plain-row.result
-    (c.plain-row.ensures ∙ (λ i. plain c.in_ok-lin-in-Some.lin (c.one_strict-strict.ensures i) (c.both_integral-integral.ensures i))) c.in_ok-lin-in-Some.ensures.normal c.in_ok-lin-in-Some.ensures.exact
+    (c.plain-row.ensures ∙ (λ i. plain c.in_ok-lin-in-Some.lin (c.one_strict-strict.ensures i) (c.both_integral-integral.ensures i) true)) c.in_ok-lin-in-Some.ensures.normal c.in_ok-lin-in-Some.ensures.exact
     c.note_both.result c.note_both.ensures.there c.note_both.ensures.rounded
 
 pub returns-in_ok-lin-in-Some-clause-grown : goal.returns-in_ok-lin-in-Some-clause-grown
 returns-in_ok-lin-in-Some-clause-grown c = λ a b.
-    let is = c.plain-row.ensures ∙ (λ i. plain c.in_ok-lin-in-Some.lin (c.one_strict-strict.ensures i) (c.both_integral-integral.ensures i)) in
+    let is = c.plain-row.ensures ∙ (λ i. plain c.in_ok-lin-in-Some.lin (c.one_strict-strict.ensures i) (c.both_integral-integral.ensures i) true) in
     let made = form_made c.args.sure.now c.args.low.now c.args.high.now c.requires.lower c.requires.upper c.in-Some.at c.in-Some.ensures.some c.in_ok-lin-in-Some.lin c.plain-row.result is c.in_ok-lin-in-Some.ensures.normal
     c.in_ok-lin-in-Some.ensures.exact in
     c.note_both.ensures.grown (made c.plain-row.result (inl is) a b)

@@ -1,5 +1,5 @@
 use Rattle.std.specs.Prelude.{Option, IfSome, ◌≡◌, Some}
-use Rattle.std.proofs.Common.{subst}
+use Rattle.std.proofs.Common.{ap, ◌∙◌, subst}
 use Rattle.std.proofs.lemmas.Result.{on_ok_weaker}
 use Rattle.ae_num.specs.Forms.{meaning}
 use Rattle.ae_bounds.specs.declared.rows.Row.{Row}
@@ -11,6 +11,11 @@ use Rattle.ae_bound_rest.proofs.combining.note_both.Goals as goal
 
 pub returns-in_err-rounded-clause-grown : goal.returns-in_err-rounded-clause-grown
 returns-in_err-rounded-clause-grown c = λ m k. as_it_was
+
+pub note_one-requires-in-Some-clause-counts : goal.note_one-requires-in-Some-clause-counts
+note_one-requires-in-Some-clause-counts c =
+    let is : IsRoundingOf c.args.row c.in-Some.form = subst (λ (o : Option Row). IfSome o (IsRoundingOf c.args.row)) c.in-Some.is c.in_ok-rounded.ensures.some in
+    ap (λ (y : Row). y.counts) is.own ∙ c.requires.counts
 
 pub returns-in-Some-clause-there : goal.returns-in-Some-clause-there
 returns-in-Some-clause-there c =

@@ -15,8 +15,11 @@ returns-then-has_direction-clause-there c =
 pub returns-then-has_direction-clause-grown : goal.returns-then-has_direction-clause-grown
 returns-then-has_direction-clause-grown c = λ m. as_it_was
 
+pub note-requires-clause-counts : goal.note-requires-clause-counts
+note-requires-clause-counts c = λ tag e. c.requires.counts
+
 pub returns-clause-there : goal.returns-clause-there
-returns-clause-there c = there_noted c.args.sure.now c.note.new.rows c.args.row c.note.result c.requires.plain c.note.ensures.rows
+returns-clause-there c = there_noted c.args.sure.now c.note.new.rows c.args.row c.note.result c.requires.counts c.requires.plain c.note.ensures.rows
 
 pub returns-clause-grown : goal.returns-clause-grown
 returns-clause-grown c = λ m.

@@ -6,7 +6,11 @@ use Rattle.ae_bounds.specs.Combinations.IsExtended.{as_it_was}
 use Rattle.ae_bounds.proofs.Zeros.{zero_form, direction_normal}
 use Rattle.ae_bounds.proofs.Indexing.{seen_there}
 use Rattle.ae_bounds.proofs.Noted.{held_added, held_seen, extended_added}
+use Rattle.ae_bounds.proofs.OwnForms.{combined_counts}
 use Rattle.ae_bounds.proofs.bounds.keep_zero.Goals as goal
+
+pub add-requires-clause-counts : goal.add-requires-clause-counts
+add-requires-clause-counts c = combined_counts c.args.row c.requires.combined.lower c.requires.combined.upper c.requires.combined.from
 
 pub returns-then-not-is_zero-clause-held : goal.returns-then-not-is_zero-clause-held
 returns-then-not-is_zero-clause-held c =

@@ -2,7 +2,11 @@ use Rattle.std.proofs.Common.{◌≡◌, ◌∙◌, sym}
 use Rattle.ae_bounds.specs.Combinations.IsExtended.{as_it_was}
 use Rattle.ae_bounds.proofs.Indexing.{unseen_there}
 use Rattle.ae_bounds.proofs.Noted.{held_noted, extended_noted}
+use Rattle.ae_bounds.proofs.OwnForms.{combined_counts}
 use Rattle.ae_bounds.proofs.bounds.note_new.Goals as goal
+
+pub note-requires-clause-counts : goal.note-requires-clause-counts
+note-requires-clause-counts c = combined_counts c.args.row c.requires.combined.lower c.requires.combined.upper c.requires.combined.from
 
 pub returns-in_err-direction-clause-extended : goal.returns-in_err-direction-clause-extended
 returns-in_err-direction-clause-extended c = as_it_was

@@ -14,11 +14,11 @@ returns-clause-added c = on_ok_weaker c.push_more.result (λ (e : c.push_more.ne
 
 pub returns-clause-kept : goal.returns-clause-kept
 returns-clause-kept c =
-    kept_both c.args.rows.now c.push.new.rows c.args.directions.now.keys c.push.new.directions.keys c.args.row c.args.direction c.args.earlier c.len-count.result c.len-count.ensures.len c.requires.indexed c.requires.direction
+    kept_both c.args.rows.now c.push.new.rows c.args.directions.now.keys c.push.new.directions.keys c.args.row c.args.direction c.args.earlier c.requires.counts c.len-count.result c.len-count.ensures.len c.requires.indexed c.requires.direction
     c.requires.more c.requires.earlier c.in_ok-push.ensures.rows c.in_ok-push.ensures.directions c.push_more.result c.push_more.new.rows c.push_more.new.directions.keys c.push_more.ensures.taken c.push_more.ensures.cut
 
 pub returns-clause-indexed : goal.returns-clause-indexed
 returns-clause-indexed c =
-    indexed_more c.args.rows.now c.push.new.rows c.args.directions.now.keys c.push.new.directions.keys c.args.row c.args.direction c.args.earlier c.len-count.result c.len-count.ensures.len c.requires.indexed c.requires.direction
+    indexed_more c.args.rows.now c.push.new.rows c.args.directions.now.keys c.push.new.directions.keys c.args.row c.args.direction c.args.earlier c.requires.counts c.len-count.result c.len-count.ensures.len c.requires.indexed c.requires.direction
     c.requires.more c.requires.earlier c.in_ok-push.ensures.rows c.in_ok-push.ensures.directions c.push_more.result c.push_more.new.rows c.push_more.new.directions.keys c.push_more.ensures.rows c.push_more.ensures.directions
     c.push_more.ensures.taken c.push_more.ensures.cut

@@ -26,6 +26,7 @@ returns-in-Ok-clause-added c =
     let k = c.in-Ok.ensures.added in
     record {
       kept = k.0;
+      marked = k.3;
       assumed = subst (λ (n : ℕ). IsAssumed c.args.row.lin c.args.row.strict c.args.row.integral n k.0) c.len-number.ensures k.2;
       rows = k.1;
       given = given_back c.args.row _ c.args.given.now c.push_source.new.given (to_z-of_z w128 c.args.row.multiple (search rules)) c.in_ok-push_source.ensures.given;

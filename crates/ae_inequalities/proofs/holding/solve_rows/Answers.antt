@@ -13,6 +13,7 @@ use Rattle.ae_bounds.specs.Findings.{AreFounded}
 use Rattle.ae_bound_points.specs.Points.{ArePositiveAt}
 use Rattle.ae_bound_blocks.specs.declared.given.Given.{Given}
 use Rattle.ae_bound_blocks.specs.Ancestors.{hyps_of}
+use Rattle.ae_bound_blocks.specs.Said.{AreBuilt}
 use Rattle.ae_bound_blocks.specs.Tight.{AreTight}
 use Rattle.ae_bound_rest.proofs.Agreed.{agreed_kept}
 use Rattle.ae_bound_solve.specs.Given.{AreAllGiven, AreOpaqueNames}
@@ -62,6 +63,11 @@ returns-clause-point c = λ made e.
     let a = c.answered.ensures.point made e in
     subst (λ v. ArePositiveAt v c.solve_licensed.new.bounds) (sym a.2) (c.in_ok-answer.ensures.point a.0 (ap Ok a.1))
 
+pub returns-clause-stand : goal.returns-clause-stand
+returns-clause-stand c = λ made e.
+    let a = c.answered.ensures.stand made e in
+    a.2 (c.in_ok-answer.ensures.numbers a.0 (ap Ok a.1))
+
 pub returns-clause-contradictory : goal.returns-clause-contradictory
 returns-clause-contradictory c = λ e h.
     let a = c.answered.ensures.contradiction e h in
@@ -72,6 +78,12 @@ returns-clause-zero c = λ e h.
     let a = c.answered.ensures.contradiction e h in
     let z = c.in_ok-answer.ensures.zero a.0 (ap Ok a.1) in
     (z.0, ap (λ (b : Block). b.ending) a.2 ∙ z.1)
+
+pub returns-clause-built : goal.returns-clause-built
+returns-clause-built c = λ e h.
+    let a = c.answered.ensures.contradiction e h in
+    let s = c.args.store.now in
+    subst (λ (b : Block). AreBuilt s.signature (terms_in s) b.deriv.lines) (sym a.2) (c.in_ok-answer.ensures.built a.0 (ap Ok a.1))
 
 pub returns-clause-made_of : goal.returns-clause-made_of
 returns-clause-made_of c = λ e h.

@@ -43,6 +43,9 @@ returns c =
           says = subst (λ (l : Lin). Says (named ts) g.given.multiple (meaning l) (states w.last)) (sym lin) w.says;
           sorted = w.sorted;
           numbers = subst (λ (l : Lin). AreNumbersOf sig ts g.given.real l) (sym lin) w.numbers;
+          integers = w.integers;
+          fits = w.fits;
+          built = w.built;
         };
         whole = c.in_ok-grounds.ensures.sort kept at;
         opaque = λ i.
