@@ -1,0 +1,5 @@
+mod Gaps
+pub mod RowLines
+pub mod Literals
+mod Ordered
+mod Fitting

@@ -1,0 +1,4 @@
+//! The lines that say the rows of inequality literals between names.
+#![tactic(auto)]
+
+pub mod given;
