@@ -1,0 +1,4 @@
+pub mod Trails
+pub mod Standing
+mod Combined
+pub mod Passed

@@ -1,0 +1,4 @@
+//! Pairs of numbers of a trail whose order it leaves open.
+#![tactic(auto)]
+
+pub mod pairs;
