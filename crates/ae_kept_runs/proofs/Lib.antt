@@ -1,0 +1,5 @@
+pub mod Lines
+mod Constants
+mod Numerals
+pub mod Running
+pub mod Learnt

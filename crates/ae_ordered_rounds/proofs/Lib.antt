@@ -1,0 +1,10 @@
+mod Trails
+mod Steps
+mod Stopping
+mod Pointless
+mod Learning
+mod Solving
+mod Closed
+mod Orderable
+mod Rows
+mod Fractions

@@ -1,0 +1,3 @@
+-- What the functions of this crate do. A reader need not believe any of it.
+pub mod Orderable
+pub mod Solving
