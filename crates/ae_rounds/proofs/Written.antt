@@ -16,6 +16,7 @@ use Rattle.ae_core.specs.declared.proofs.Proof.{Proof}
 use Rattle.ae_core.specs.declared.terms.Term.{Term}
 use Rattle.ae_finished_rounds.proofs.Standing.{literal_sorted, of_clause, signature_of}
 use Rattle.ae_journal.proofs.Splits.{contains_here, contains_later}
+use Rattle.ae_journal.specs.declared.systems.PointAt.{PointAt}
 use Rattle.ae_legal_texts.specs.Numbers.{line_numbers, term_numbers}
 use Rattle.ae_legal_texts.specs.Writable.{no_negations_in}
 use Rattle.ae_numerals_kept.specs.Lowest.{IsLowestTerm}
@@ -23,6 +24,7 @@ use Rattle.ae_open_states.proofs.Trails.{all_of_each}
 use Rattle.ae_open_states.specs.Shown.{trail_literals}
 use Rattle.ae_rules.specs.Clauses.{Clause}
 use Rattle.ae_state.specs.Names.{system_now}
+use Rattle.ae_stategrammar.specs.Points.{PointStands}
 use Rattle.ae_store.specs.Stores.{Stored}
 use Rattle.ae_theory.specs.Names.{terms_in}
 use Rattle.ae_writable.specs.Numbers.{AreValuesWithin, HasLowestNumerals, IsValueWithin}
@@ -46,24 +48,24 @@ terms_within : (ts : List Term) → ((t : Term) → Contains ts t → IsLowestTe
 terms_within [] h = tt
 terms_within (t ∷ ts) h = all_append IsValueWithin (term_numbers t) (flat_map term_numbers ts) (h t (contains_here t ts)) (terms_within ts (λ u i. h u (contains_later t ts u i)))
 
-module _ (p : Problem) (g bound : ℕ) (o : Search) (done : IsFinishedAt p g bound o []) (low : HasLowestNumerals p) where
+module _ (p : Problem) (g bound : ℕ) (o : Search) (point : List PointAt) (done : IsFinishedAt p g bound o point) (low : HasLowestNumerals p) where
   fine : AreFine o.store o.lines.items o.solver.propagation.clauses
   fine = done.between.holds.fine low
 
   literals_fine : AllByRecursion (λ (l : Lit). IsFineFormula l.formula) (trail_literals o.solver.propagation.trail)
   literals_fine =
       all_of_each (λ (l : Lit). IsFineFormula l.formula) (trail_literals o.solver.propagation.trail)
-      (λ l h. let c = of_clause p g bound o [] done l h in fine.formulas c.0 l c.1 c.2)
+      (λ l h. let c = of_clause p g bound o point done l h in fine.formulas c.0 l c.1 c.2)
 
   literals_sorted : AllByRecursion (λ (l : Lit). formula_ok p.signature l.formula ≡ true) (trail_literals o.solver.propagation.trail)
-  literals_sorted = all_of_each (λ (l : Lit). formula_ok p.signature l.formula ≡ true) (trail_literals o.solver.propagation.trail) (λ l h. literal_sorted p g bound o [] done l h)
+  literals_sorted = all_of_each (λ (l : Lit). formula_ok p.signature l.formula ≡ true) (trail_literals o.solver.propagation.trail) (λ l h. literal_sorted p g bound o point done l h)
 
-  pub state_writable : AllByRecursion (IsWritableRule o.solver.theory.signature) (system_now o.solver.theory).rules → IsWritableState p.signature (shown_at o [])
-  state_writable rules = record {
+  pub state_writable : AllByRecursion (IsWritableRule o.solver.theory.signature) (system_now o.solver.theory).rules → AllByRecursion PointStands point → IsWritableState p.signature (shown_at o point)
+  state_writable rules points = record {
     sorted = test_of_all (λ (l : Lit). formula_ok p.signature l.formula ≡ true) (λ (l : Lit). formula_ok p.signature l.formula) (λ l h. h) (trail_literals o.solver.propagation.trail) literals_sorted;
     direct = signs_of (trail_literals o.solver.propagation.trail) literals_fine;
     literals = values_of (trail_literals o.solver.propagation.trail) literals_fine;
     names = subst (λ (ts : List Term). AreValuesWithin (flat_map term_numbers ts)) (sym done.is_open.complete.1) (terms_within (terms_in o.store) fine.names);
-    rules = subst (λ (sig : Signature). AllByRecursion (IsWritableRule sig) (system_now o.solver.theory).rules) (sym (signature_of p g bound o [] done)) rules;
-    points = tt;
+    rules = subst (λ (sig : Signature). AllByRecursion (IsWritableRule sig) (system_now o.solver.theory).rules) (sym (signature_of p g bound o point done)) rules;
+    points = points;
   }

@@ -1,14 +1,19 @@
 -- What a run of the solver, a round, and a search come to.
-use Rattle.std.specs.Prelude.{ℕ, ◌<◌, ◌≤◌, ◌≡◌, Bool, true, false, length, Result, Ok, Err}
+use Rattle.std.specs.Prelude.{ℕ, ◌<◌, ◌≤◌, ◌≡◌, Bool, true, false, List, length, Result, Ok, Err}
+use Rattle.std.specs.List.{AllByRecursion}
 use Rattle.ae_between_rounds.specs.Between.{IsBetweenRounds, IsStopped}
-use Rattle.ae_between_rounds.specs.Finished.{IsInstantiatedBy, IsOpenSearch}
+use Rattle.ae_between_rounds.specs.Finished.{IsFinishedAt, IsInstantiatedBy, IsOpenSearch}
+use Rattle.ae_between_rounds.specs.Passing.{Passes}
 use Rattle.ae_between_rounds.specs.declared.search.Search.{Search}
 use Rattle.ae_core.specs.declared.problems.Problem.{Problem}
 use Rattle.ae_journal.specs.Journals.{counted_in}
 use Rattle.ae_journal.specs.Licences.{IsLicensed}
 use Rattle.ae_journal.specs.Standing.{Setting}
 use Rattle.ae_journal.specs.declared.answers.WideAt.{WideAt}
+use Rattle.ae_journal.specs.declared.systems.PointAt.{PointAt}
 use Rattle.ae_opening.specs.Asking.{AllServed}
+use Rattle.ae_ordered_rounds.specs.Orders.{AreOrdersOf}
+use Rattle.ae_ordered_rounds.specs.declared.orders.Orders.{Orders}
 use Rattle.ae_rounds.specs.declared.rounds.End.{End}
 use Rattle.ae_rounds.specs.declared.rounds.End.TheVariants as end
 use Rattle.ae_rounds.specs.declared.rounds.Progress.{Progress}
@@ -17,6 +22,7 @@ use Rattle.ae_sat.specs.Search.{EndsEmpty}
 use Rattle.ae_sat.specs.declared.run.SatEnd.{SatEnd}
 use Rattle.ae_sat.specs.declared.run.SatEnd.TheVariants as sat_end
 use Rattle.ae_searching.specs.Told.{IsToldIn}
+use Rattle.ae_stategrammar.specs.Points.{PointStands}
 use Rattle.ae_theory.specs.declared.theory.Fail.{Fail}
 use Rattle.ae_theory.specs.declared.theory.Fail.TheVariants as fail
 
@@ -38,22 +44,20 @@ module _ (p : Problem) (g bound : ℕ) where
   abbrev pub IsRefuted : Search → Type 0
   IsRefuted o = IsBetweenRounds p g bound o × EndsEmpty o.lines.items
 
-  -- neither the solver nor a block nor an instance is left
-  pub record IsSettled (o : Search) : Type 0 where
-    pub between : IsBetweenRounds p g bound o
-    pub is_open : IsOpenSearch o
-    pub served : AllServed o.solver.propagation.trail o.blocks.opened
-    pub instantiated : IsInstantiatedBy p g bound o
+  -- neither the solver nor a block, an inequality or an instance is left; the point has a text
+  pub record IsSettledAt (o : Search) (point : List PointAt) : Type 0 where
+    pub finished : IsFinishedAt p g bound o point
+    pub written : AllByRecursion PointStands point
 
   -- after a run no line is gone
   abbrev pub HasRun : Search → Search → Result SatEnd Fail → Type 0
   HasRun old new (Ok sat_end.Refuted) = IsRefuted new
-  HasRun old new (Ok sat_end.Open) = IsBetweenRounds p g bound new × IsOpenSearch new × (length old.lines.items ≤ length new.lines.items)
+  HasRun old new (Ok sat_end.Open) = IsBetweenRounds p g bound new × IsOpenSearch new × (length old.lines.items ≤ length new.lines.items) × Passes old new
   HasRun old new (Err e) = HasFailed new e
 
   -- a block was opened, or none asks for terms, and nothing has changed
   abbrev pub HasOpened : Search → Search → Result Bool Fail → Type 0
-  HasOpened old new (Ok true) = IsBetweenRounds p g bound new × (length old.lines.items < length new.lines.items)
+  HasOpened old new (Ok true) = IsBetweenRounds p g bound new × (length old.lines.items < length new.lines.items) × Passes old new
   HasOpened old new (Ok false) = (new ≡ old) × AllServed old.solver.propagation.trail old.blocks.opened
   HasOpened old new (Err e) = HasFailed new e
 
@@ -66,18 +70,18 @@ module _ (p : Problem) (g bound : ℕ) where
     pub blocks : new.blocks ≡ old.blocks
 
   abbrev pub HasMade : Search → Search → Result Bool Fail → Type 0
-  HasMade old new (Ok true) = IsBetweenRounds p g bound new × (length old.lines.items < length new.lines.items)
+  HasMade old new (Ok true) = IsBetweenRounds p g bound new × (length old.lines.items < length new.lines.items) × Passes old new
   HasMade old new (Ok false) = IsInstantiatedFrom old new
   HasMade old new (Err e) = HasFailed new e
 
-  -- after a round that added something there are more lines
-  abbrev pub HasComeTo : Search → Search → Result Progress Fail → Type 0
-  HasComeTo old new (Ok progress.Refuted) = IsRefuted new
-  HasComeTo old new (Ok progress.Added) = IsBetweenRounds p g bound new × (length old.lines.items < length new.lines.items)
-  HasComeTo old new (Ok progress.Finished) = IsSettled new
-  HasComeTo old new (Err e) = HasFailed new e
+  -- after a round that added something there are more lines, and what is known of orders is right
+  abbrev pub HasComeTo : Search → Search → Orders → Result Progress Fail → Type 0
+  HasComeTo old new k (Ok progress.Refuted) = IsRefuted new
+  HasComeTo old new k (Ok progress.Added) = IsBetweenRounds p g bound new × (length old.lines.items < length new.lines.items) × AreOrdersOf p g new k
+  HasComeTo old new k (Ok (progress.Finished point)) = IsSettledAt new point
+  HasComeTo old new k (Err e) = HasFailed new e
 
   abbrev pub HasEnded : Search → Result End Fail → Type 0
   HasEnded o (Ok end.Refuted) = IsRefuted o
-  HasEnded o (Ok end.Open) = IsSettled o
+  HasEnded o (Ok (end.Open point)) = IsSettledAt o point
   HasEnded o (Err e) = HasFailed o e

@@ -3,7 +3,6 @@ ghost use Rattle.std.specs.Prelude.{◌≡◌, ◌<◌, Some, IfOk};
 ghost use Rattle.ae_core.specs.Signatures.{IsLawfulProblem};
 ghost use Rattle.ae_core.specs.declared.formulas.Formula.{Formula as FormulaValue};
 ghost use Rattle.ae_journal.specs.Answers.{IsAnswer};
-ghost use Rattle.ae_orderless.specs.Orderless.{IsOrderlessGoal};
 ghost use Rattle.ae_rules.specs.Derivations.{goal_body};
 ghost use Rattle.ae_writable.specs.Numbers.{HasLowestNumerals};
 ghost use Rattle.ae_writable.specs.Writable.{IsWritable};
@@ -14,6 +13,8 @@ use ae_between_rounds::search::Task;
 use ae_core::problems::Problem;
 use ae_first_round::begin;
 use ae_journal::answers::Answer;
+use ae_ordered_rounds::laws::orders_begin;
+use ae_ordered_rounds::orders::Orders;
 use ae_search_options::limits::Limits;
 use ae_search_options::picks::Picks;
 use std::alloc::{AllocError, Global};
@@ -31,7 +32,6 @@ pub fn prove(
 ) -> Result<Answer, AllocError>
     requires lawful { IsLawfulProblem problem.now }
     requires goal { (f : FormulaValue) × (goal_body problem.now goal ≡ Some f) }
-    requires orderless { IsOrderlessGoal problem.now goal }
     requires which { which < 3 }
     ensures answer { IfOk result (IsAnswer problem.now goal limits.now.steps limits.now.generations) }
     ensures written { HasLowestNumerals problem.now → IfOk result (IsWritable problem.now.signature) }
@@ -46,6 +46,11 @@ pub fn prove(
         generations: limits.generations,
     };
     let mut search = begin(task)?;
-    let end = run_rounds(task, &mut search);
-    answer_of(task, search, end)
+    orders_begin();
+    let mut orders = Orders::new();
+    let end = run_rounds(task, &mut search, &mut orders);
+    let answer = answer_of(task, &mut search, end);
+    drop(orders);
+    drop(search);
+    answer
 }

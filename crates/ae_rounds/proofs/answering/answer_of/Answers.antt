@@ -7,8 +7,7 @@ use Rattle.ae_rounds.proofs.answering.answer_of.Goals as goal
 
 pub ended_answer-requires : goal.ended_answer-requires
 ended_answer-requires g c = record {
-  orderless = c.requires.orderless;
-  ended = subst (λ (r : Result End Fail). HasEnded c.args.task.problem.now c.args.task.goal c.args.task.generations c.args.search r) c.in-Ok.is c.requires.ended;
+  ended = subst (λ (r : Result End Fail). HasEnded c.args.task.problem.now c.args.task.goal c.args.task.generations c.args.search.now r) c.in-Ok.is c.requires.ended;
 }
 
 pub returns-in-Ok : goal.returns-in-Ok
@@ -17,7 +16,7 @@ returns-in-Ok g c = record { answer = c.ended_answer.ensures.answer; written = c
 pub stopped_answer-requires : goal.stopped_answer-requires
 stopped_answer-requires g c = record {
   lawful = c.requires.lawful;
-  failed = subst (λ (r : Result End Fail). HasEnded c.args.task.problem.now c.args.task.goal c.args.task.generations c.args.search r) c.in-Err.is c.requires.ended;
+  failed = subst (λ (r : Result End Fail). HasEnded c.args.task.problem.now c.args.task.goal c.args.task.generations c.args.search.now r) c.in-Err.is c.requires.ended;
   limit = c.requires.limit;
 }
 

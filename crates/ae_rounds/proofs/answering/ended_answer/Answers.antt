@@ -5,15 +5,14 @@ use Rattle.ae_rounds.specs.declared.rounds.End.{End}
 use Rattle.ae_rounds.proofs.answering.ended_answer.Goals as goal
 
 pub refuted_answer-requires : goal.refuted_answer-requires
-refuted_answer-requires g c = record { refuted = subst (λ (x : End). HasEnded c.args.task.problem.now c.args.task.goal c.args.task.generations c.args.search (Ok x)) c.in-Refuted.is c.requires.ended }
+refuted_answer-requires g c = record { refuted = subst (λ (x : End). HasEnded c.args.task.problem.now c.args.task.goal c.args.task.generations c.args.search.now (Ok x)) c.in-Refuted.is c.requires.ended }
 
 pub returns-in-Refuted : goal.returns-in-Refuted
 returns-in-Refuted g c = record { answer = c.refuted_answer.ensures.answer; written = c.refuted_answer.ensures.written }
 
 pub open_answer-requires : goal.open_answer-requires
 open_answer-requires g c = record {
-  orderless = c.requires.orderless;
-  settled = subst (λ (x : End). HasEnded c.args.task.problem.now c.args.task.goal c.args.task.generations c.args.search (Ok x)) c.in-Open.is c.requires.ended;
+  settled = subst (λ (x : End). HasEnded c.args.task.problem.now c.args.task.goal c.args.task.generations c.args.search.now (Ok x)) c.in-Open.is c.requires.ended;
 }
 
 pub returns-in-Open : goal.returns-in-Open

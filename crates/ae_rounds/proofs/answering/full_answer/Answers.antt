@@ -13,7 +13,7 @@ returns g c =
     let p = c.args.task.problem.now in
     let k = c.args.task.goal in
     let b = c.args.task.generations in
-    let o = c.args.search in
+    let o = c.args.search.now in
     let w = c.requires.full in
     let answer = subst (λ (y : Story). IsAnswer p k c.args.task.steps b (Steps y)) (sym c.in_ok-story.ensures)
     (c.searches_are_told.ensures.steps p k c.args.task.steps b o.blocks.next o.store o.blocks.opened o.lines.items o.journal.lines w.0.store w.0.apart w.0.lawful (w.1 ∙ c.requires.limit)) in

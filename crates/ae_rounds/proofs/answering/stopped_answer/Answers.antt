@@ -6,7 +6,7 @@ use Rattle.ae_rounds.proofs.answering.stopped_answer.Goals as goal
 pub full_answer-requires : goal.full_answer-requires
 full_answer-requires g c = record {
   lawful = c.requires.lawful;
-  full = subst (λ (x : Fail). HasFailed c.args.task.problem.now c.args.task.goal c.args.task.generations c.args.search x) c.in-Steps.is c.requires.failed;
+  full = subst (λ (x : Fail). HasFailed c.args.task.problem.now c.args.task.goal c.args.task.generations c.args.search.now x) c.in-Steps.is c.requires.failed;
   limit = c.requires.limit;
 }
 
@@ -16,7 +16,7 @@ returns-in-Steps g c = record { answer = c.full_answer.ensures.answer; written =
 pub wide_answer-requires : goal.wide_answer-requires
 wide_answer-requires g c = record {
   lawful = c.requires.lawful;
-  wide = subst (λ (x : Fail). HasFailed c.args.task.problem.now c.args.task.goal c.args.task.generations c.args.search x) c.in-Number.is c.requires.failed;
+  wide = subst (λ (x : Fail). HasFailed c.args.task.problem.now c.args.task.goal c.args.task.generations c.args.search.now x) c.in-Number.is c.requires.failed;
   limit = c.requires.limit;
 }
 

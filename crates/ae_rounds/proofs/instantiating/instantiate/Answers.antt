@@ -1,9 +1,11 @@
 use Rattle.std.specs.Prelude.{◌≡◌, ◌<◌, Bool, Ok, Err, Result, Option, length}
 use Rattle.std.proofs.Common.{refl, sym, ap, ◌∙◌, subst, arith}
+use Rattle.ae_between_rounds.specs.Passing.Passes.{notes}
 use Rattle.ae_between_rounds.specs.declared.search.OwedAt.{OwedAt}
 use Rattle.ae_journal.specs.Noted.{Noted}
 use Rattle.ae_rounds.proofs.Failing.{failed_by, passed_on}
 use Rattle.ae_rounds.specs.Ended.{HasMade}
+use Rattle.ae_searching.specs.Steps.{NotesNoCombination}
 use Rattle.ae_theory.specs.declared.theory.Fail.{Fail}
 use Rattle.ae_theory.specs.declared.theory.Fail.TheVariants as fail
 use Rattle.ae_rounds.proofs.instantiating.instantiate.Goals as goal
@@ -59,14 +61,19 @@ returns-in_err-make_owed-in-Some g c =
     }
 
 pub returns-then-branch : goal.returns-then-branch
-returns-then-branch g c = record {
-  made = (
-    c.in_ok-make_owed-in-Some.ensures.between,
-    subst (λ v. length v.items < length c.make_owed.new.search.lines.items) (c.next_owed.ensures.lines ∙ c.matches.invariant.lines)
-        (c.make_owed.ensures.lines (c.in_ok-make_owed-in-Some.was ∙ ap (λ (x : Bool). Ok x) c.if-branch.true)),
-  );
-  limit = c.make_owed.ensures.limit ∙ ap (λ (j : Noted). j.limit) (c.next_owed.ensures.journal ∙ c.matches.invariant.journal);
-}
+returns-then-branch g c =
+    let new = c.make_owed.new.search in
+    let yes = c.in_ok-make_owed-in-Some.was ∙ ap (λ (x : Bool). Ok x) c.if-branch.true in
+    let same = c.next_owed.ensures.journal ∙ c.matches.invariant.journal in
+    let noted = c.make_owed.ensures.noted yes in
+    record {
+      made = (
+        c.in_ok-make_owed-in-Some.ensures.between,
+        subst (λ v. length v.items < length new.lines.items) (c.next_owed.ensures.lines ∙ c.matches.invariant.lines) (c.make_owed.ensures.lines yes),
+        notes (subst (λ (j : Noted). NotesNoCombination j.lines new.journal.lines) same noted.0) (subst (λ (j : Noted). length j.lines < length new.journal.lines) same noted.1),
+      );
+      limit = c.make_owed.ensures.limit ∙ ap (λ (j : Noted). j.limit) same;
+    }
 
 pub matches-preserved : goal.matches-preserved
 matches-preserved g c =

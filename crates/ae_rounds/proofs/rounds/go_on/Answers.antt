@@ -1,11 +1,15 @@
-use Rattle.std.specs.Prelude.{◌≡◌, ◌<◌, Bool, Ok, Result, length}
+use Rattle.std.specs.Prelude.{◌≡◌, ◌<◌, ◌≤◌, Bool, Ok, Err, Result, length}
 use Rattle.std.proofs.Common.{sym, ap, ◌∙◌, subst, arith}
 use Rattle.ae_between_rounds.specs.Between.{IsBetweenRounds}
 use Rattle.ae_between_rounds.specs.Finished.{IsOpenSearch}
 use Rattle.ae_between_rounds.specs.declared.search.Search.{Search}
-use Rattle.ae_rounds.proofs.Failing.{passed_on}
-use Rattle.ae_rounds.proofs.Steps.{settled_from}
-use Rattle.ae_rounds.specs.Ended.{HasComeTo, HasMade, HasOpened}
+use Rattle.ae_opening.specs.Asking.{AllServed}
+use Rattle.ae_ordered_rounds.specs.Comes.{HasOrdered}
+use Rattle.ae_ordered_rounds.specs.Orders.{AreOrdersOf}
+use Rattle.ae_ordered_rounds.specs.declared.ordering.Ordered.{Ordered}
+use Rattle.ae_rounds.proofs.Failing.{failed_ordered, passed_on}
+use Rattle.ae_rounds.proofs.Steps.{comes_later, served_still}
+use Rattle.ae_rounds.specs.Ended.{HasComeTo, HasOpened}
 use Rattle.ae_rounds.specs.declared.rounds.Progress.{Progress}
 use Rattle.ae_theory.specs.declared.theory.Fail.{Fail}
 use Rattle.ae_rounds.proofs.rounds.go_on.Goals as goal
@@ -15,57 +19,101 @@ open_some-requires g c = record { between = c.requires.between }
 
 pub returns-in_err-open_some : goal.returns-in_err-open_some
 returns-in_err-open_some g c = record {
-  comes = passed_on (λ (r : Result Progress Fail). HasComeTo c.args.task.problem.now c.args.task.goal c.args.task.generations c.args.search.now c.open_some.new.search r) c.from_residual.result
-      c.in_err-open_some.field-0.0 c.from_residual.ensures.1
+  comes = passed_on (λ (r : Result Progress Fail). HasComeTo c.args.task.problem.now c.args.task.goal c.args.task.generations c.args.search.now c.open_some.new.search c.args.orders.now r)
+      c.from_residual.result c.in_err-open_some.field-0.0 c.from_residual.ensures.1
       (subst (λ (r : Result Bool Fail). HasOpened c.args.task.problem.now c.args.task.goal c.args.task.generations c.args.search.now c.open_some.new.search r) c.in_err-open_some.was c.open_some.ensures.opened);
   limit = c.open_some.ensures.limit;
 }
 
 pub returns-then-branch : goal.returns-then-branch
-returns-then-branch g c = record {
-  comes = subst (λ (r : Result Bool Fail). HasOpened c.args.task.problem.now c.args.task.goal c.args.task.generations c.args.search.now c.open_some.new.search r)
-      (c.in_ok-open_some.was ∙ ap (λ (x : Bool). Ok x) c.if-branch.true) c.open_some.ensures.opened;
-  limit = c.open_some.ensures.limit;
-}
-
-pub instantiate-requires : goal.instantiate-requires
-instantiate-requires g c =
+returns-then-branch g c =
     let p = c.args.task.problem.now in
     let k = c.args.task.goal in
     let b = c.args.task.generations in
-    let w = subst (λ (r : Result Bool Fail). HasOpened p k b c.args.search.now c.open_some.new.search r) (c.in_ok-open_some.was ∙ ap (λ (x : Bool). Ok x) c.if-branch.false) c.open_some.ensures.opened in
+    let w = subst (λ (r : Result Bool Fail). HasOpened p k b c.args.search.now c.open_some.new.search r) (c.in_ok-open_some.was ∙ ap (λ (x : Bool). Ok x) c.if-branch.true) c.open_some.ensures.opened in
     record {
-      lawful = c.requires.lawful;
-      between = subst (IsBetweenRounds p k b) (sym w.0) c.requires.between;
-      limit = c.open_some.ensures.limit ∙ c.requires.limit;
-      is_open = subst IsOpenSearch (sym w.0) c.requires.is_open;
+      comes = (w.0, w.1, c.orders_stay.ensures p k c.args.search.now c.open_some.new.search c.args.orders.now w.2 c.requires.orders);
+      limit = c.open_some.ensures.limit;
     }
 
-pub returns-in_err-instantiate : goal.returns-in_err-instantiate
-returns-in_err-instantiate g c = record {
-  comes = passed_on (λ (r : Result Progress Fail). HasComeTo c.args.task.problem.now c.args.task.goal c.args.task.generations c.args.search.now c.instantiate.new.search r)
-      c.from_residual-in_err-instantiate.result c.in_err-instantiate.field-0.0 c.from_residual-in_err-instantiate.ensures.1
-      (subst (λ (r : Result Bool Fail). HasMade c.args.task.problem.now c.args.task.goal c.args.task.generations c.open_some.new.search c.instantiate.new.search r) c.in_err-instantiate.was c.instantiate.ensures.made);
-  limit = c.instantiate.ensures.limit ∙ c.open_some.ensures.limit;
+pub order_round-requires : goal.order_round-requires
+order_round-requires g c =
+    let p = c.args.task.problem.now in
+    let k = c.args.task.goal in
+    let b = c.args.task.generations in
+    let w = subst (λ (r : Result Bool Fail). HasOpened p k b c.args.search.now c.open_some.new.search r) (c.in_ok-open_some.was ∙ ap (λ (x : Bool). Ok x) c.if-branch.false) c.open_some.ensures.opened in
+    record {
+      between = subst (IsBetweenRounds p k b) (sym w.0) c.requires.between;
+      is_open = subst IsOpenSearch (sym w.0) c.requires.is_open;
+      served = subst (λ (o : Search). AllServed o.solver.propagation.trail o.blocks.opened) (sym w.0) w.1;
+      orders = subst (λ (o : Search). AreOrdersOf p k o c.args.orders.now) (sym w.0) c.requires.orders;
+    }
+
+pub returns-in_err-order_round : goal.returns-in_err-order_round
+returns-in_err-order_round g c =
+    let p = c.args.task.problem.now in
+    let k = c.args.task.goal in
+    let b = c.args.task.generations in
+    let e = c.order_round.ensures in
+    let new = c.order_round.new.search in
+    record {
+      comes = passed_on (λ (r : Result Progress Fail). HasComeTo p k b c.args.search.now new c.order_round.new.orders r) c.from_residual-in_err-order_round.result c.in_err-order_round.field-0.0
+          c.from_residual-in_err-order_round.ensures.1
+          (failed_ordered p k b c.open_some.new.search new c.order_round.new.orders c.in_err-order_round.field-0.0
+          (subst (λ (r : Result Ordered Fail). HasOrdered p k b c.open_some.new.search new c.order_round.new.orders r) c.in_err-order_round.was e.comes));
+      limit = e.limit ∙ c.open_some.ensures.limit;
+    }
+
+pub returns-in-Refuted : goal.returns-in-Refuted
+returns-in-Refuted g c = record {
+  comes = subst (λ (r : Result Ordered Fail). HasOrdered c.args.task.problem.now c.args.task.goal c.args.task.generations c.open_some.new.search c.order_round.new.search c.order_round.new.orders r)
+      (c.in_ok-order_round.was ∙ ap (λ (x : Ordered). Ok x) c.in-Refuted.is) c.order_round.ensures.comes;
+  limit = c.order_round.ensures.limit ∙ c.open_some.ensures.limit;
 }
 
-pub returns-then-branch-2 : goal.returns-then-branch-2
-returns-then-branch-2 g c =
+pub returns-in-Added : goal.returns-in-Added
+returns-in-Added g c =
     let p = c.args.task.problem.now in
     let k = c.args.task.goal in
     let b = c.args.task.generations in
     let w = subst (λ (r : Result Bool Fail). HasOpened p k b c.args.search.now c.open_some.new.search r) (c.in_ok-open_some.was ∙ ap (λ (x : Bool). Ok x) c.if-branch.false) c.open_some.ensures.opened in
-    let m = subst (λ (r : Result Bool Fail). HasMade p k b c.open_some.new.search c.instantiate.new.search r) (c.in_ok-instantiate.was ∙ ap (λ (x : Bool). Ok x) c.if-branch-2.true) c.instantiate.ensures.made in
-    record { comes = (m.0, subst (λ (o : Search). length o.lines.items < length c.instantiate.new.search.lines.items) w.0 m.1); limit = c.instantiate.ensures.limit ∙ c.open_some.ensures.limit }
-
-pub returns : goal.returns
-returns g c =
-    let p = c.args.task.problem.now in
-    let k = c.args.task.goal in
-    let b = c.args.task.generations in
-    let w = subst (λ (r : Result Bool Fail). HasOpened p k b c.args.search.now c.open_some.new.search r) (c.in_ok-open_some.was ∙ ap (λ (x : Bool). Ok x) c.if-branch.false) c.open_some.ensures.opened in
-    let m = subst (λ (r : Result Bool Fail). HasMade p k b c.open_some.new.search c.instantiate.new.search r) (c.in_ok-instantiate.was ∙ ap (λ (x : Bool). Ok x) c.if-branch-2.false) c.instantiate.ensures.made in
+    let h = subst (λ (r : Result Ordered Fail). HasOrdered p k b c.open_some.new.search c.order_round.new.search c.order_round.new.orders r)
+    (c.in_ok-order_round.was ∙ ap (λ (x : Ordered). Ok x) c.in-Added.is) c.order_round.ensures.comes in
     record {
-      comes = settled_from p k b c.args.search.now c.open_some.new.search c.instantiate.new.search w.0 w.1 m;
-      limit = c.instantiate.ensures.limit ∙ c.open_some.ensures.limit;
+      comes = (h.0, subst (λ (o : Search). length o.lines.items < length c.order_round.new.search.lines.items) w.0 h.1, h.2);
+      limit = c.order_round.ensures.limit ∙ c.open_some.ensures.limit;
+    }
+
+pub finish-requires : goal.finish-requires
+finish-requires g c =
+    let p = c.args.task.problem.now in
+    let k = c.args.task.goal in
+    let b = c.args.task.generations in
+    let w = subst (λ (r : Result Bool Fail). HasOpened p k b c.args.search.now c.open_some.new.search r) (c.in_ok-open_some.was ∙ ap (λ (x : Bool). Ok x) c.if-branch.false) c.open_some.ensures.opened in
+    let found = subst (λ (r : Result Ordered Fail). HasOrdered p k b c.open_some.new.search c.order_round.new.search c.order_round.new.orders r)
+    (c.in_ok-order_round.was ∙ ap (λ (x : Ordered). Ok x) c.in-Point.is) c.order_round.ensures.comes in
+    let served : AllServed c.open_some.new.search.solver.propagation.trail c.open_some.new.search.blocks.opened = subst (λ (o : Search). AllServed o.solver.propagation.trail o.blocks.opened) (sym w.0) w.1 in
+    record {
+      lawful = c.requires.lawful;
+      between = found.between;
+      limit = c.order_round.ensures.limit ∙ c.open_some.ensures.limit ∙ c.requires.limit;
+      is_open = found.is_open;
+      served = served_still c.open_some.new.search c.order_round.new.search found.same.solver found.same.blocks served;
+      point = found.point;
+      written = found.written;
+    }
+
+pub returns-in-Point : goal.returns-in-Point
+returns-in-Point g c =
+    let p = c.args.task.problem.now in
+    let k = c.args.task.goal in
+    let b = c.args.task.generations in
+    let w = subst (λ (r : Result Bool Fail). HasOpened p k b c.args.search.now c.open_some.new.search r) (c.in_ok-open_some.was ∙ ap (λ (x : Bool). Ok x) c.if-branch.false) c.open_some.ensures.opened in
+    let found = subst (λ (r : Result Ordered Fail). HasOrdered p k b c.open_some.new.search c.order_round.new.search c.order_round.new.orders r)
+    (c.in_ok-order_round.was ∙ ap (λ (x : Ordered). Ok x) c.in-Point.is) c.order_round.ensures.comes in
+    let fewer : length c.args.search.now.lines.items ≤ length c.order_round.new.search.lines.items =
+    omega (arith, ap (λ (o : Search). length o.lines.items) w.0, ap (λ v. length v.items) found.same.lines) in
+    record {
+      comes = comes_later p k b c.args.search.now c.order_round.new.search c.finish.new.search c.order_round.new.orders c.finish.result fewer (c.finish.ensures.comes c.order_round.new.orders found.orders);
+      limit = c.finish.ensures.limit ∙ c.order_round.ensures.limit ∙ c.open_some.ensures.limit;
     }

@@ -20,7 +20,7 @@ returns-in_err-open_blocks g c = record {
 pub returns-then-branch : goal.returns-then-branch
 returns-then-branch g c =
     let yes = c.in_ok-open_blocks.was ∙ ap (λ (b : Bool). Ok b) c.if-branch.true in
-    record { opened = (c.in_ok-open_blocks.ensures.between, c.open_blocks.ensures.lines yes); limit = ap (λ (j : Noted). j.limit) c.open_blocks.ensures.journal }
+    record { opened = (c.in_ok-open_blocks.ensures.between, c.open_blocks.ensures.lines yes, c.in_ok-open_blocks.ensures.passes); limit = ap (λ (j : Noted). j.limit) c.open_blocks.ensures.journal }
 
 pub returns-else-branch : goal.returns-else-branch
 returns-else-branch g c =

@@ -1,12 +1,13 @@
 use Rattle.std.specs.Prelude.{◌≡◌, Ok, Err, Result}
-use Rattle.std.proofs.Common.{sym, ap, ◌∙◌, subst}
+use Rattle.std.proofs.Common.{refl, sym, ap, ◌∙◌, subst}
 use Rattle.std.proofs.Math.Nat.{le_refl}
 use Rattle.std.proofs.lemmas.Result.{err_from_is_err_and}
+use Rattle.ae_between_rounds.proofs.Passing.{passes_run}
 use Rattle.ae_between_rounds.specs.declared.search.Search.{Search}
+use Rattle.ae_kept_runs.proofs.Lines.{no_fewer}
+use Rattle.ae_kept_runs.proofs.Running.{between_run, notes_none, stopped_run}
 use Rattle.ae_propagation.specs.Settled.{last_level}
 use Rattle.ae_rounds.proofs.Failing.{failed_by}
-use Rattle.ae_rounds.proofs.Lines.{no_fewer}
-use Rattle.ae_rounds.proofs.Running.{between_run, notes_none, stopped_run}
 use Rattle.ae_rounds.specs.Ended.{HasRun}
 use Rattle.ae_sat.specs.declared.run.SatEnd.{SatEnd}
 use Rattle.ae_theory.specs.declared.theory.Fail.{Fail}
@@ -51,6 +52,7 @@ returns-in-Open g c =
             (notes_none p k b o n h (λ x told. c.run_on.ensures.instances p k b level o.blocks.opened (le_refl level) h.searching x told)),
         record { all_true = c.run_on.ensures.open_clauses open_now; told = c.run_on.ensures.told open_now; complete = c.run_on.ensures.complete open_now },
         no_fewer o.store o.solver.propagation.clauses o.lines.items c.run_on.new.lines.items e.lines,
+        passes_run o n refl refl (λ same. c.run_on.ensures.still open_now same) c.run_on.ensures.journal,
       );
       limit = c.run_on.ensures.journal.limit;
     }
