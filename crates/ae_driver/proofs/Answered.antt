@@ -13,9 +13,10 @@ use Rattle.ae_driver.specs.declared.program.Status.{Status}
 use Rattle.ae_driver.specs.declared.program.Status.TheVariants as status
 use Rattle.ae_driver.specs.declared.reasons.Reason.{Reason}
 use Rattle.ae_driver.specs.Inner.Endings.{PartEnds, IsPrinted, ArePrinted, HasParts, GoalsEnd, RefusalEnds, TextEnds}
-use Rattle.ae_driver.specs.Output.{AreParts, IsDone, IsRefused, IsRefusedText, IsOutOfMemory, IsCutOff, IsOffered, IsRead, IsTooLong, Reads, writes_parts, writes_refusal}
+use Rattle.ae_driver.specs.Output.{AreParts, IsDone, IsRefusedText, IsOutOfMemory, IsCutOff, IsOffered, IsRead, IsTooLong, writes_parts, writes_refusal}
 use Rattle.ae_driver.specs.Passing.{IsDoneAndPasses}
-use Rattle.ae_driver.proofs.OneProblem.{not_refused}
+use Rattle.ae_driver.specs.Problems.{HasNoProblem, IsProblemOf}
+use Rattle.ae_driver.proofs.OneProblem.{has_problem}
 
 -- ---- what the sink got
 front_of : (xs ys : List ℕ) (n : ℕ) → take (length xs + n) (xs ++ ys) ≡ xs ++ take n ys
@@ -116,7 +117,7 @@ told_is None text told e h = absurd (never_some _ e)
 told_is (Some xs) text told e h = h ∙ ap (λ o. or_else o xs) e
 
 -- how a refusal ends a text's answer
-pub refusal_ends : (limits : Limits) (text : List ℕ) (why : Reason) (a c : Written) (s : Status) → IsRefused text why → RefusalEnds text why a c s → TextEnds limits text a c s
+pub refusal_ends : (limits : Limits) (text : List ℕ) (why : Reason) (a c : Written) (s : Status) → HasNoProblem text why → RefusalEnds text why a c s → TextEnds limits text a c s
 refusal_ends limits text why a c status.Refused r e = (why, r, e)
 refusal_ends limits text why a c status.WriteFault r e = (e.0, inr (why, r, e.1), e.2)
 refusal_ends limits text why a c status.Memory r e = ([], inl refl, e)
@@ -133,7 +134,7 @@ pub complete_is : (limits : Limits) (left : Option (List ℕ)) (text : List ℕ)
 complete_is limits left text a c status.Done R o h e f n = inl refl
 complete_is limits left text a c status.Memory R o h e f n = inr refl
 complete_is limits left text a c status.WriteFault R o h e f n = absurd (n (f refl))
-complete_is limits left text a c status.Refused R o h (why, refused, rest) f n = absurd (not_refused text o.problem why (subst (λ t. Reads t o.problem) (sym (told_is left text o.text o.told h)) o.reads) refused)
+complete_is limits left text a c status.Refused R o h (why, refused, rest) f n = absurd (has_problem text o.problem why (subst (λ t. IsProblemOf t o.problem) (sym (told_is left text o.text o.told h)) o.states) refused)
 complete_is limits left text a c status.ReadFault R o h e f n = absurd e
 complete_is limits left text a c status.Usage R o h e f n = absurd e
 

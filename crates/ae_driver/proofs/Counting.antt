@@ -16,9 +16,8 @@ use Rattle.ae_core.specs.declared.problems.Problem.{Problem}
 use Rattle.ae_core.specs.declared.problems.Signature.{Signature}
 use Rattle.ae_gen.specs.Demo.{demo_text}
 use Rattle.ae_goal_parts.specs.Parts.{IsPart}
-use Rattle.ae_goal_parts.specs.Reach.{AreInReach}
 use Rattle.ae_goal_parts.specs.Inner.Items.{IsGoalNamed}
-use Rattle.ae_goal_parts.proofs.Reached.{axiom_is_no_goal}
+use Rattle.ae_goal_parts.proofs.GoalItems.{axiom_is_no_goal}
 use Rattle.ae_io.specs.Moves.{Written, Gets}
 use Rattle.ae_io.proofs.Moves.{gets_then}
 use Rattle.ae_parts.specs.Codes.{parts_code}
@@ -37,7 +36,7 @@ use Rattle.ae_driver.specs.Checking.{ReadsParts, goals_from, goals_of, names_of}
 use Rattle.ae_driver.specs.Demo.{AreJudged, IsLegalDemo, counts_line, counts_of, how_many, is_accepted, is_number, is_steps, is_unknown, is_valid, writes_demo, writes_demo_parts}
 use Rattle.ae_driver.specs.Inner.Counting.{AreCounted, AreOnePart, CountedEnds, CountingEnds, DemoEnds, HasCounted, HasRoom, IsCountedGoal, IsCountedIn, IsCountedPart, IsOnePart, IsPassedOver, LineEnds, PutEnds, no_counts, with_kind, with_verdict}
 use Rattle.ae_driver.specs.Inner.Endings.{IsPrinted}
-use Rattle.ae_driver.specs.Output.{AreParts, IsBegun, Reads}
+use Rattle.ae_driver.specs.Output.{AreParts, IsBegun}
 use Rattle.ae_driver.specs.Problems.{IsProblemOf}
 use Rattle.ae_driver.proofs.Answered.{gets_nothing, prefix_then, with_part}
 use Rattle.ae_driver.specs.Words.{Ask}
@@ -294,19 +293,16 @@ module _ (p : Problem) where
   put_is_counted limits k bytes before after a c status.Usage is e = absurd e
 
 -- ---- the demo of n goals, whose problem is p
-module _ (limits : Limits) (n : ℕ) (p : Problem) (of_text : IsProblemOf (demo_text n) p) (reach : AreInReach p) where
-  reads : Reads (demo_text n) p
-  reads = record { states = of_text; reach = reach }
-
+module _ (limits : Limits) (n : ℕ) (p : Problem) (of_text : IsProblemOf (demo_text n) p) where
   begun : (k : ℕ) (bytes : List ℕ) → k ≤ length p.items → AreParts p limits 0 k bytes → IsBegun limits (demo_text n) bytes
-  begun k bytes le parts = record { problem = p; reads = reads; count = k; at_most = le; parts = parts }
+  begun k bytes le parts = record { problem = p; states = of_text; count = k; at_most = le; parts = parts }
 
   legal : (bytes : List ℕ) (c : Counts) → AreParts p limits 0 (length p.items) bytes → AreCounted p (length p.items) bytes c → IsLegalDemo limits n (bytes ++ counts_line n c)
   legal bytes c parts counted =
       let b = gathered p bytes c counted in
       record {
         output = bytes;
-        answers = record { problem = p; reads = reads; parts = parts };
+        answers = record { problem = p; states = of_text; parts = parts };
         parts = b.parts;
         read = parts_read p bytes c b;
         verdicts = b.verdicts;

@@ -4,4 +4,4 @@ pub mod Fronts
 pub mod Checked
 pub mod Passing
 pub mod Counting
-pub mod DemoReach
+pub mod DemoProblems

@@ -14,7 +14,6 @@ use Rattle.ae_elab.proofs.FaultLaws.{one_answer}
 use Rattle.ae_elab.proofs.FileNames.{file_named}
 use Rattle.ae_elab.proofs.ProblemLaws as typing
 use Rattle.ae_fault_lines.specs.Lines.{fault_place}
-use Rattle.ae_goal_parts.specs.Reach.{AreInReach}
 use Rattle.ae_lawful_problems.proofs.LawfulProblems.{problem_lawful}
 use Rattle.ae_lex.proofs.Unique.{one_list, never_both as never_both_in_lexis}
 use Rattle.ae_syntax.proofs.FileLaws.{one_tree, never_both}
@@ -24,7 +23,6 @@ use Rattle.ae_typed_laws.proofs.FilePlaces.{places_stand}
 use Rattle.ae_driver.specs.declared.reasons.Reason.{Reason}
 use Rattle.ae_driver.specs.declared.reasons.Reason.TheVariants.{Untyped}
 use Rattle.ae_driver.specs.Inner.Endings.{PlacesStand}
-use Rattle.ae_driver.specs.Output.{IsRefused, Reads, by_text, by_form}
 use Rattle.ae_driver.specs.Problems.{HasNoProblem, IsFileOf, IsProblemOf, by_lexis, by_syntax, by_typing}
 
 file_one : (text : List ℕ) (f g : File) → IsFileOf text f → IsFileOf text g → f ≡ g
@@ -38,10 +36,6 @@ has_problem text p why h (by_lexis f r) = never_both_in_lexis text h.is_file.tok
 has_problem text p why h (by_syntax ts f t r) =
     never_both text ts h.file f (subst (λ us. IsParsed us h.file) (one_list text h.is_file.tokens ts h.is_file.tokenized t) h.is_file.parsed) r
 has_problem text p why h (by_typing file e f r) = one_answer text file p e (subst (λ g. IsTyped text g p) (file_one text h.file file h.is_file f) h.typed) r
-
-pub not_refused : (text : List ℕ) (p : Problem) (why : Reason) → Reads text p → IsRefused text why → ⊥
-not_refused text p why r (by_text w none) = has_problem text p w r.states none
-not_refused text p why r (by_form q h out) = out (subst (λ z. AreInReach z) (one_problem text p q r.states h) r.reach)
 
 -- ---- what holds of a text that was read
 pub names_stand : (text : List ℕ) (file : File) → IsFileOf text file → AllByRecursion (IsName text) (names_in_file file)

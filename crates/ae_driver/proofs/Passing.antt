@@ -9,7 +9,6 @@ use Rattle.ae_core.specs.declared.problems.Item.{Item}
 use Rattle.ae_core.specs.declared.formulas.Formula.{Formula}
 use Rattle.ae_core.specs.declared.problems.Item.TheVariants.{Axiom, Goal}
 use Rattle.ae_core.specs.declared.problems.Problem.{Problem}
-use Rattle.ae_goal_parts.specs.Reach.{AreInReach}
 use Rattle.ae_io.specs.Moves.{Written}
 use Rattle.ae_parts.specs.Parts.{PartsStand, parts_text}
 use Rattle.ae_parts.specs.declared.parts.Part.{Part}
@@ -25,7 +24,7 @@ use Rattle.ae_driver.specs.declared.program.Status.{Status}
 use Rattle.ae_driver.specs.declared.program.Status.TheVariants as status
 use Rattle.ae_driver.specs.Checking.{AreVerdicts, IsInput, ReadsParts, goals_from, goals_of, names_of}
 use Rattle.ae_driver.specs.Inner.Endings.{IsPrinted, ArePrinted, GoalsEnd, TextEnds}
-use Rattle.ae_driver.specs.Output.{AreParts, IsBegun, Reads}
+use Rattle.ae_driver.specs.Output.{AreParts, IsBegun}
 use Rattle.ae_driver.specs.Passing.{ArePassed, IsPassedInput, PassFor}
 use Rattle.ae_driver.specs.Problems.{IsProblemOf}
 use Rattle.ae_driver.proofs.Checked.{one_input}
@@ -125,15 +124,12 @@ pass_for text p h bytes back = λ none lines l.
     (record { before = lines; after = bytes; parted = parted text lines bytes l none; states = lines_state text lines p l h; read = parts_read p bytes c })
 
 -- ---- the goals of a text
-module _ (limits : Limits) (text : List ℕ) (p : Problem) (of_text : IsProblemOf text p) (reach : AreInReach p) where
-  reads : Reads text p
-  reads = record { states = of_text; reach = reach }
-
+module _ (limits : Limits) (text : List ℕ) (p : Problem) (of_text : IsProblemOf text p) where
   begun : (k : ℕ) (bytes : List ℕ) → k ≤ length p.items → AreParts p limits 0 k bytes → IsBegun limits text bytes
-  begun k bytes le parts = record { problem = p; reads = reads; count = k; at_most = le; parts = parts }
+  begun k bytes le parts = record { problem = p; states = of_text; count = k; at_most = le; parts = parts }
 
   pub text_ends : (a c : Written) (s : Status) → GoalsEnd p limits a c s → TextEnds limits text a c s
-  text_ends a c status.Done e = (e.bytes, record { problem = p; reads = reads; parts = e.parts }, pass_for text p of_text e.bytes e.printed, e.written)
+  text_ends a c status.Done e = (e.bytes, record { problem = p; states = of_text; parts = e.parts }, pass_for text p of_text e.bytes e.printed, e.written)
   text_ends a c status.WriteFault (k, le, h) = (h.bytes, inl (begun k h.bytes le h.parts), h.written)
   text_ends a c status.Memory (k, le, h) = (h.bytes, inr (begun k h.bytes le h.parts), h.written)
   text_ends a c status.Refused e = absurd e

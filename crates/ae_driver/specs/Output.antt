@@ -2,25 +2,13 @@
 use Rattle.std.specs.Prelude.{◌≡◌, ◌⊎◌, ℕ, zero, suc, ◌<◌, ◌≤◌, List, [], ◌++◌, length, Option, Some, None, codes}
 use Rattle.ae_core.specs.declared.problems.Problem.{Problem}
 use Rattle.ae_goal_parts.specs.Parts.{IsPart}
-use Rattle.ae_goal_parts.specs.Reach.{AreInReach}
 use Rattle.ae_io.specs.Moves.{Written, Gets, GetsPrefix}
 use Rattle.ae_report.specs.Lines.{IsRefusalLine}
 use Rattle.ae_report.specs.declared.refusal.Refusal.TheVariants as refusal
 use Rattle.ae_search_options.specs.declared.limits.Limits.{Limits}
 use Rattle.ae_driver.specs.declared.program.TheConstants.{INPUT_LIMIT}
 use Rattle.ae_driver.specs.declared.reasons.Reason.{Reason}
-use Rattle.ae_driver.specs.declared.reasons.Reason.TheVariants.{Plain}
 use Rattle.ae_driver.specs.Problems.{HasNoProblem, IsProblemOf, IsReasonLine}
-
--- the text has this problem, whose goals are answered so far: no inequality stands in them, nor in the axioms before them
-pub record Reads (text : List ℕ) (p : Problem) : Type 0 where
-  pub states : IsProblemOf text p
-  pub reach : AreInReach p
-
--- why a text is refused: it has no problem, or one that isn't answered yet
-pub data IsRefused (text : List ℕ) : Reason → Type 0 where
-  by_text : (why : Reason) → HasNoProblem text why → IsRefused text why
-  by_form : (p : Problem) → IsProblemOf text p → ¬ (AreInReach p) → IsRefused text (Plain refusal.NoForm)
 
 -- one part for each of n items of a problem, from place k on, in order; an axiom's is empty
 abbrev pub AreParts : Problem → Limits → ℕ → ℕ → List ℕ → Type 0
@@ -30,13 +18,13 @@ AreParts p limits k (suc n) bytes = (part : List ℕ) × (rest : List ℕ) × (b
 -- a legal output for a text, with the limits of the search: one part for each goal of its problem, in order
 pub record IsLegalOutput (limits : Limits) (text bytes : List ℕ) : Type 0 where
   pub problem : Problem
-  pub reads : Reads text problem
+  pub states : IsProblemOf text problem
   pub parts : AreParts problem limits 0 (length problem.items) bytes
 
 -- the parts of the first goals of a text, of all of them or of fewer
 pub record IsBegun (limits : Limits) (text bytes : List ℕ) : Type 0 where
   pub problem : Problem
-  pub reads : Reads text problem
+  pub states : IsProblemOf text problem
   pub count : ℕ
   pub at_most : count ≤ length problem.items
   pub parts : AreParts problem limits 0 count bytes
@@ -68,12 +56,12 @@ pub record IsDone (limits : Limits) (left : Option (List ℕ)) (old new : Writte
   pub answers : IsLegalOutput limits text bytes
   pub written : Gets old new bytes
 
--- a text is refused: the sink got the line that says why, and where
+-- a text without a problem is refused: the sink got the line that says why, and where
 pub record IsRefusedText (left : Option (List ℕ)) (old new : Written) : Type 0 where
   pub text : List ℕ
   pub read : IsRead left text
   pub why : Reason
-  pub refused : IsRefused text why
+  pub refused : HasNoProblem text why
   pub line : List ℕ
   pub is_line : IsReasonLine text why line
   pub written : Gets old new line
@@ -94,7 +82,7 @@ pub record IsOutOfMemory (limits : Limits) (left : Option (List ℕ)) (old new :
 -- what a run that proves may be writing
 pub data MayWrite (limits : Limits) (left : Option (List ℕ)) (bytes : List ℕ) : Type 0 where
   writes_parts : (text : List ℕ) → IsRead left text → IsBegun limits text bytes → MayWrite limits left bytes
-  writes_refusal : (text : List ℕ) (why : Reason) → IsRead left text → IsRefused text why → IsReasonLine text why bytes → MayWrite limits left bytes
+  writes_refusal : (text : List ℕ) (why : Reason) → IsRead left text → HasNoProblem text why → IsReasonLine text why bytes → MayWrite limits left bytes
   writes_too_long : IsTooLong left → IsRefusalLine [] refusal.TooLong bytes → MayWrite limits left bytes
 
 -- a write failed: the sink got a part from the front of what was being written, and not all of it
@@ -103,10 +91,10 @@ pub record IsCutOff (limits : Limits) (left : Option (List ℕ)) (old new : Writ
   pub may : MayWrite limits left bytes
   pub written : GetsPrefix old new bytes
 
--- the source tells a text within the limit on bytes whose problem is answered
+-- the source tells a text within the limit on bytes that has a problem
 pub record IsOffered (left : Option (List ℕ)) : Type 0 where
   pub text : List ℕ
   pub told : left ≡ Some text
   pub within : length text ≤ INPUT_LIMIT
   pub problem : Problem
-  pub reads : Reads text problem
+  pub states : IsProblemOf text problem

@@ -4,7 +4,6 @@ ghost use Rattle.std.specs.Prelude.{◌≡◌, ◌≤◌, ◌<◌, ◌++◌, cod
 ghost use Rattle.ae_gen.specs.Demo as gen;
 ghost use Rattle.ae_io.specs.Moves.{Rose};
 ghost use Rattle.ae_core.specs.Signatures.{IsLawfulProblem};
-ghost use Rattle.ae_goal_parts.specs.Reach.{AreInReach};
 ghost use Rattle.ae_goal_parts.specs.Inner.Items.{IsGoalNamed};
 ghost use Rattle.ae_printed.specs.ReadBack.{IsReadBack};
 ghost use Rattle.ae_writable.specs.Numbers.{HasLowestNumerals};
@@ -183,7 +182,6 @@ fn answer_counted<K: Sink>(
 ) -> Status
     requires lawful { IsLawfulProblem problem.now }
     requires lowest { HasLowestNumerals problem.now }
-    requires reach { AreInReach problem.now }
     requires place { place < length problem.now.items }
     requires room { HasRoom counts.old }
     requires way { asked.which < 3 }
@@ -200,7 +198,7 @@ fn answer_counted<K: Sink>(
     }
 }
 
-// Answers the goals of a problem in order, each of which is in the reach, and counts their parts.
+// Answers the goals of a problem in order, and counts their parts.
 fn answer_all<K: Sink>(
     alloc: Global,
     problem: &Problem,
@@ -211,7 +209,6 @@ fn answer_all<K: Sink>(
 ) -> Status
     requires lawful { IsLawfulProblem problem.now }
     requires lowest { HasLowestNumerals problem.now }
-    requires reach { AreInReach problem.now }
     requires none { counts.old ≡ spec.no_counts }
     requires way { asked.which < 3 }
     requires least { 1 ≤ asked.limits.steps }
@@ -286,7 +283,7 @@ fn tell_counts<K: Sink>(alloc: Global, goals: u32, counts: &Counts, sink: &mut K
     }
 }
 
-// Answers the goals of the demo's problem, each of which is in the reach, and ends by the last line.
+// Answers the goals of the demo's problem, and ends by the last line.
 fn answer_and_tell<K: Sink>(
     alloc: Global,
     goals: u32,
@@ -298,7 +295,6 @@ fn answer_and_tell<K: Sink>(
     requires problem { IsProblemOf (gen.demo_text goals) problem.now }
     requires lawful { IsLawfulProblem problem.now }
     requires lowest { HasLowestNumerals problem.now }
-    requires reach { AreInReach problem.now }
     requires way { asked.which < 3 }
     requires least { 1 ≤ asked.limits.steps }
     requires most { asked.limits.steps ≤ 1000000 }
@@ -318,7 +314,7 @@ fn answer_and_tell<K: Sink>(
     }
 }
 
-// Answers the demo's text. It has a problem, and each goal of that is in the reach.
+// Answers the demo's text, which has a problem.
 fn answer_text<K: Sink>(
     alloc: Global,
     goals: u32,

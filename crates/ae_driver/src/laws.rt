@@ -7,20 +7,14 @@ ghost use Rattle.ae_cli.specs.declared.options.Mode.{Mode};
 ghost use Rattle.ae_cli.specs.declared.options.Mode.TheVariants.{Prove, Check, Demo};
 ghost use Rattle.ae_cli.specs.declared.options.Options.{Options};
 ghost use Rattle.ae_driver.specs.Checking.{IsChecked, IsInput, IsRefusedInput};
-ghost use Rattle.ae_driver.specs.Output.{IsRefused, Reads};
 ghost use Rattle.ae_driver.specs.Problems.{HasNoProblem, IsProblemOf};
 ghost use Rattle.ae_driver.specs.Words.{Ask, AskToProve, AskToCheck, AskForDemo};
 ghost use Rattle.ae_driver.specs.declared.reasons.Reason.{Reason};
 
-/// A text has at most one problem, and one that has a problem isn't refused for want of one.
+/// A text has at most one problem, and one that has a problem isn't refused.
 pub fn one_problem()
     ensures problem { (text : List ℕ) (p q : Problem) → IsProblemOf text p → IsProblemOf text q → p ≡ q }
     ensures none { (text : List ℕ) (p : Problem) (why : Reason) → IsProblemOf text p → ¬ (HasNoProblem text why) }
-{}
-
-/// A text whose problem is answered isn't refused.
-pub fn no_refusal()
-    ensures { (text : List ℕ) (p : Problem) (why : Reason) → Reads text p → ¬ (IsRefused text why) }
 {}
 
 /// Right words ask for proofs where they say neither `--check` nor `--demo`.

@@ -4,12 +4,10 @@ ghost use Rattle.std.specs.Prelude.{◌≡◌, ◌≢◌, ◌⊎◌, ◌≤◌, 
 ghost use Rattle.std.specs.Io.KnownBytes.{IsAtEnd};
 ghost use Rattle.ae_io.specs.Moves.{Rose, Gets, GetsPrefix};
 ghost use Rattle.ae_core.specs.Signatures.{IsLawfulProblem};
-ghost use Rattle.ae_goal_parts.specs.Reach.{AreInReach};
 ghost use Rattle.ae_search_options.specs.declared.limits.Limits.{Limits};
 ghost use Rattle.ae_writable.specs.Numbers.{HasLowestNumerals};
 ghost use Rattle.ae_driver.specs.Output.{IsDone, IsOffered, IsRefusedText, IsRefusedByLength, IsOutOfMemory, IsCutOff, usage_line};
 ghost use Rattle.ae_driver.specs.Passing.{IsDoneAndPasses};
-ghost use Rattle.ae_driver.specs.Problems.{IsProblemOf};
 ghost use Rattle.ae_driver.specs.Checking.{IsDoneChecking, IsOfferedChecking, IsRefusedChecking, IsOutOfMemoryChecking, IsCutOffChecking};
 ghost use Rattle.ae_driver.specs.Demo.{IsDoneDemo, IsOutOfMemoryDemo, IsCutOffDemo};
 ghost use Rattle.ae_driver.specs.Words.{AskToProve, AskToCheck, AskForDemo, AskForNothing};
@@ -24,7 +22,7 @@ use ae_cli::options::{CliFail, Mode, Options};
 use ae_cli::words::options;
 use ae_core::problems::Problem;
 use ae_elaborate::release_problem;
-use ae_goal_parts::{goals_in_reach, item_part};
+use ae_goal_parts::item_part;
 use ae_io::{ReadEnd, Sink, Source, read_all, write_all};
 use ae_lowest_numerals::typed_problems_have_lowest_numerals;
 use ae_report::Refusal;
@@ -56,9 +54,8 @@ pub enum Status {
 ///
 /// Where the words ask for proofs:
 ///
-/// - `Done` comes only where the source was read to its end, its text has at most `INPUT_LIMIT` bytes and a problem each of whose
-///   goals is answered so far (no inequality stands in it, nor in the axioms before it), and one part was written for each goal:
-///   `Valid` with the text of a proof that derives the goal in that problem, with its axioms; `I don't know` with the text of a
+/// - `Done` comes only where the source was read to its end, its text has at most `INPUT_LIMIT` bytes and a problem, and one part
+///   was written for each goal: `Valid` with the text of a proof that derives the goal in that problem, with its axioms; `I don't know` with the text of a
 ///   saturated state; `Limit steps N` with a legal journal of N counted lines, where N is the words' bound; or `Limit number` with a
 ///   step that leaves the limits of numbers, which a legal journal licenses. Of a goal of the ground fragment the proof is a ground
 ///   proof, and a saturated state says that none exists. What was written passes the check: behind the text,
@@ -66,8 +63,8 @@ pub enum Status {
 ///   goal's line is `accepted` or `number` where its part is a proof, and `unchecked` where it isn't. No line of the text may
 ///   itself be `%%`; and where all of it has more than `INPUT_LIMIT` bytes, it is too long to be checked in one run.
 /// - `Refused` comes only where the line of the first reason was written: the source had more bytes left than
-///   `INPUT_LIMIT`, the text has a fault of its tokens, its tokens have a fault of syntax, its tree has a fault of typing, or
-///   its problem isn't answered yet.
+///   `INPUT_LIMIT`, the text has a fault of its tokens, its tokens have a fault of syntax, or its tree has a fault of typing. So
+///   each text within the limit that has a problem is answered.
 ///
 /// Where they ask for a check:
 ///
@@ -257,9 +254,10 @@ fn answer<K: Sink>(
     ensures ends { TextEnds asked.limits text.now (K.written sink.old) (K.written sink.new) result }
     ensures write_fault { result ≡ WriteFault → Rose (K.faults sink.old) (K.faults sink.new) }
 {
+    typed_problems_have_lowest_numerals();
     match read_problem(alloc, text) {
         Ok(problem) => {
-            let status = answer_problem(alloc, text, &problem, picks, asked, sink);
+            let status = answer_items(alloc, &problem, picks, asked, sink);
             release_problem(alloc, problem);
             status
         }
@@ -279,31 +277,7 @@ fn answer_unread<K: Sink>(alloc: Global, text: &[u8], none: &NotRead, sink: &mut
     }
 }
 
-// Answers a text that has this problem. Whether its goals are answered so far is settled before the first is answered.
-fn answer_problem<K: Sink>(
-    alloc: Global,
-    text: &[u8],
-    problem: &Problem,
-    picks: &Picks,
-    asked: Options,
-    sink: &mut K,
-) -> Status
-    requires problem { IsProblemOf text.now problem.now }
-    requires way { asked.which < 3 }
-    requires least { 1 ≤ asked.limits.steps }
-    requires most { asked.limits.steps ≤ 1000000 }
-    ensures ends { TextEnds asked.limits text.now (K.written sink.old) (K.written sink.new) result }
-    ensures write_fault { result ≡ WriteFault → Rose (K.faults sink.old) (K.faults sink.new) }
-{
-    typed_problems_have_lowest_numerals();
-    if goals_in_reach(problem) {
-        answer_items(alloc, problem, picks, asked, sink)
-    } else {
-        refuse(alloc, text, &Reason::Plain(Refusal::NoForm), sink)
-    }
-}
-
-// Answers the goals of a problem in order, which are without inequality.
+// Answers the goals of a problem in order.
 fn answer_items<K: Sink>(
     alloc: Global,
     problem: &Problem,
@@ -313,7 +287,6 @@ fn answer_items<K: Sink>(
 ) -> Status
     requires lawful { IsLawfulProblem problem.now }
     requires lowest { HasLowestNumerals problem.now }
-    requires reach { AreInReach problem.now }
     requires way { asked.which < 3 }
     requires least { 1 ≤ asked.limits.steps }
     requires most { asked.limits.steps ≤ 1000000 }
@@ -340,7 +313,6 @@ fn answer_item<K: Sink>(
 ) -> Status
     requires lawful { IsLawfulProblem problem.now }
     requires lowest { HasLowestNumerals problem.now }
-    requires reach { AreInReach problem.now }
     requires place { place < length problem.now.items }
     requires way { asked.which < 3 }
     requires least { 1 ≤ asked.limits.steps }

@@ -1,6 +1,5 @@
-pub mod Reached
+pub mod GoalItems
 pub mod Outside
-pub mod Simple
 pub mod Kept
 pub mod Shown
 pub mod Ground

@@ -2,7 +2,6 @@
 ghost use Rattle.std.specs.Prelude.{◌≡◌, ◌<◌, IfOk, Some};
 ghost use Rattle.ae_core.specs.Signatures.{IsLawfulProblem};
 ghost use Rattle.ae_core.specs.declared.formulas.Formula.{Formula as FormulaValue};
-ghost use Rattle.ae_orderless.specs.Orderless.{IsOrderlessGoal};
 ghost use Rattle.ae_reach.specs.Reach.{IsInReach};
 ghost use Rattle.ae_rules.specs.Derivations.{goal_body};
 ghost use Rattle.ae_search.specs.Promises.{IsRightAnswer};
@@ -27,7 +26,6 @@ fn answer_in_rounds(
 ) -> Result<Answer, AllocError>
     requires lawful { IsLawfulProblem problem.now }
     requires goal { (f : FormulaValue) × (goal_body problem.now goal ≡ Some f) }
-    requires orderless { IsOrderlessGoal problem.now goal }
     requires outside { ¬ IsInReach problem.now goal }
     requires which { which < 3 }
     ensures right { IfOk result (IsRightAnswer problem.now goal limits.now) }
@@ -36,8 +34,8 @@ fn answer_in_rounds(
     ae_rounds::prove(alloc, problem, goal, picks, which, limits)
 }
 
-/// The answer to a goal without inequality, by the picks of one of three ways, with at most so many counted lines: where no quantifier stands in it but the
-/// goal's own block, that of a search for ground proofs; else that of a search in rounds. `Err` where there is no memory.
+/// The answer to a goal, by the picks of one of three ways, with at most so many counted lines: where neither an inequality nor a quantifier but the goal's own
+/// block stands in it, that of a search for ground proofs; else that of a search in rounds. `Err` where there is no memory.
 pub fn goal_answer(
     alloc: Global,
     problem: &Problem,
@@ -48,7 +46,6 @@ pub fn goal_answer(
 ) -> Result<Answer, AllocError>
     requires lawful { IsLawfulProblem problem.now }
     requires goal { (f : FormulaValue) × (goal_body problem.now goal ≡ Some f) }
-    requires orderless { IsOrderlessGoal problem.now goal }
     requires which { which < 3 }
     ensures right { IfOk result (IsRightAnswer problem.now goal limits.now) }
     ensures written { HasLowestNumerals problem.now → IfOk result (IsWritable problem.now.signature) }

@@ -2,10 +2,8 @@
 ghost use Rattle.std.specs.Prelude.{◌<◌, ◌≤◌, length, IfOk};
 ghost use Rattle.ae_core.specs.Signatures.{IsLawfulProblem};
 ghost use Rattle.ae_printed.specs.ReadBack.{IsReadBack};
-ghost use Rattle.ae_orderless.specs.Orderless.{IsOrderlessGoal};
 ghost use Rattle.ae_writable.specs.Numbers.{HasLowestNumerals};
 ghost use Rattle.ae_goal_parts.specs.Parts.{IsPart, IsReadable};
-ghost use Rattle.ae_goal_parts.specs.Reach.{AreInReach};
 ghost use Rattle.ae_goal_parts.specs.Inner.Items.{IsGoalNamed};
 ghost use Rattle.ae_goal_parts.specs.Inner.Shown.{IsShown, MayBeShown};
 
@@ -19,9 +17,9 @@ use ae_search_options::limits::Limits;
 use ae_search_options::picks::Picks;
 use std::alloc::{AllocError, Global};
 
-/// What is printed for the item at a place of a problem whose goals are without inequality: nothing for an axiom; for a goal the answer that is found by
-/// the picks of one of three ways, with at most so many counted lines. It is always read back as a part of that goal, since the numerals of the problem
-/// are in lowest terms and the bound is one that a text can name. `Err` where there is no memory for it, and nowhere else.
+/// What is printed for the item at a place of a problem: nothing for an axiom; for a goal the answer that is found by the picks of one of three ways, with
+/// at most so many counted lines. It is always read back as a part of that goal, since the numerals of the problem are in lowest terms and the bound is one
+/// that a text can name. `Err` where there is no memory for it, and nowhere else.
 pub fn item_part(
     alloc: Global,
     problem: &Problem,
@@ -32,7 +30,6 @@ pub fn item_part(
 ) -> Result<Vec<u8>, AllocError>
     requires lawful { IsLawfulProblem problem.now }
     requires lowest { HasLowestNumerals problem.now }
-    requires reach { AreInReach problem.now }
     requires least { 1 ≤ limits.now.steps }
     requires most { limits.now.steps ≤ 1000000 }
     requires place { place < length problem.now.items }
@@ -59,7 +56,6 @@ fn goal_part(
 ) -> Result<Vec<u8>, AllocError>
     requires lawful { IsLawfulProblem problem.now }
     requires lowest { HasLowestNumerals problem.now }
-    requires orderless { IsOrderlessGoal problem.now goal }
     requires least { 1 ≤ limits.now.steps }
     requires most { limits.now.steps ≤ 1000000 }
     requires named { IsGoalNamed problem.now goal name.now }

@@ -5,8 +5,6 @@ mod answers;
 mod found;
 mod items;
 pub mod laws;
-mod reach;
 mod valid;
 
 pub use items::item_part;
-pub use reach::goals_in_reach;

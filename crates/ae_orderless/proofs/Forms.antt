@@ -77,8 +77,6 @@ pub orderless_ex : (q : Quant) → is_orderless (Ex q) ≡ is_orderless q.body
 unfolding is_orderless
 orderless_ex q = fold_ex Bool Bool orderless_step orderless_body q ∙ fold_block Bool Bool orderless_step orderless_body q
 
-pub ruleset orderless_rules = (orderless_true, orderless_false, orderless_eq, orderless_lt, orderless_le, orderless_pred, orderless_not, orderless_and, orderless_or, orderless_xor, orderless_iff, orderless_all, orderless_ex)
-
 -- ---- sorts put for type variables
 pub orderless_instance : (ss : List Sort) (f : Formula) → is_orderless (instance ss f) ≡ is_orderless f
 orderless_instance ss =

@@ -1,3 +1,2 @@
--- Formulas and goals without inequality (Orderless), and what is computed to decide which goals are such (Decisions).
+-- Formulas and goals without inequality.
 pub mod Orderless
-pub mod Decisions

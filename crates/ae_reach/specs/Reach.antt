@@ -1,4 +1,4 @@
--- Goals that are answered so far: without inequality, and without quantifier but for a goal's own block.
+-- Goals that one run of the solver answers: without inequality, and without quantifier but for a goal's own block.
 use Rattle.std.specs.Prelude.{ℕ, ◌<◌, true, List, [], ◌≡◌, slice_get, Some}
 use Rattle.ae_core.specs.Constants.{formula_constants}
 use Rattle.ae_core.specs.Sorts.{formula_ok}

@@ -1,2 +1,2 @@
-//! Which goals are answered so far.
+//! Which goals one run of the solver answers.
 #![tactic(auto)]

@@ -42,14 +42,13 @@ proof_place (proof.At at) = Some at
 proof_place (proof.WideNumber at) = Some at
 proof_place proof.Memory = None
 
--- the byte at which a text is refused; a text without the line that parts problem and answers, too long or not of the form is refused as a whole
+-- the byte at which a text is refused; a text without the line that parts problem and answers, or too long, is refused as a whole
 abbrev pub refused_at : Refusal → Option ℕ
 refused_at (refusal.Lex f) = lexis.fault_place f
 refused_at (refusal.Syntax f) = files.fault_place f
 refused_at (refusal.Proof f) = proof_place f
 refused_at refusal.NoSeparator = None
 refused_at refusal.TooLong = None
-refused_at refusal.NoForm = None
 
 -- what the line says
 abbrev pub lex_words : LexFault → List ℕ
@@ -76,7 +75,6 @@ words (refusal.Syntax f) = syntax_words f
 words (refusal.Proof f) = proof_words f
 words refusal.NoSeparator = codes "no separator"
 words refusal.TooLong = codes "input too long"
-words refusal.NoForm = codes "form"
 
 -- `refused`, the line and the column where there is a place, and why
 abbrev pub IsLineAt : List ℕ → Option ℕ → List ℕ → List ℕ → Type 0

@@ -88,7 +88,7 @@ fn refused_at(refusal: &Refusal) -> Option<usize>
         Refusal::Lex(fault) => lex_refused_at(*fault),
         Refusal::Syntax(fault) => syntax_refused_at(*fault),
         Refusal::Proof(fault) => proof_refused_at(*fault),
-        Refusal::NoSeparator | Refusal::TooLong | Refusal::NoForm => None,
+        Refusal::NoSeparator | Refusal::TooLong => None,
     }
 }
 
@@ -138,7 +138,6 @@ fn words(refusal: &Refusal) -> &'static str
         Refusal::Proof(fault) => proof_words(*fault),
         Refusal::NoSeparator => "no separator",
         Refusal::TooLong => "input too long",
-        Refusal::NoForm => "form",
     }
 }
 

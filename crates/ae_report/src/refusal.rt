@@ -17,6 +17,4 @@ pub enum Refusal {
     NoSeparator,
     /// It has more bytes than an input may have.
     TooLong,
-    /// It is not of the form that is answered so far.
-    NoForm,
 }

@@ -32,7 +32,7 @@ fn place(refusal: Refusal) -> usize
             Fault::At(at) | Fault::WideNumber(at) => at,
             Fault::Memory => 0,
         },
-        Refusal::NoSeparator | Refusal::TooLong | Refusal::NoForm => 0,
+        Refusal::NoSeparator | Refusal::TooLong => 0,
     }
 }
 
@@ -109,6 +109,5 @@ fn whole(rt: HostRuntime) -> Result<(), AllocError> {
             "refused no separator\n"
         )?
     );
-    assert!(rt; says(alloc, "goal g : a = a", Refusal::NoForm, "refused form\n")?);
     Ok(())
 }

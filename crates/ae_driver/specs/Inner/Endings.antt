@@ -27,7 +27,7 @@ use Rattle.ae_driver.specs.declared.reasons.Reason.TheVariants.{Plain, Untyped}
 use Rattle.ae_driver.specs.declared.texts.NotRead.{NotRead}
 use Rattle.ae_driver.specs.declared.texts.NotRead.TheVariants as not_read
 use Rattle.ae_driver.specs.Checking.{AreVerdicts, IsChecked, IsCheckingBegun, IsRefusedInput}
-use Rattle.ae_driver.specs.Output.{AreParts, IsRefused, IsLegalOutput, IsBegun}
+use Rattle.ae_driver.specs.Output.{AreParts, IsLegalOutput, IsBegun}
 use Rattle.ae_driver.specs.Passing.{PassFor}
 use Rattle.ae_driver.specs.Problems.{HasNoProblem, IsReasonLine}
 use Rattle.ae_driver.specs.Words.{AskToCheck, AskForNothing}
@@ -89,12 +89,12 @@ RefusalEnds text why old new _ = ⊥
 
 -- what is written of a text that was read
 abbrev pub IsOfText : Limits → List ℕ → List ℕ → Type 0
-IsOfText limits text bytes = IsBegun limits text bytes ⊎ ((why : Reason) × IsRefused text why × IsReasonLine text why bytes)
+IsOfText limits text bytes = IsBegun limits text bytes ⊎ ((why : Reason) × HasNoProblem text why × IsReasonLine text why bytes)
 
 -- how a text that was read is answered
 abbrev pub TextEnds : Limits → List ℕ → Written → Written → Status → Type 0
 TextEnds limits text old new status.Done = (bytes : List ℕ) × IsLegalOutput limits text bytes × PassFor text bytes × Gets old new bytes
-TextEnds limits text old new status.Refused = (why : Reason) × IsRefused text why × RefusalEnds text why old new status.Refused
+TextEnds limits text old new status.Refused = (why : Reason) × HasNoProblem text why × RefusalEnds text why old new status.Refused
 TextEnds limits text old new status.WriteFault = (bytes : List ℕ) × IsOfText limits text bytes × GetsPrefix old new bytes
 TextEnds limits text old new status.Memory = (bytes : List ℕ) × ((bytes ≡ []) ⊎ IsBegun limits text bytes) × Gets old new bytes
 TextEnds limits text old new _ = ⊥

@@ -2,7 +2,7 @@ use Rattle.std.proofs.Common.{arith, subst}
 use Rattle.ae_driver.specs.Inner.Endings.{IsNotRead}
 use Rattle.ae_driver.specs.Problems.{HasNoProblem, IsProblemOf}
 use Rattle.ae_driver.proofs.Counting.{no_demo_yet}
-use Rattle.ae_driver.proofs.DemoReach.{demo_has_problem, demo_reach}
+use Rattle.ae_driver.proofs.DemoProblems.{demo_has_problem}
 use Rattle.ae_driver.proofs.OneProblem.{lawful}
 use Rattle.ae_driver.proofs.demo.answer_text.Goals as goal
 
@@ -14,7 +14,6 @@ answer_and_tell-status-requires g c =
       problem = here;
       lawful = lawful c.args.text.now c.in-Ok.problem h;
       lowest = c.typed_problems_have_lowest_numerals.ensures c.args.text.now h.is_file.tokens h.file c.in-Ok.problem h.is_file.tokenized h.is_file.parsed h.typed;
-      reach = demo_reach c.args.goals c.in-Ok.problem (omega arith) here;
       way = c.requires.way;
       least = c.requires.least;
       most = c.requires.most;

@@ -1,5 +1,5 @@
 use Rattle.ae_core.specs.declared.problems.Item.TheVariants.{Goal}
-use Rattle.ae_goal_parts.proofs.Reached.{item_at}
+use Rattle.ae_goal_parts.proofs.GoalItems.{item_at}
 use Rattle.ae_driver.proofs.demo.count_item.Goals as goal
 
 pub count_goal-requires-clause-named : goal.count_goal-requires-clause-named

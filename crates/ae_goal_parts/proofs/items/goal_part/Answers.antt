@@ -1,7 +1,7 @@
 use Rattle.std.proofs.lemmas.Result.{IfOk-weaker}
 use Rattle.ae_goal_parts.specs.Parts.{IsPart}
 use Rattle.ae_goal_parts.specs.Inner.Shown.{IsShown}
-use Rattle.ae_goal_parts.proofs.Reached.{body_of}
+use Rattle.ae_goal_parts.proofs.GoalItems.{body_of}
 use Rattle.ae_goal_parts.proofs.Shown.{may_be_shown, part_is}
 use Rattle.ae_goal_parts.proofs.items.goal_part.Goals as goal
 

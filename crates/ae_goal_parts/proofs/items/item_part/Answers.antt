@@ -1,13 +1,7 @@
 use Rattle.ae_core.specs.declared.problems.Item.TheVariants.{Axiom, Goal}
 use Rattle.ae_goal_parts.specs.Parts.{of_axiom}
-use Rattle.ae_goal_parts.proofs.Reached.{axiom_is_no_goal, item_at}
+use Rattle.ae_goal_parts.proofs.GoalItems.{axiom_is_no_goal, item_at}
 use Rattle.ae_goal_parts.proofs.items.item_part.Goals as goal
-
-pub goal_part-requires-clause-orderless : goal.goal_part-requires-clause-orderless
-goal_part-requires-clause-orderless g c =
-    c.requires.reach c.args.place c.in-Goal.name c.in-Goal.rigid c.in-Goal.body
-    (item_at c.args.problem.now.items c.as_slice-items.result.now c.args.place c.index-items-place.result (Goal c.in-Goal.name c.in-Goal.rigid c.in-Goal.body)
-    c.as_slice-items.ensures c.requires.place c.index-items-place.is c.in-Goal.is)
 
 pub goal_part-requires-clause-named : goal.goal_part-requires-clause-named
 goal_part-requires-clause-named g c = record {
