@@ -21,7 +21,7 @@ use Rattle.ae_rules.proofs.ClauseLaws.{row_true, row_false, row_eq, row_lt, row_
 use Rattle.ae_rules.proofs.Defining.{called_true, called_false, called_and_yes, called_and_no, called_or_yes, called_or_no, called_xor_yes, called_xor_no, called_iff_yes, called_iff_no}
 use Rattle.ae_rules.proofs.Standing.{opposite_twice}
 use Rattle.ae_sat.specs.Apart.{AreConjunctive}
-use Rattle.ae_sat.specs.Inner.Steps.{IsCalled}
+use Rattle.ae_sat.specs.Search.{IsCalled}
 use Rattle.ae_sat.specs.Standing.{IsOneOf}
 use Rattle.ae_sat.proofs.Layering.{top}
 use Rattle.ae_sat.proofs.Surely.{gives}

@@ -20,9 +20,9 @@ use Rattle.ae_propagation.specs.Settled.{Grown, Holds, last_level}
 use Rattle.ae_propagation.proofs.Settling.{last_stays}
 use Rattle.ae_store.specs.Stores.{Stored}
 use Rattle.ae_theory.specs.Names.{terms_in}
-use Rattle.ae_sat.specs.Inner.Steps.{Brings, Enlarges, IsCalled}
+use Rattle.ae_sat.specs.Inner.Steps.{Enlarges}
 use Rattle.ae_sat.specs.Lines.{AddsEquationsOver, AddsLinesOver, IsBlockOver, IsBuiltLine, IsLineOver, StatesEquations}
-use Rattle.ae_sat.specs.Search.{AllAmong, HasParts}
+use Rattle.ae_sat.specs.Search.{AllAmong, Brings, HasParts, IsCalled}
 use Rattle.ae_sat.specs.Standing.{IsOneOf}
 use Rattle.ae_sat.proofs.Closure.{false_among, row_among}
 use Rattle.ae_sat.proofs.Deriving.{in_clause}

@@ -11,6 +11,7 @@ pub mod Running
 pub mod Searching
 pub mod Legality
 pub mod Choosing
+pub mod Below
 pub mod Branching
 pub mod Learning
 pub mod Deriving

@@ -2,6 +2,7 @@ pub mod Layers
 pub mod Marked
 pub mod Search
 pub mod Standing
+pub mod Strict
 pub mod Lines
 pub mod Apart
 pub mod Laws

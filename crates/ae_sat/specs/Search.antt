@@ -1,8 +1,9 @@
 -- What each step of a search keeps, and how it ends.
-use Rattle.std.specs.Prelude.{◌≡◌, ℕ, Bool, true, false, ◌<◌, ◌≤◌, ◌==◌, count_by, List, [], ◌∷◌, ◌++◌, length, slice_get, slice_index_or, Some}
+use Rattle.std.specs.Prelude.{◌≡◌, ◌⊎◌, ℕ, Bool, true, false, ◌<◌, ◌≤◌, ◌==◌, count_by, List, [], ◌∷◌, ◌++◌, length, slice_get, slice_index_or, Some}
 use Rattle.std.specs.List.{AllByRecursion, Contains}
 use Rattle.ae_base.specs.Options.{◌>>=◌}
-use Rattle.ae_rules.specs.Clauses.{Clause, literal}
+use Rattle.ae_rules.specs.Clauses.{Clause, literal, row}
+use Rattle.ae_rules.specs.Defining.{called_rows}
 use Rattle.ae_rules.specs.Derivations.{conclusion, AreAllowed}
 use Rattle.ae_core.specs.declared.formulas.Formula.{Formula}
 use Rattle.ae_core.specs.declared.formulas.Lit.{Lit}
@@ -21,7 +22,7 @@ use Rattle.ae_journal.specs.Journals.{live, counted_in}
 use Rattle.ae_store.specs.Stores.{Stored}
 use Rattle.ae_theory.specs.Tagged.{Tagged}
 use Rattle.ae_theory.specs.Names.{AreNamed}
-use Rattle.ae_propagation.specs.Settled.{HasTrue}
+use Rattle.ae_propagation.specs.Settled.{HasTrue, Holds, last_level}
 use Rattle.ae_sat.specs.Layers.{IsLayered}
 use Rattle.ae_sat.specs.Standing.{IsOneOf, HasRows}
 use Rattle.ae_sat.specs.Marked.{IsRunning}
@@ -76,6 +77,17 @@ AddsLearnt b clauses old new = (c : Clause) × (hints : List ℕ) × (new ≡ ol
 -- the trail has grown behind its end alone
 abbrev pub Lengthens : List Assigned → List Assigned → Type 0
 Lengthens old new = (more : List Assigned) × (new ≡ old ++ more)
+
+-- a row that the truth of a literal of the trail calls for
+abbrev pub IsCalled : List Assigned → Clause → Type 0
+IsCalled t c = (l : Lit) × (r : ℕ) × Holds t l × Contains (called_rows l.positive l.formula) r × (row r l.formula ≡ Some c)
+
+-- no literal goes, none is decided, and each clause is an old one or a row that a true literal calls for
+pub record Brings (t : List Assigned) (clauses : List Clause) (t2 : List Assigned) (clauses2 : List Clause) : Type 0 where
+  pub holds : (l : Lit) → Holds t l → Holds t2 l
+  pub level : last_level t2 ≡ last_level t
+  pub front : Lengthens t t2
+  pub from : (c : Clause) → IsOneOf clauses2 c → IsOneOf clauses c ⊎ IsCalled t2 c
 
 -- each clause has a true literal, and so has each row that a true literal calls for
 pub record IsOpen (t : List Assigned) (clauses : List Clause) : Type 0 where

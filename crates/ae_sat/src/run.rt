@@ -18,7 +18,7 @@ ghost use Rattle.ae_sat.specs.declared.run.Found.TheVariants.{Nothing, Contradic
 ghost use Rattle.ae_sat.specs.declared.run.Found.TheVariants as finding;
 ghost use Rattle.ae_propagation.specs.Settled.{HasTrue, IsQuiet, last_level};
 ghost use Rattle.ae_sat.specs.Standing.{IsOneOf, HasRows};
-ghost use Rattle.ae_sat.specs.Search.{IsAlive, IsStated, IsLawfulState, NotesLegally, EndsEmpty, IsOpen, IsLearnt, HasParts, AllAmong, Progresses, Keeps, AddsLearnt, Lengthens};
+ghost use Rattle.ae_sat.specs.Search.{IsAlive, IsStated, IsLawfulState, NotesLegally, EndsEmpty, IsOpen, IsLearnt, HasParts, AllAmong, Progresses, Keeps, AddsLearnt, Brings};
 ghost use Rattle.ae_sat.specs.Apart.{IsFresh};
 ghost use Rattle.ae_sat.specs.Inner.Steps.{Enlarges, IsIdle};
 ghost use Rattle.ae_sat.specs.Lines.{AddsEquationsOver};
@@ -128,9 +128,8 @@ where
             IsLawfulState setting self.old.propagation.trail self.old.propagation.clauses self.old.expanded lines.old.items journal.old.lines → IsLicensed setting journal.new.lines wide }
         ensures enlarges { OnOk result (Enlarges store.now self.old.propagation.clauses lines.old.items self.new.propagation.clauses lines.new.items) }
         ensures journal { Keeps journal.old journal.new }
-        ensures level { OnOk result (last_level self.new.propagation.trail ≡ last_level self.old.propagation.trail) }
-        // The trail has grown behind its end alone.
-        ensures front { OnOk result (Lengthens self.old.propagation.trail self.new.propagation.trail) }
+        // No literal goes, none is decided, and each clause is an old one or a row that a true literal calls for.
+        ensures brings { OnOk result (Brings self.old.propagation.trail self.old.propagation.clauses self.new.propagation.trail self.new.propagation.clauses) }
         ensures quiet { result ≡ Ok Nothing → IsQuiet self.new.propagation.trail self.new.propagation.clauses }
         ensures told { result ≡ Ok Nothing → self.new.handed ≡ length self.new.propagation.trail }
         ensures expanded { result ≡ Ok Nothing → self.new.expanded ≡ length self.new.propagation.trail }
@@ -371,8 +370,9 @@ where
         // The lines that come in are rows, blocks and clauses of such formulas; those of blocks are equations.
         ensures lines { (fs : List Formula) → HasParts fs → AllAmong fs self.old.propagation.clauses → OnOk result (AddsEquationsOver store.now fs lines.old.items lines.new.items) }
         ensures journal { Keeps journal.old journal.new }
-        // Where no counted line was noted, the trail has grown behind its end alone.
-        ensures still { result ≡ Ok Open → counted_in journal.new.lines ≡ counted_in journal.old.lines → Lengthens self.old.propagation.trail self.new.propagation.trail }
+        // Where no counted line was noted, no literal goes, none is decided, and each clause is an old one or a row that a true literal calls for.
+        ensures still { result ≡ Ok Open → counted_in journal.new.lines ≡ counted_in journal.old.lines →
+            Brings self.old.propagation.trail self.old.propagation.clauses self.new.propagation.trail self.new.propagation.clauses }
         // The empty clause is the last of the lines.
         ensures refuted { result ≡ Ok Refuted → EndsEmpty lines.new.items }
         // Each clause, and each row that a true literal calls for, has a true literal.

@@ -1,5 +1,5 @@
 -- Lines that are no combinations of rows.
-use Rattle.std.proofs.Common.{◌≡◌, ◌∙◌, ℕ, ◌<◌, ◌⊎◌, Bool, true, List, [], ◌∷◌, ◌++◌, length, refl, sym, ap, subst, arith, inl, inr, append_assoc, append-nil, length-append, true≢false}
+use Rattle.std.proofs.Common.{◌≡◌, ◌∙◌, ℕ, ◌<◌, ◌⊎◌, Bool, true, List, [], ◌∷◌, ◌++◌, length, sym, ap, subst, arith, inl, inr, append_assoc, append-nil, length-append, true≢false}
 use Rattle.std.specs.List.{AllByRecursion}
 use Rattle.ae_base.proofs.AllOf.{all_append, all_back, all_weaker}
 use Rattle.ae_journal.specs.Journals.{OnlyCombines}

@@ -9,7 +9,7 @@ ghost use Rattle.ae_journal.specs.declared.answers.WideAt.{WideAt};
 ghost use Rattle.ae_propagation.specs.Settled.{last_level};
 ghost use Rattle.ae_rules.specs.Clauses.{Clause};
 ghost use Rattle.ae_sat.specs.Lines.{AddsLinesOver};
-ghost use Rattle.ae_sat.specs.Search.{AllAmong, EndsEmpty, HasParts, IsOpen, Keeps, Lengthens};
+ghost use Rattle.ae_sat.specs.Search.{AllAmong, Brings, EndsEmpty, HasParts, IsOpen, Keeps};
 ghost use Rattle.ae_sat.specs.Standing.{IsOneOf};
 ghost use Rattle.ae_sat.specs.declared.run.SatEnd.TheVariants.{Refuted, Open};
 ghost use Rattle.ae_searching.specs.Searching.{IsAliveIn, IsLawfulSoFar, IsSearching};
@@ -54,8 +54,9 @@ where
         (x : Setting) → IsToldIn p g store.now opened x → IsLicensed x journal.new.lines wide }
     ensures steps { result ≡ Err OutOfSteps → counted_in journal.new.lines ≡ journal.new.limit }
     ensures journal { Keeps journal.old journal.new }
-    // Where no counted line was noted, the trail has grown behind its end alone.
-    ensures still { result ≡ Ok Open → counted_in journal.new.lines ≡ counted_in journal.old.lines → Lengthens solver.old.propagation.trail solver.new.propagation.trail }
+    // Where no counted line was noted, no literal goes, none is decided, and each clause is an old one or a row that a true literal calls for.
+    ensures still { result ≡ Ok Open → counted_in journal.new.lines ≡ counted_in journal.old.lines →
+        Brings solver.old.propagation.trail solver.old.propagation.clauses solver.new.propagation.trail solver.new.propagation.clauses }
     ensures kept { (c : Clause) → IsOneOf solver.old.propagation.clauses c → OnOk result (IsOneOf solver.new.propagation.clauses c) }
     // No formula comes in but parts of those that are there, and the lines that come in are over such formulas.
     ensures formulas { (fs : List Formula) → HasParts fs → AllAmong fs solver.old.propagation.clauses → OnOk result (AllAmong fs solver.new.propagation.clauses) }

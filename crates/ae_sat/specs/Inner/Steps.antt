@@ -1,24 +1,20 @@
 -- What the steps of a search keep.
-use Rattle.std.specs.Prelude.{◌≡◌, ◌⊎◌, ℕ, Bool, false, List, Some, Ok, Err}
-use Rattle.std.specs.List.{Contains}
+use Rattle.std.specs.Prelude.{◌≡◌, ℕ, Bool, false, List, Ok, Err}
 use Rattle.std.specs.declared.result.Result.{Result}
-use Rattle.ae_rules.specs.Clauses.{Clause, row}
-use Rattle.ae_rules.specs.Defining.{called_rows}
+use Rattle.ae_rules.specs.Clauses.{Clause}
 use Rattle.ae_core.specs.declared.formulas.Formula.{Formula}
-use Rattle.ae_core.specs.declared.formulas.Lit.{Lit}
 use Rattle.ae_core.specs.declared.problems.Problem.{Problem}
 use Rattle.ae_core.specs.declared.proofs.ClauseLine.{ClauseLine}
 use Rattle.ae_explain.specs.declared.trail.Assigned.{Assigned}
 use Rattle.ae_journal.specs.declared.lines.Line.{Line}
 use Rattle.ae_journal.specs.Noted.{Noted}
 use Rattle.ae_journal.specs.Standing.{Setting}
-use Rattle.ae_propagation.specs.Settled.{Holds, last_level}
 use Rattle.ae_store.specs.Stores.{Stored}
 use Rattle.ae_theory.specs.Tagged.{Tagged}
 use Rattle.ae_theory.specs.declared.theory.Fail.{Fail}
 use Rattle.ae_theory.specs.declared.theory.Fail.TheVariants.{Steps as OutOfSteps}
 use Rattle.ae_sat.specs.Lines.{AddsEquationsOver}
-use Rattle.ae_sat.specs.Search.{AllAmong, HasParts, IsAlive, IsLawfulState, IsStated, Lengthens}
+use Rattle.ae_sat.specs.Search.{AllAmong, Brings, HasParts, IsAlive, IsLawfulState, IsStated}
 use Rattle.ae_sat.specs.Standing.{IsOneOf}
 
 -- no clause goes, no formula comes in but parts of those that are there, and the new lines are over these
@@ -26,17 +22,6 @@ pub record Enlarges (s : Stored) (clauses : List Clause) (lines : List ClauseLin
   pub kept : (c : Clause) → IsOneOf clauses c → IsOneOf clauses2 c
   pub formulas : (fs : List Formula) → HasParts fs → AllAmong fs clauses → AllAmong fs clauses2
   pub written : (fs : List Formula) → HasParts fs → AllAmong fs clauses → AddsEquationsOver s fs lines lines2
-
--- a row that the truth of a literal of the trail calls for
-abbrev pub IsCalled : List Assigned → Clause → Type 0
-IsCalled t c = (l : Lit) × (r : ℕ) × Holds t l × Contains (called_rows l.positive l.formula) r × (row r l.formula ≡ Some c)
-
--- no literal goes, none is decided, and each clause is an old one or such a row
-pub record Brings (t : List Assigned) (clauses : List Clause) (t2 : List Assigned) (clauses2 : List Clause) : Type 0 where
-  pub holds : (l : Lit) → Holds t l → Holds t2 l
-  pub level : last_level t2 ≡ last_level t
-  pub front : Lengthens t t2
-  pub from : (c : Clause) → IsOneOf clauses2 c → IsOneOf clauses c ⊎ IsCalled t2 c
 
 -- nothing was noted, no line was asked for, and the search doesn't go on
 pub record IsIdle (old new : Noted) (r : Result Bool Fail) : Type 0 where

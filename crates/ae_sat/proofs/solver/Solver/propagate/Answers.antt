@@ -12,7 +12,7 @@ use Rattle.ae_sat.specs.Marked.{atoms}
 use Rattle.ae_propagation.specs.Settled.{HasTrue, IsQuiet, last_level}
 use Rattle.ae_sat.specs.Standing.{HasRows}
 use Rattle.ae_sat.proofs.Conjunctive.{all_hold}
-use Rattle.ae_sat.proofs.Enlarging.{enlarges_to}
+use Rattle.ae_sat.proofs.Enlarging.{enlarges_to, brings_to}
 use Rattle.ae_sat.proofs.Failing.{passed_on}
 use Rattle.ae_sat.proofs.Searching.{keeps_same, notes_none}
 use Rattle.ae_sat.proofs.Blocks.{state_same, block_false}
@@ -139,9 +139,6 @@ returns-in_err-saturate-clause-number g c wide w setting sig st state =
 pub returns-in-Falsified-clause-enlarges : goal.returns-in-Falsified-clause-enlarges
 returns-in-Falsified-clause-enlarges g c = c.in_ok-k.ensures.continues.enlarges c.args.store.now
 
-pub returns-in-Falsified-clause-level : goal.returns-in-Falsified-clause-level
-returns-in-Falsified-clause-level g c = c.in_ok-k.ensures.continues.brings.level
-
 pub returns-in-Complete-clause-enlarges : goal.returns-in-Complete-clause-enlarges
 returns-in-Complete-clause-enlarges g c =
     let b = c.settle_rows.new.self in
@@ -149,18 +146,12 @@ returns-in-Complete-clause-enlarges g c =
     enlarges_to c.args.store.now c.args.self.now.propagation.clauses b.propagation.clauses c.saturate.new.self.propagation.clauses c.args.lines.now.items ks ks
     (c.in_ok-k.ensures.continues.enlarges c.args.store.now) (c.in_ok-saturate.ensures.clauses ∙ c.in_ok-tell_all.ensures.clauses) refl
 
-pub returns-in-Complete-clause-level : goal.returns-in-Complete-clause-level
-returns-in-Complete-clause-level g c = ap last_level (c.in_ok-saturate.ensures.trail ∙ c.in_ok-tell_all.ensures.trail) ∙ c.in_ok-k.ensures.continues.brings.level
-
 pub returns-in_ok-block-in-Conflict-clause-enlarges : goal.returns-in_ok-block-in-Conflict-clause-enlarges
 returns-in_ok-block-in-Conflict-clause-enlarges g c =
     let b = c.settle_rows.new.self in
     let ks = c.settle_rows.new.lines.items in
     enlarges_to c.args.store.now c.args.self.now.propagation.clauses b.propagation.clauses c.saturate.new.self.propagation.clauses c.args.lines.now.items ks ks
     (c.in_ok-k.ensures.continues.enlarges c.args.store.now) (c.in_ok-saturate.ensures.clauses ∙ c.in_ok-tell_all.ensures.clauses) refl
-
-pub returns-in_ok-block-in-Conflict-clause-level : goal.returns-in_ok-block-in-Conflict-clause-level
-returns-in_ok-block-in-Conflict-clause-level g c = ap last_level (c.in_ok-saturate.ensures.trail ∙ c.in_ok-tell_all.ensures.trail) ∙ c.in_ok-k.ensures.continues.brings.level
 
 pub returns-in-Complete-clause-all_true : goal.returns-in-Complete-clause-all_true
 returns-in-Complete-clause-all_true g c e fresh =
@@ -211,19 +202,6 @@ returns-in-Falsified-clause-journal g c = keeps_same c.args.journal.now
 pub returns-in_err-tell_all-clause-journal : goal.returns-in_err-tell_all-clause-journal
 returns-in_err-tell_all-clause-journal g c = keeps_same c.args.journal.now
 
-pub returns-in-Falsified-clause-front : goal.returns-in-Falsified-clause-front
-returns-in-Falsified-clause-front g c = c.in_ok-k.ensures.continues.brings.front
-
-pub returns-in-Complete-clause-front : goal.returns-in-Complete-clause-front
-returns-in-Complete-clause-front g c =
-    let f = c.in_ok-k.ensures.continues.brings.front in
-    (f.0, c.in_ok-saturate.ensures.trail ∙ c.in_ok-tell_all.ensures.trail ∙ f.1)
-
-pub returns-in_ok-block-in-Conflict-clause-front : goal.returns-in_ok-block-in-Conflict-clause-front
-returns-in_ok-block-in-Conflict-clause-front g c =
-    let f = c.in_ok-k.ensures.continues.brings.front in
-    (f.0, c.in_ok-saturate.ensures.trail ∙ c.in_ok-tell_all.ensures.trail ∙ f.1)
-
 pub returns-in-Complete-clause-rows : goal.returns-in-Complete-clause-rows
 returns-in-Complete-clause-rows g c e =
     let b = c.settle_rows.new.self in
@@ -231,3 +209,20 @@ returns-in-Complete-clause-rows g c e =
     let all : b.expanded ≡ length b.propagation.trail = c.settle_rows.ensures.expanded (c.in_ok-k.was ∙ ap Ok c.in-Quiet.is) in
     let is : a.expanded ≡ length a.propagation.trail = c.in_ok-saturate.ensures.expanded ∙ c.in_ok-tell_all.ensures.expanded ∙ all ∙ ap length (sym (c.in_ok-saturate.ensures.trail ∙ c.in_ok-tell_all.ensures.trail)) in
     subst (λ (n : ℕ). HasRows a.propagation.trail n a.propagation.clauses) is c.in_ok-saturate.ensures.alive.has_rows
+
+pub returns-in-Falsified-clause-brings : goal.returns-in-Falsified-clause-brings
+returns-in-Falsified-clause-brings g c = c.in_ok-k.ensures.continues.brings
+
+pub returns-in-Complete-clause-brings : goal.returns-in-Complete-clause-brings
+returns-in-Complete-clause-brings g c =
+    let s = c.args.self.now.propagation in
+    let b = c.settle_rows.new.self.propagation in
+    let a = c.saturate.new.self.propagation in
+    brings_to s.trail b.trail a.trail s.clauses b.clauses a.clauses c.in_ok-k.ensures.continues.brings (c.in_ok-saturate.ensures.trail ∙ c.in_ok-tell_all.ensures.trail) (c.in_ok-saturate.ensures.clauses ∙ c.in_ok-tell_all.ensures.clauses)
+
+pub returns-in_ok-block-in-Conflict-clause-brings : goal.returns-in_ok-block-in-Conflict-clause-brings
+returns-in_ok-block-in-Conflict-clause-brings g c =
+    let s = c.args.self.now.propagation in
+    let b = c.settle_rows.new.self.propagation in
+    let a = c.saturate.new.self.propagation in
+    brings_to s.trail b.trail a.trail s.clauses b.clauses a.clauses c.in_ok-k.ensures.continues.brings (c.in_ok-saturate.ensures.trail ∙ c.in_ok-tell_all.ensures.trail) (c.in_ok-saturate.ensures.clauses ∙ c.in_ok-tell_all.ensures.clauses)

@@ -5,7 +5,7 @@ use Rattle.ae_propagation.specs.Settled.{last_level}
 use Rattle.ae_sat.proofs.Enlarging.{enlarges_same, enlarges_more}
 use Rattle.ae_sat.proofs.Failing.{passed_on}
 use Rattle.ae_sat.proofs.Searching.{notes_none, notes_more, keeps_same, keeps_more, named_still}
-use Rattle.ae_sat.proofs.Resting.{still_front, went_on}
+use Rattle.ae_sat.proofs.Resting.{still_brings, went_on}
 use Rattle.ae_sat.proofs.solver.Solver.run.Goals as goal
 
 pub returns-in_err-k-clause-legal : goal.returns-in_err-k-clause-legal
@@ -48,8 +48,8 @@ loop-k-preserved-else-branch g c = record {
   enlarges = enlarges_more c.args.store.now c.args.self.now.propagation.clauses c.propagate.new.self.propagation.clauses c.learn.new.self.propagation.clauses c.args.lines.now.items c.propagate.new.lines.items c.learn.new.lines.items
       (enlarges_more c.args.store.now c.args.self.now.propagation.clauses c.loop-k.self.propagation.clauses c.propagate.new.self.propagation.clauses c.args.lines.now.items c.loop-k.lines.items c.propagate.new.lines.items c.loop-k.invariant.enlarges c.in_ok-k.ensures.enlarges)
       c.in_ok-learn-in-Clause.ensures.enlarges;
-  fresh = λ f. absurd ((c.learn.ensures.base (c.in_ok-k.ensures.level ∙ ap last_level (c.loop-k.invariant.fresh f).none)).ended (c.in_ok-learn-in-Clause.was ∙ ap Ok c.if-branch.false));
-  budget = λ f n h. absurd ((c.learn.ensures.base (c.in_ok-k.ensures.level ∙ ap last_level (c.loop-k.invariant.fresh f).none)).ended (c.in_ok-learn-in-Clause.was ∙ ap Ok c.if-branch.false));
+  fresh = λ f. absurd ((c.learn.ensures.base (c.in_ok-k.ensures.brings.level ∙ ap last_level (c.loop-k.invariant.fresh f).none)).ended (c.in_ok-learn-in-Clause.was ∙ ap Ok c.if-branch.false));
+  budget = λ f n h. absurd ((c.learn.ensures.base (c.in_ok-k.ensures.brings.level ∙ ap last_level (c.loop-k.invariant.fresh f).none)).ended (c.in_ok-learn-in-Clause.was ∙ ap Ok c.if-branch.false));
   stated = λ p n e s. c.in_ok-learn-in-Clause.ensures.stated p n e (c.in_ok-k.ensures.stated p n e (c.loop-k.invariant.stated p n e s));
   legal = λ setting bound e s w.
       let st = c.loop-k.invariant.stated setting.problem setting.goal e.signature s in
@@ -148,8 +148,8 @@ loop-k-preserved-else-branch-2 g c = record {
   enlarges = enlarges_more c.args.store.now c.args.self.now.propagation.clauses c.propagate.new.self.propagation.clauses c.learn_block.new.self.propagation.clauses c.args.lines.now.items c.propagate.new.lines.items c.learn_block.new.lines.items
       (enlarges_more c.args.store.now c.args.self.now.propagation.clauses c.loop-k.self.propagation.clauses c.propagate.new.self.propagation.clauses c.args.lines.now.items c.loop-k.lines.items c.propagate.new.lines.items c.loop-k.invariant.enlarges c.in_ok-k.ensures.enlarges)
       (c.in_ok-learn_block-in-Contradiction.ensures.enlarges ((c.propagate.ensures.block c.in-Contradiction.block (c.in_ok-k.was ∙ ap Ok c.in-Contradiction.is)).3));
-  fresh = λ f. absurd ((c.learn_block.ensures.base (c.in_ok-k.ensures.level ∙ ap last_level (c.loop-k.invariant.fresh f).none)).ended (c.in_ok-learn_block-in-Contradiction.was ∙ ap Ok c.if-branch-2.false));
-  budget = λ f n h. absurd ((c.learn_block.ensures.base (c.in_ok-k.ensures.level ∙ ap last_level (c.loop-k.invariant.fresh f).none)).ended (c.in_ok-learn_block-in-Contradiction.was ∙ ap Ok c.if-branch-2.false));
+  fresh = λ f. absurd ((c.learn_block.ensures.base (c.in_ok-k.ensures.brings.level ∙ ap last_level (c.loop-k.invariant.fresh f).none)).ended (c.in_ok-learn_block-in-Contradiction.was ∙ ap Ok c.if-branch-2.false));
+  budget = λ f n h. absurd ((c.learn_block.ensures.base (c.in_ok-k.ensures.brings.level ∙ ap last_level (c.loop-k.invariant.fresh f).none)).ended (c.in_ok-learn_block-in-Contradiction.was ∙ ap Ok c.if-branch-2.false));
   stated = λ p n e s. c.in_ok-learn_block-in-Contradiction.ensures.stated p n e (c.in_ok-k.ensures.stated p n e (c.loop-k.invariant.stated p n e s));
   legal = λ setting bound e s w.
       let st = c.loop-k.invariant.stated setting.problem setting.goal e.signature s in
@@ -221,7 +221,7 @@ loop-k-init g c = record {
   enlarges = enlarges_same c.args.store.now c.args.self.now.propagation.clauses c.args.lines.now.items;
   fresh = λ f. f;
   budget = λ f n h. (h, refl);
-  still = inl refl;
+  still = inl (refl, refl);
   journal = keeps_same c.args.journal.now;
 }
 
@@ -284,25 +284,25 @@ returns-in-None-clause-budget g c n f h =
 pub returns-in_err-learn-in-Clause-clause-budget : goal.returns-in_err-learn-in-Clause-clause-budget
 returns-in_err-learn-in-Clause-clause-budget g c n f h =
     let b = c.loop-k.invariant.budget f n h in
-    let idle = c.in_err-learn-in-Clause.ensures.base (c.in_ok-k.ensures.level ∙ ap last_level (c.loop-k.invariant.fresh f).none) in
+    let idle = c.in_err-learn-in-Clause.ensures.base (c.in_ok-k.ensures.brings.level ∙ ap last_level (c.loop-k.invariant.fresh f).none) in
     omega (arith, c.in_ok-k.ensures.budget n b.0, b.1, ap (λ (x : Noted). counted_in x.lines) idle.noted)
 
 pub returns-then-branch-clause-budget : goal.returns-then-branch-clause-budget
 returns-then-branch-clause-budget g c n f h =
     let b = c.loop-k.invariant.budget f n h in
-    let idle = c.in_ok-learn-in-Clause.ensures.base (c.in_ok-k.ensures.level ∙ ap last_level (c.loop-k.invariant.fresh f).none) in
+    let idle = c.in_ok-learn-in-Clause.ensures.base (c.in_ok-k.ensures.brings.level ∙ ap last_level (c.loop-k.invariant.fresh f).none) in
     omega (arith, c.in_ok-k.ensures.budget n b.0, b.1, ap (λ (x : Noted). counted_in x.lines) idle.noted)
 
 pub returns-in_err-learn_block-in-Contradiction-clause-budget : goal.returns-in_err-learn_block-in-Contradiction-clause-budget
 returns-in_err-learn_block-in-Contradiction-clause-budget g c n f h =
     let b = c.loop-k.invariant.budget f n h in
-    let idle = c.in_err-learn_block-in-Contradiction.ensures.base (c.in_ok-k.ensures.level ∙ ap last_level (c.loop-k.invariant.fresh f).none) in
+    let idle = c.in_err-learn_block-in-Contradiction.ensures.base (c.in_ok-k.ensures.brings.level ∙ ap last_level (c.loop-k.invariant.fresh f).none) in
     omega (arith, c.in_ok-k.ensures.budget n b.0, b.1, ap (λ (x : Noted). counted_in x.lines) idle.noted)
 
 pub returns-then-branch-2-clause-budget : goal.returns-then-branch-2-clause-budget
 returns-then-branch-2-clause-budget g c n f h =
     let b = c.loop-k.invariant.budget f n h in
-    let idle = c.in_ok-learn_block-in-Contradiction.ensures.base (c.in_ok-k.ensures.level ∙ ap last_level (c.loop-k.invariant.fresh f).none) in
+    let idle = c.in_ok-learn_block-in-Contradiction.ensures.base (c.in_ok-k.ensures.brings.level ∙ ap last_level (c.loop-k.invariant.fresh f).none) in
     omega (arith, c.in_ok-k.ensures.budget n b.0, b.1, ap (λ (x : Noted). counted_in x.lines) idle.noted)
 
 pub returns-in_err-branch_on-in-Some-clause-budget : goal.returns-in_err-branch_on-in-Some-clause-budget
@@ -316,12 +316,12 @@ returns-in_err-k-clause-budget_left g c e n f h =
 
 pub returns-in_err-learn-in-Clause-clause-budget_left : goal.returns-in_err-learn-in-Clause-clause-budget_left
 returns-in_err-learn-in-Clause-clause-budget_left g c e n f h =
-    let idle = c.in_err-learn-in-Clause.ensures.base (c.in_ok-k.ensures.level ∙ ap last_level (c.loop-k.invariant.fresh f).none) in
+    let idle = c.in_err-learn-in-Clause.ensures.base (c.in_ok-k.ensures.brings.level ∙ ap last_level (c.loop-k.invariant.fresh f).none) in
     absurd (idle.asked (passed_on c.from_residual-in_err-learn-in-Clause.result c.in_err-learn-in-Clause.field-0.0 refl c.from_residual-in_err-learn-in-Clause.ensures.1 e))
 
 pub returns-in_err-learn_block-in-Contradiction-clause-budget_left : goal.returns-in_err-learn_block-in-Contradiction-clause-budget_left
 returns-in_err-learn_block-in-Contradiction-clause-budget_left g c e n f h =
-    let idle = c.in_err-learn_block-in-Contradiction.ensures.base (c.in_ok-k.ensures.level ∙ ap last_level (c.loop-k.invariant.fresh f).none) in
+    let idle = c.in_err-learn_block-in-Contradiction.ensures.base (c.in_ok-k.ensures.brings.level ∙ ap last_level (c.loop-k.invariant.fresh f).none) in
     absurd (idle.asked (passed_on c.from_residual-in_err-learn_block-in-Contradiction.result c.in_err-learn_block-in-Contradiction.field-0.0 refl c.from_residual-in_err-learn_block-in-Contradiction.ensures.1 e))
 
 pub returns-in_err-branch_on-in-Some-clause-budget_left : goal.returns-in_err-branch_on-in-Some-clause-budget_left
@@ -355,5 +355,7 @@ returns-in_err-branch_on-in-Some-clause-journal g c = keeps_more c.args.journal.
 -- ---- where no counted line was noted
 pub returns-in-None-clause-still : goal.returns-in-None-clause-still
 returns-in-None-clause-still g c e same =
-    let front = c.in_ok-k.ensures.front in
-    still_front c.args.self.now.propagation.trail c.loop-k.self.propagation.trail c.propagate.new.self.propagation.trail c.args.journal.now c.loop-k.journal c.propagate.new.journal c.loop-k.invariant.still c.propagate.ensures.journal same front
+    let s = c.args.self.now.propagation in
+    let m = c.loop-k.self.propagation in
+    let n = c.propagate.new.self.propagation in
+    still_brings s.trail m.trail n.trail s.clauses m.clauses n.clauses c.args.journal.now c.loop-k.journal c.propagate.new.journal c.loop-k.invariant.still c.propagate.ensures.journal same c.in_ok-k.ensures.brings

@@ -20,8 +20,8 @@ invariant-loop-k g l = record {
   fresh : IsFresh l.fn.self.propagation.trail l.fn.self.propagation.clauses → IsFresh l.self.propagation.trail l.self.propagation.clauses;
   budget : IsFresh l.fn.self.propagation.trail l.fn.self.propagation.clauses → (n : ℕ) → g.T.Theory.may_note l.fn.self.theory l.store n
       → g.T.Theory.may_note l.self.theory l.store n × (counted_in l.journal.lines ≡ counted_in l.fn.journal.lines);
-  -- the trail is as it was, or a counted line was noted
-  still : (l.self.propagation.trail ≡ l.fn.self.propagation.trail) ⊎ (counted_in l.fn.journal.lines < counted_in l.journal.lines);
+  -- the trail and the clauses are as they were, or a counted line was noted
+  still : ((l.self.propagation.trail ≡ l.fn.self.propagation.trail) × (l.self.propagation.clauses ≡ l.fn.self.propagation.clauses)) ⊎ (counted_in l.fn.journal.lines < counted_in l.journal.lines);
   journal : Keeps l.fn.journal l.journal;
 }
 
