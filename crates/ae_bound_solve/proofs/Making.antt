@@ -1,6 +1,6 @@
 -- The widths of the making of a point aren't those of combinations.
-use Rattle.std.specs.Prelude.{ℕ, ◌≡◌, ◌≢◌, ◌⊎◌, Option, List}
-use Rattle.std.proofs.Common.{refl, sym, ◌∙◌, subst, inl, inr}
+use Rattle.std.specs.Prelude.{ℕ, ◌≡◌, ◌≢◌, Option, List}
+use Rattle.std.proofs.Common.{inl, inr}
 use Rattle.ae_math.specs.Fractions.{ℚ}
 use Rattle.ae_math.specs.Forms.{Form}
 use Rattle.ae_num.specs.declared.forms.Lin.{Lin}
@@ -16,7 +16,6 @@ use Rattle.ae_ineq.specs.Widths.IsRowStep.{put_value, divide}
 use Rattle.ae_ineq.specs.Widths.IsBoundStep.{compare, add, halve, above, beneath}
 use Rattle.ae_ineq.specs.Widths.IsPointStep.{of_row, of_bounds}
 use Rattle.ae_bounds.specs.declared.rows.Row.{Row}
-use Rattle.ae_bounds.specs.Combinations.{IsWideIn}
 use Rattle.ae_bound_lines.proofs.Legal.{licensed}
 use Rattle.ae_bound_points.specs.Points.{IsNonzeroRow}
 use Rattle.ae_bound_widths.specs.Fractions.{AreFinished}

@@ -1,12 +1,12 @@
 -- The assumed rows that a row is made of are given by sides of one sort, and what was rounded among them is over opaque names.
-use Rattle.std.specs.Prelude.{ℕ, zero, suc, pos, ◌+◌, ◌<◌, ◌≡◌, ◌≢◌, ◌⊎◌, Bool, true, false, ◌&&◌, ◌||◌, List, [], ◌∷◌, Option, Some, None, slice_get}
+use Rattle.std.specs.Prelude.{ℕ, zero, suc, pos, ◌<◌, ◌≡◌, ◌≢◌, Bool, true, false, ◌||◌, List, [], Option, Some, None, slice_get}
 use Rattle.std.specs.List.{AllByRecursion, Contains}
 use Rattle.std.proofs.Common.{arith, refl, sym, ap, ◌∙◌, subst, inl, inr}
 use Rattle.std.proofs.lemmas.Bool.{and_parts}
 use Rattle.ae_base.proofs.AllOf.{all_weaker, all_from_places}
 use Rattle.ae_base.proofs.ListFacts.{get_front}
 use Rattle.ae_base.proofs.Tests.{true_false}
-use Rattle.ae_math.specs.Fractions.{ℚ, zero_ℚ, neg_ℚ, is_positive, ratio}
+use Rattle.ae_math.specs.Fractions.{neg_ℚ, is_positive, ratio}
 use Rattle.ae_math.specs.Forms.{single}
 use Rattle.ae_math.proofs.FractionLaws.{neg_zero_q}
 use Rattle.ae_math.proofs.FractionOrder.{positive_zero}

@@ -15,7 +15,7 @@ ghost use Rattle.ae_journal.specs.Licences.{IsLicensed};
 ghost use Rattle.ae_theory.specs.declared.theory.Fail.TheVariants.{Steps, Number};
 ghost use Rattle.ae_bounds.specs.Rounding.{AreRounded};
 ghost use Rattle.ae_bounds.specs.Combinations.{IsExtended, IsWideIn, AreClosed, HasZero};
-ghost use Rattle.ae_bounds.specs.Findings.{AreFounded, IsRefutedAt, NoneIsRefuted};
+ghost use Rattle.ae_bounds.specs.Findings.{AreFounded, IsRefutedAt, NoneIsRefuted, HasRefuted};
 ghost use Rattle.ae_bound_points.specs.Points.{IsNonzeroRow, ArePositiveAt};
 ghost use Rattle.ae_bound_blocks.specs.Ancestors.{AreTagsOf, hyps_of};
 ghost use Rattle.ae_bound_blocks.specs.Said.{AreBuilt};
@@ -59,12 +59,12 @@ fn point_answer(alloc: Global, rows: &[Row]) -> Result<Answer, Fail>
     }
 }
 
-/// What rows come to that have all their combinations.
+/// What rows come to of which one can't hold, or that have all their combinations.
 fn answer_of(alloc: Global, store: &Store, rows: &[Row], given: &[Given]) -> Result<Answer, Fail>
     requires normal { AllByRecursion (λ row. IsNormal row.lin) rows.now }
     requires founded { AreFounded rows.now }
     requires were_rounded { AreRounded rows.now }
-    requires closed { AreClosed rows.now }
+    requires closed { AreClosed rows.now ⊎ HasRefuted rows.now }
     requires given { AreAllGiven store.now.signature (terms (shapes store.now.nodes)) rows.now given.now }
     requires opaque { AreOpaqueNames (terms (shapes store.now.nodes)) rows.now }
     ensures point { (made : _) → result ≡ Ok (Point made) → ArePositiveAt (value_in made) rows.now }
@@ -92,8 +92,8 @@ fn answer_of(alloc: Global, store: &Store, rows: &[Row], given: &[Given]) -> Res
     }
 }
 
-/// What rows come to, after each combination of two of them on the largest name of both that is no positive multiple of a row was noted and added. It can be
-/// called again after more rows were assumed.
+/// What rows come to, after each combination of two of them on the largest name of both that is no positive multiple of a row was noted and added, or only those
+/// up to the first row that can't hold. It can be called again after more rows were assumed.
 ///
 /// `given` has by its number what gives the row of each tag. `Steps` comes only where the journal is full, and `Number` only where a stated product or sum of
 /// the combination of two rows, or of the making of the point, leaves the limits; of rows over fractions that agree with the journal it is licensed then, where

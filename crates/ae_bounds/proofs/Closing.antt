@@ -1,7 +1,6 @@
 -- Rows to which combinations were added, and pairs of rows whose combination is there.
 use Rattle.std.specs.Prelude.{ℕ, zero, suc, ◌+◌, ◌<◌, ◌≤◌, ℤ, pos, negsuc, ◌<ℤ◌, ◌≡◌, List, [], ◌∷◌, ◌++◌, Option, Some, None, length, slice_get}
-use Rattle.std.specs.List.{Contains}
-use Rattle.std.proofs.Common.{refl, arith, sym, ap, ◌∙◌, subst, inl, inr, append_assoc, length-append}
+use Rattle.std.proofs.Common.{arith, sym, ap, ◌∙◌, subst, append_assoc, length-append}
 use Rattle.std.proofs.lemmas.List.{append-nil}
 use Rattle.std.proofs.lemmas.List.Elements.{Contains-append_left}
 use borrow.Author.Differences.{ints}
@@ -17,7 +16,7 @@ use Rattle.ae_ineq.proofs.LastLaws.{lower_means, upper_means}
 use Rattle.ae_num.specs.Forms.{IsNormal}
 use Rattle.ae_bounds.specs.declared.rows.Row.{Row}
 use Rattle.ae_bounds.specs.declared.combining.Opposed.{Opposed}
-use Rattle.ae_bounds.specs.Combinations.{IsThere, IsExtended, HasZero, IsHeld, IsDone}
+use Rattle.ae_bounds.specs.Combinations.{IsThere, IsExtended, IsHeld, IsDone}
 use Rattle.ae_bounds.specs.Combinations.IsExtended.{as_it_was, one_more, zero_more}
 use Rattle.ae_bounds.specs.Inner.Pairs.{HaveLast, IsPairThere, ArePaired, AreClosedBelow}
 

@@ -1,16 +1,17 @@
 -- Rows that were looked at, one after the other.
-use Rattle.std.specs.Prelude.{ℕ, suc, ◌+◌, ◌<◌, ◌≤◌, ◌<ℤ◌, pos, ◌≡◌, ◌⊎◌, Bool, true, false, List, [], Some, length, slice_get}
+use Rattle.std.specs.Prelude.{ℕ, ◌+◌, ◌-◌, ◌<◌, ◌≤◌, ◌<ℤ◌, pos, ◌≡◌, ◌⊎◌, Bool, true, false, List, [], ◌∷◌, ◌++◌, Some, length, slice_get}
 use Rattle.std.specs.List.{AllByRecursion, Contains}
-use Rattle.std.proofs.Common.{arith, refl, sym, ap, ◌∙◌, subst, inl, inr, get_or}
-use Rattle.std.proofs.lemmas.Option.{slice_get-get_or, get_or_from_slice_get}
+use Rattle.std.proofs.Common.{arith, refl, sym, ap, ◌∙◌, subst, inr, get_or, length-append}
+use Rattle.std.proofs.lemmas.Option.{slice_get-get_or, slice_get_within, get_or_from_slice_get, same_Some}
 use native.Mathlib.Decide.{dec_lt}
+use Rattle.ae_base.proofs.ListFacts.{get_seam}
 use Rattle.ae_num.specs.Forms.{meaning, IsNormal}
-use Rattle.ae_journal.proofs.Splits.{all_contained}
+use Rattle.ae_journal.proofs.Splits.{all_contained, contains_at}
 use Rattle.ae_ineq.specs.Sums.{IsZero, IsRefuted}
 use Rattle.ae_bounds.specs.declared.rows.Row.{Row}
 use Rattle.ae_bounds.specs.declared.rows.Origin.TheVariants.{Combined}
 use Rattle.ae_bounds.specs.Combinations.{HasZero}
-use Rattle.ae_bounds.specs.Findings.{IsRefutedAt, IsTightAt, NoneIsRefuted}
+use Rattle.ae_bounds.specs.Findings.{IsRefutedAt, IsTightAt, NoneIsRefuted, HasRefuted}
 use Rattle.ae_bounds.proofs.Zeros.{zero_form, form_zero, refuted_form, form_refuted}
 
 abbrev CannotBe : Row → Type 0
@@ -68,3 +69,27 @@ module _ (rows : List Row) (normal : AllByRecursion (λ (r : Row). IsNormal r.li
 
 pub none_is_zero : (n : ℕ) (rows : List Row) → length rows ≤ n → NoneBelow Tight n rows → HasZero rows → ⊥
 none_is_zero n rows h none z = none_at_all Tight n rows h none z.row z.among (z.zero, (z.lower, z.upper, z.from))
+
+pub has_at : (rows : List Row) (n : ℕ) → IsRefutedAt rows n → HasRefuted rows
+has_at rows n h = (h.row, contains_at rows n h.row h.at, h.refuted)
+
+-- ---- the last row
+pub last_there : (rows front : List Row) (t : Row) → rows ≡ front ++ t ∷ [] → slice_get rows (length rows - 1) ≡ Some t
+last_there rows front t e =
+    let n : length rows ≡ length (front ++ t ∷ []) = ap (λ (w : List Row). length w) e in
+    let a : length (front ++ t ∷ []) ≡ length front + 1 = length-append front (t ∷ []) in
+    let k : length rows - 1 ≡ length front = omega (arith, n, a) in
+    ap (λ (w : List Row). slice_get w (length rows - 1)) e ∙ ap (slice_get (front ++ t ∷ [])) k ∙ get_seam front [] t
+
+module _ (rows : List Row) (normal : AllByRecursion (λ (r : Row). IsNormal r.lin) rows) (r : Row) (at : slice_get rows (length rows - 1) ≡ Some r) where
+  within : length rows - 1 < length rows
+  within = slice_get_within rows (length rows - 1) r at
+
+  value : r ≡ get_or rows (length rows - 1) r
+  value = sym (get_or_from_slice_get rows (length rows - 1) r r at)
+
+  pub last_refuted : CannotBe r → HasRefuted rows
+  last_refuted h = has_at rows (length rows - 1) (refuted_here rows normal (length rows - 1) r within value h)
+
+  pub last_possible : ((r.lin.parts ≡ []) → ((r.lin.constant <ℤ pos 0) ⊎ ((r.lin.constant ≡ pos 0) × (r.strict ≡ true))) → ⊥) → (front : List Row) (t : Row) → rows ≡ front ++ t ∷ [] → Refuted t → ⊥
+  last_possible h front t e f = not_refuted rows normal (length rows - 1) r within value h (subst (λ (y : Row). Refuted y) (sym (same_Some r t (sym at ∙ last_there rows front t e))) f)

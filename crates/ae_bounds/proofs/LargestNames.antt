@@ -1,10 +1,10 @@
 -- Rows by their largest names: one row more, and rows that are opposed have one largest name.
-use Rattle.std.specs.Prelude.{ℕ, zero, suc, ◌+◌, ◌<◌, ◌≤◌, ◌≡◌, ◌≢◌, Bool, true, false, cond, nat_eq, Option, Some, None, List, [], ◌∷◌, ◌++◌, length, slice_get}
+use Rattle.std.specs.Prelude.{ℕ, zero, suc, ◌<◌, ◌≤◌, ◌≡◌, Bool, true, false, cond, nat_eq, Option, Some, None, List, [], ◌∷◌, ◌++◌, length, slice_get}
 use Rattle.std.proofs.Common.{arith, refl, sym, ap, ◌∙◌, subst, length-append}
 use Rattle.std.proofs.lemmas.Option.{slice_get_within, none-some, same_Some}
 use Rattle.std.proofs.lemmas.Bool.Decides.{nat_tests}
-use native.Mathlib.Decide.{ℕ_discrete, dec_lt}
-use Rattle.ae_base.proofs.ListFacts.{get_seam, get_append}
+use native.Mathlib.Decide.{dec_lt}
+use Rattle.ae_base.proofs.ListFacts.{get_append}
 use Rattle.ae_num.specs.declared.forms.Part.{Part}
 use Rattle.ae_ineq.specs.Inner.Sets.{last_part, name_reach}
 use Rattle.ae_bounds.specs.declared.rows.Row.{Row}

@@ -1,7 +1,7 @@
 -- The largest name of a form in the normal form is that of its last part.
-use Rattle.std.specs.Prelude.{ℕ, zero, suc, ◌<◌, ◌≤◌, ℤ, pos, negsuc, ◌<ℤ◌, ◌≡◌, ◌≢◌, true, List, Option, Some, None, length}
-use Rattle.std.specs.List.{AllByRecursion, Contains}
-use Rattle.std.proofs.Common.{refl, arith, sym, ap, ◌∙◌, subst}
+use Rattle.std.specs.Prelude.{ℕ, zero, suc, ◌<◌, ℤ, pos, negsuc, ◌<ℤ◌, ◌≡◌, ◌≢◌, List, Option, Some, None, length}
+use Rattle.std.specs.List.{AllByRecursion}
+use Rattle.std.proofs.Common.{refl, arith, sym, ap, ◌∙◌}
 use Rattle.std.proofs.lemmas.Option.{slice_get-get_or}
 use borrow.Author.Differences.{ints}
 use native.Mathlib.Decide.{dec_lt}

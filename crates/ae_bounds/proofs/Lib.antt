@@ -13,3 +13,4 @@ pub mod Feeding
 pub mod Sums
 pub mod Keeping
 pub mod Found
+pub mod Stopping

@@ -1,9 +1,8 @@
 -- The combination of two rows at places of a list.
 use Rattle.std.specs.Prelude.{ℕ, ◌<◌, ◌≡◌, List, Some, None, length, slice_get}
-use Rattle.std.specs.List.{AllByRecursion, Contains}
+use Rattle.std.specs.List.{AllByRecursion}
 use Rattle.std.proofs.Common.{sym, ap, ◌∙◌, subst, get_or}
 use Rattle.std.proofs.lemmas.Option.{get_or_from_slice_get, slice_get-get_or}
-use Rattle.ae_num.specs.declared.forms.Lin.{Lin}
 use Rattle.ae_num.specs.Forms.{IsNormal, first_wide, combine_steps}
 use Rattle.ae_journal.specs.declared.answers.WideAt.{WideAt}
 use Rattle.ae_journal.proofs.Splits.{all_contained}

@@ -1,7 +1,6 @@
 -- A row that was noted and added, or not.
 use Rattle.std.specs.Prelude.{ℕ, pos, ◌≡◌, ◌≢◌, List, [], ◌∷◌, ◌++◌, Result, Ok, Err, OnOk, OnErr}
-use Rattle.std.specs.List.{Contains}
-use Rattle.std.proofs.Common.{sym, ap, ◌∙◌, subst}
+use Rattle.std.proofs.Common.{sym, ap, subst, inl, inr}
 use Rattle.std.proofs.lemmas.List.Elements.{Contains-append_right}
 use native.Mathlib.Decide.{ℕ_discrete}
 use Rattle.ae_math.specs.Fractions.{one_ℚ}
@@ -17,7 +16,7 @@ use Rattle.ae_bounds.specs.declared.rows.Row.{Row}
 use Rattle.ae_bounds.specs.declared.rows.Origin.TheVariants.{Combined}
 use Rattle.ae_theory.specs.declared.theory.Fail.{Fail}
 use Rattle.ae_bounds.specs.Combinations.{IsThere, IsCombined, IsExtended, HasZero, IsHeld}
-use Rattle.ae_bounds.specs.Inner.Pairs.{IsMadeOf, IsPairThere}
+use Rattle.ae_bounds.specs.Inner.Pairs.{IsMadeOf, IsPairThere, IsOneMore}
 use Rattle.ae_bounds.proofs.OwnForms.{own_combined}
 use Rattle.ae_bounds.proofs.Zeros.{form_zero}
 use Rattle.ae_bounds.specs.Combinations.IsExtended.{as_it_was, one_more, zero_more}
@@ -53,6 +52,10 @@ extended_noted rows new j k r (Ok x) c n e f g =
     (subst (λ (ls : List Line). IsExtended rows j.lines (rows ++ r ∷ []) ls) (sym (ap (λ (m : Noted). m.lines) f)) (one_more rows j.lines r as_it_was c n))
 extended_noted rows new j k r (Err x) c n e f g =
     subst (λ (rs : List Row). IsExtended rows j.lines rs k.lines) (sym g.0) (subst (λ (ls : List Line). IsExtended rows j.lines rows ls) (sym (ap (λ (m : Noted). m.lines) g.1)) as_it_was)
+
+pub one_noted : {T : Type 0} (rows new : List Row) (j k : Noted) (r : Row) (result : Result T Fail) → OnOk result (new ≡ rows ++ r ∷ []) → OnErr result ((new ≡ rows) × (k ≡ j)) → IsOneMore rows new
+one_noted rows new j k r (Ok x) e g = inr (r, e)
+one_noted rows new j k r (Err x) e g = inl g.0
 
 pub pair_done : {T : Type 0} (rows : List Row) (i j : ℕ) (new : List Row) (r : Row) (result : Result T Fail) → IsMadeOf rows i j r → OnOk result (IsHeld new (meaning r.lin)) → OnOk result (IsPairThere rows i j new)
 pair_done rows i j new r (Ok x) m h = λ p q o a b c. record { row = r; of = m.each p q o a b c; held = h }

@@ -1,14 +1,13 @@
 -- A row is weaker than the rounded one: a positive multiple of it is the rounded one and a number that isn't negative.
-use Rattle.std.specs.Prelude.{ℕ, zero, suc, ℤ, pos, negsuc, ◌≡◌, ◌≢◌, ◌*ℤ◌, ◌-ℤ◌, ◌<ℤ◌, ◌≤ℤ◌, Bool, true, false, cond, nat_eq, List, [], ◌∷◌, ◌++◌, map}
+use Rattle.std.specs.Prelude.{ℕ, zero, suc, ℤ, pos, ◌≡◌, ◌≢◌, ◌*ℤ◌, ◌-ℤ◌, ◌<ℤ◌, ◌≤ℤ◌, Bool, true, false, cond, nat_eq, List, [], ◌∷◌}
 use Rattle.std.specs.List.{AllByRecursion}
 use Rattle.std.proofs.Common.{arith, refl, sym, ap, ◌∙◌, subst}
 use Rattle.std.proofs.lemmas.List.{append-nil}
-use Rattle.std.proofs.lemmas.Bool.Decides.{nat_tests}
 use native.Mathlib.Decide.{ℕ_discrete}
 use lib.IntN.{*ℤ-one, zero-*ℤ, *ℤ_comm}
 use lib.Signed.{lt_z}
 use borrow.Author.Differences.{ints}
-use Rattle.ae_math.specs.Fractions.{ℚ, zero_ℚ, neg_ℚ, ◌+ℚ◌, ◌*ℚ◌, ratio, is_positive}
+use Rattle.ae_math.specs.Fractions.{ℚ, neg_ℚ, ◌+ℚ◌, ◌*ℚ◌, ratio, is_positive}
 use Rattle.ae_math.specs.Forms.{Form, plus, scale, number, factor_in, SameForm}
 use Rattle.ae_math.proofs.FractionLaws.{add_comm_q, neg_add_cancel_q, mul_zero_q}
 use Rattle.ae_math.proofs.FractionOrder.{neg_difference, below_crosswise}

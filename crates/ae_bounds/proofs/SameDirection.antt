@@ -1,8 +1,8 @@
 -- Forms that are positive multiples of one another have one direction.
 use Rattle.std.specs.Prelude.{ℕ, false, ◌≡◌, List}
 use Rattle.std.specs.List.{Contains}
-use Rattle.std.proofs.Common.{sym, ap, ◌∙◌, subst, inl, inr}
-use Rattle.ae_math.specs.Forms.{Form, SameForm, scale}
+use Rattle.std.proofs.Common.{sym, ◌∙◌, subst, inl, inr}
+use Rattle.ae_math.specs.Forms.{Form}
 use native.Mathlib.Decide.{ℕ_discrete}
 use Rattle.ae_math.specs.Fractions.{one_ℚ}
 use Rattle.ae_math.proofs.FormLaws.{scale_one}

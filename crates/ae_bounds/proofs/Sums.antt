@@ -1,10 +1,10 @@
 -- Rows are sums of those that were assumed or rounded.
-use Rattle.std.specs.Prelude.{ℕ, zero, suc, ◌<◌, ◌≡◌, ◌≢◌, Bool, true, false, ◌||◌, List, [], ◌∷◌, Option, Some, None, take, length, slice_get}
+use Rattle.std.specs.Prelude.{ℕ, zero, suc, ◌<◌, ◌≡◌, ◌≢◌, Bool, ◌||◌, List, [], ◌∷◌, Option, Some, None, take, slice_get}
 use Rattle.std.specs.List.{Contains}
-use Rattle.std.proofs.Common.{arith, refl, sym, ap, ◌∙◌, subst, inl, inr}
+use Rattle.std.proofs.Common.{arith, refl, sym, ap, ◌∙◌, subst}
 use native.Mathlib.Decide.{ℕ_discrete}
 use Rattle.ae_base.proofs.Tests.{true_false}
-use Rattle.ae_math.specs.Fractions.{zero_ℚ, neg_ℚ, is_positive}
+use Rattle.ae_math.specs.Fractions.{neg_ℚ, is_positive}
 use Rattle.ae_math.proofs.FractionLaws.{neg_zero_q}
 use Rattle.ae_math.proofs.FractionOrder.{positive_zero}
 use Rattle.ae_math.proofs.FormLaws.{same_sym}
@@ -12,9 +12,9 @@ use Rattle.ae_num.specs.declared.forms.Part.{Part}
 use Rattle.ae_num.specs.declared.forms.Lin.{Lin}
 use Rattle.ae_num.specs.Forms.{meaning, IsNormal}
 use Rattle.ae_rows.specs.Rows.{combination, factor_at, IsLower, IsUpper}
-use Rattle.ae_journal.proofs.Splits.{contains_here, contains_later, contains_at}
+use Rattle.ae_journal.proofs.Splits.{contains_here, contains_later}
 use Rattle.ae_ineq.specs.declared.solving.Inequality.{Inequality}
-use Rattle.ae_ineq.specs.Sums.{IsZero, IsRefuted, HasTightSum, HasRefutedSum}
+use Rattle.ae_ineq.specs.Sums.{IsZero, HasTightSum, HasRefutedSum}
 use Rattle.ae_ineq.specs.Inner.Derived.{IsNonzeroSum}
 use Rattle.ae_ineq.proofs.Deriving.{sum_both, nonzero_same, nonzero_one, sum_one, tight_sum, refuted_sum}
 use Rattle.ae_journal.specs.Sides.{AreDivided, IsRounded}

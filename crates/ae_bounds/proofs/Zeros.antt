@@ -6,7 +6,7 @@ use Rattle.std.proofs.Common.{arith, refl, sym, ap, ◌∙◌, subst, inl, inr}
 use native.Mathlib.Decide.{ℕ_discrete}
 use native.Mathlib.Nat.{dvd-zero, dvd-one, dvd_refl}
 use borrow.Author.Differences.{ints}
-use Rattle.ae_math.specs.Fractions.{ℚ, zero_ℚ, one_ℚ, neg_ℚ, ◌*ℚ◌, ratio, is_positive}
+use Rattle.ae_math.specs.Fractions.{zero_ℚ, one_ℚ, neg_ℚ, ◌*ℚ◌, ratio, is_positive}
 use Rattle.ae_math.specs.Forms.{Form, scale, SameForm}
 use Rattle.ae_math.proofs.FractionLaws.{mul_zero_q, neg_zero_q}
 use Rattle.ae_math.proofs.FractionOrder.{not_both_positive, positive_zero}
@@ -25,7 +25,7 @@ use Rattle.ae_ineq.specs.Sums.{IsZero, IsRefuted}
 use Rattle.ae_ineq.proofs.Verdicts.{zero_means, refuted_means}
 use Rattle.ae_ineq.specs.Inner.Sets.{last_part, IsMultiple}
 use Rattle.ae_ineq.proofs.LastLaws.{last_factor, last_nonzero, no_last_parts, ratio_positive}
-use Rattle.ae_bounds.specs.Inner.Directions.{IsOfZero, IsOfSome, IsDirectionOf}
+use Rattle.ae_bounds.specs.Inner.Directions.{IsOfSome, IsDirectionOf}
 
 -- each factor is 0, and the constant
 pub record IsNothing (f : Form ℕ) : Type 0 where

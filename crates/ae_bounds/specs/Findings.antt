@@ -1,5 +1,5 @@
 -- What kept rows come to: the rows that can't hold, the combinations that are 0, and the sums of rows assumed or rounded that both are.
-use Rattle.std.specs.Prelude.{ℕ, false, Option, Some, None, List, [], ◌∷◌, ◌≡◌, take, slice_get}
+use Rattle.std.specs.Prelude.{ℕ, ◌<◌, ◌≤◌, false, Option, Some, None, List, [], ◌∷◌, ◌≡◌, length, take, slice_get}
 use Rattle.std.specs.List.{Contains}
 use Rattle.ae_num.specs.Forms.{meaning}
 use Rattle.ae_ineq.specs.declared.solving.Inequality.{Inequality}
@@ -42,3 +42,11 @@ pub record IsTightAt (rows : List Row) (k : ℕ) : Type 0 where
 
 abbrev pub NoneIsRefuted : List Row → Type 0
 NoneIsRefuted rows = (r : Row) → Contains rows r → ¬ IsRefuted r.strict (meaning r.lin)
+
+-- a row can't hold
+abbrev pub HasRefuted : List Row → Type 0
+HasRefuted rows = (r : Row) × Contains rows r × IsRefuted r.strict (meaning r.lin)
+
+-- no row was added behind one that can't hold
+abbrev pub StopsAtRefuted : List Row → List Row → Type 0
+StopsAtRefuted rows new = (k : ℕ) → length rows ≤ k → k < length new → NoneIsRefuted (take k new)

@@ -1,6 +1,6 @@
 //! The rows that were assumed, and the combinations that were noted.
 
-ghost use Rattle.std.specs.Prelude.{ℕ, ◌≡◌, ◌<◌, ◌≤◌, ◌+◌, ◌^◌, true, false, List, ◌&&◌, ◌||◌, ◌++◌, ◌∷◌, [], length, slice_get, nat_eq, Some, OnOk, OnErr, IfOk, IfSome, IfNone, Err};
+ghost use Rattle.std.specs.Prelude.{ℕ, ◌≡◌, ◌⊎◌, ◌<◌, ◌≤◌, ◌+◌, ◌^◌, true, false, List, ◌&&◌, ◌||◌, ◌++◌, ◌∷◌, [], length, slice_get, nat_eq, Some, OnOk, OnErr, IfOk, IfSome, IfNone, Ok, Err};
 ghost use Rattle.std.specs.List.{AllByRecursion};
 ghost use Rattle.ae_num.specs.Forms.{IsNormal, meaning};
 ghost use Rattle.ae_journal.specs.Journals.{counted_in};
@@ -14,14 +14,14 @@ ghost use Rattle.ae_bounds.specs.declared.rows.Row.{Row};
 ghost use Rattle.ae_bounds.specs.Rounding.{IsAssumed, AreRounded, AreSettled};
 ghost use Rattle.ae_bounds.specs.declared.finding.Found.TheVariants.{Open, Tight, Contradiction};
 ghost use Rattle.ae_ineq.specs.Sums.{HasTightSum, HasRefutedSum};
-ghost use Rattle.ae_bounds.specs.Findings.{given_in, AreFounded, IsRefutedAt, IsTightAt, NoneIsRefuted};
+ghost use Rattle.ae_bounds.specs.Findings.{given_in, AreFounded, IsRefutedAt, IsTightAt, NoneIsRefuted, HasRefuted, StopsAtRefuted};
 ghost use Rattle.ae_bounds.specs.Combinations.{IsHeld, IsCombined, IsExtended, AreClosed, HasZero, IsWideIn};
 ghost use Rattle.ae_bounds.specs.Inner.Directions.{AreIndexed, IsDirectionOf, is_same};
-ghost use Rattle.ae_bounds.specs.Inner.Pairs.{IsMadeOf, IsPairThere, ArePaired, IsKept};
+ghost use Rattle.ae_bounds.specs.Inner.Pairs.{IsMadeOf, IsPairThere, ArePaired, IsKept, IsOneMore};
 
 use crate::combining::{combined, opposed_at};
 use crate::directions::{Direction, direction_of, earlier_direction, is_zero};
-use crate::finding::{Found, found_in};
+use crate::finding::{Found, ends_refuted, found_in, has_refuted};
 use crate::heads::{enter, head_of, last_at, place_before};
 use crate::noting::{add, add_assumed, has_direction, note};
 use crate::rounding::row_of;
@@ -91,6 +91,7 @@ fn keep_zero(
     ensures held { OnOk result (IsHeld rows.new (meaning row.lin)) }
     ensures indexed { AreIndexed rows.new directions.new.keys }
     ensures extended { (js : List Line) → IsExtended rows.old js rows.new js }
+    ensures one { IsOneMore rows.old rows.new }
     ensures steps { result ≡ Err Steps → ⊥ }
     ensures number { (wide : WideAt) → result ≡ Err (Number wide) → ⊥ }
 {
@@ -115,6 +116,7 @@ fn note_new(
     ensures held { OnOk result (IsHeld rows.new (meaning row.lin)) }
     ensures indexed { AreIndexed rows.new directions.new.keys }
     ensures extended { IsExtended rows.old journal.old.lines rows.new journal.new.lines }
+    ensures one { IsOneMore rows.old rows.new }
     ensures limit { journal.new.limit ≡ journal.old.limit }
     ensures steps { result ≡ Err Steps → counted_in journal.new.lines ≡ journal.new.limit }
     ensures number { (wide : WideAt) → result ≡ Err (Number wide) → ⊥ }
@@ -141,6 +143,7 @@ fn combine_rows(
     ensures done { OnOk result (IsPairThere rows.old lower upper rows.new) }
     ensures indexed { AreIndexed rows.new directions.new.keys }
     ensures extended { IsExtended rows.old journal.old.lines rows.new journal.new.lines }
+    ensures one { IsOneMore rows.old rows.new }
     ensures limit { journal.new.limit ≡ journal.old.limit }
     ensures steps { result ≡ Err Steps → counted_in journal.new.lines ≡ journal.new.limit }
     ensures number { (wide : WideAt) → result ≡ Err (Number wide) → IsWideIn rows.new wide }
@@ -151,7 +154,65 @@ fn combine_rows(
     }
 }
 
-/// Notes and adds the combinations of a row with those before it that have the same largest name, of which `head` is the last.
+/// Notes and adds the combination of two rows in the same way. Whether it can't hold.
+fn combine_and_look(
+    alloc: Global,
+    rows: &mut Items<Row>,
+    directions: &mut IndexSet<Direction>,
+    journal: &mut Journal,
+    lower: usize,
+    upper: usize,
+) -> Result<bool, Fail>
+    requires indexed { AreIndexed rows.old directions.old.keys }
+    requires lower { lower < length rows.old }
+    requires upper { upper < length rows.old }
+    requires possible { NoneIsRefuted rows.old }
+    ensures done { result ≡ Ok false → IsPairThere rows.old lower upper rows.new }
+    ensures refuted { result ≡ Ok true → HasRefuted rows.new }
+    ensures possible { result ≡ Ok false → NoneIsRefuted rows.new }
+    ensures stops { StopsAtRefuted rows.old rows.new }
+    ensures indexed { AreIndexed rows.new directions.new.keys }
+    ensures extended { IsExtended rows.old journal.old.lines rows.new journal.new.lines }
+    ensures limit { journal.new.limit ≡ journal.old.limit }
+    ensures steps { result ≡ Err Steps → counted_in journal.new.lines ≡ journal.new.limit }
+    ensures number { (wide : WideAt) → result ≡ Err (Number wide) → IsWideIn rows.new wide }
+{
+    combine_rows(alloc, rows, directions, journal, lower, upper)?;
+    Ok(ends_refuted(rows))
+}
+
+/// Notes and adds the combinations of two rows, the second one unless the first can't hold. Whether one of them can't.
+fn combine_pair(
+    alloc: Global,
+    rows: &mut Items<Row>,
+    directions: &mut IndexSet<Direction>,
+    journal: &mut Journal,
+    place: usize,
+    other: usize,
+) -> Result<bool, Fail>
+    requires indexed { AreIndexed rows.old directions.old.keys }
+    requires place { place < length rows.old }
+    requires other { other < length rows.old }
+    requires possible { NoneIsRefuted rows.old }
+    ensures done { result ≡ Ok false → IsPairThere rows.old place other rows.new × IsPairThere rows.old other place rows.new }
+    ensures refuted { result ≡ Ok true → HasRefuted rows.new }
+    ensures possible { result ≡ Ok false → NoneIsRefuted rows.new }
+    ensures stops { StopsAtRefuted rows.old rows.new }
+    ensures indexed { AreIndexed rows.new directions.new.keys }
+    ensures extended { IsExtended rows.old journal.old.lines rows.new journal.new.lines }
+    ensures limit { journal.new.limit ≡ journal.old.limit }
+    ensures steps { result ≡ Err Steps → counted_in journal.new.lines ≡ journal.new.limit }
+    ensures number { (wide : WideAt) → result ≡ Err (Number wide) → IsWideIn rows.new wide }
+{
+    let refuted = combine_and_look(alloc, rows, directions, journal, place, other)?;
+    if refuted {
+        return Ok(true);
+    }
+    combine_and_look(alloc, rows, directions, journal, other, place)
+}
+
+/// Notes and adds the combinations of a row with those before it that have the same largest name, of which `head` is the last, until one can't hold. Whether
+/// one can't.
 fn combine_earlier(
     alloc: Global,
     rows: &mut Items<Row>,
@@ -160,13 +221,17 @@ fn combine_earlier(
     journal: &mut Journal,
     place: usize,
     head: Option<usize>,
-) -> Result<(), Fail>
+) -> Result<bool, Fail>
     requires indexed { AreIndexed rows.old directions.old.keys }
     requires place { place < length rows.old }
     requires within { length earlier.now ≡ place }
     requires before { AreBefore rows.old earlier.now }
     requires head { IsHeadAt rows.old place head }
-    ensures paired { OnOk result (ArePaired rows.old place place rows.new) }
+    requires possible { NoneIsRefuted rows.old }
+    ensures paired { result ≡ Ok false → ArePaired rows.old place place rows.new }
+    ensures refuted { result ≡ Ok true → HasRefuted rows.new }
+    ensures possible { result ≡ Ok false → NoneIsRefuted rows.new }
+    ensures stops { StopsAtRefuted rows.old rows.new }
     ensures indexed { AreIndexed rows.new directions.new.keys }
     ensures extended { IsExtended rows.old journal.old.lines rows.new journal.new.lines }
     ensures limit { journal.new.limit ≡ journal.old.limit }
@@ -175,11 +240,13 @@ fn combine_earlier(
 {
     let mut at = head;
     'partners: while let Some(other) = at {
-        combine_rows(alloc, rows, directions, journal, place, other)?;
-        combine_rows(alloc, rows, directions, journal, other, place)?;
+        let refuted = combine_pair(alloc, rows, directions, journal, place, other)?;
+        if refuted {
+            return Ok(true);
+        }
         at = place_before(earlier, other);
     }
-    Ok(())
+    Ok(false)
 }
 
 /// Whether all rows are before a place.
@@ -197,7 +264,7 @@ fn count_rows(rows: &Items<Row>)
     let _count = rows.len();
 }
 
-/// Notes and adds the combinations of each row with those before it, until all rows have them.
+/// Notes and adds the combinations of each row with those before it, until all rows have them, or one can't hold.
 fn close_rows(
     alloc: Global,
     rows: &mut Items<Row>,
@@ -207,20 +274,27 @@ fn close_rows(
     journal: &mut Journal,
 ) -> Result<(), Fail>
     requires kept { IsKept rows.old directions.old.keys (get nat_eq latest.old) earlier.old }
-    ensures closed { OnOk result (AreClosed rows.new) }
+    ensures closed { OnOk result (AreClosed rows.new ⊎ HasRefuted rows.new) }
+    ensures stops { StopsAtRefuted rows.old rows.new }
     ensures kept { IsKept rows.new directions.new.keys (get nat_eq latest.new) earlier.new }
     ensures extended { IsExtended rows.old journal.old.lines rows.new journal.new.lines }
     ensures limit { journal.new.limit ≡ journal.old.limit }
     ensures steps { result ≡ Err Steps → counted_in journal.new.lines ≡ journal.new.limit }
     ensures number { (wide : WideAt) → result ≡ Err (Number wide) → IsWideIn rows.new wide }
 {
+    if has_refuted(rows) {
+        return Ok(());
+    }
     for place in earlier.len()..usize::MAX {
         if is_past(rows, place) {
             return Ok(());
         }
         let part = last_at(rows, place);
         let head = head_of(latest, part);
-        combine_earlier(alloc, rows, directions, earlier, journal, place, head)?;
+        let refuted = combine_earlier(alloc, rows, directions, earlier, journal, place, head)?;
+        if refuted {
+            return Ok(());
+        }
         enter(latest, earlier, part, head)?;
     }
     count_rows(rows);
@@ -308,13 +382,16 @@ impl Bounds {
         )
     }
 
-    /// Notes and adds the combinations of two rows on the largest name of both that are no positive multiples of a row, until there are none. One that is 0
-    /// is added without a line where a row is 0 already.
+    /// Notes and adds the combinations of two rows on the largest name of both that are no positive multiples of a row, until there are none, or a row can't
+    /// hold. One that is 0 is added without a line where a row is 0 already.
+    ///
+    /// It can be called again after more rows were assumed: it goes on where it stopped.
     ///
     /// `Steps` comes only where the journal is full, and `Number` only where a stated product or sum of the combination of two rows leaves the limits.
     /// After either of them the rows that were there still are, and the combinations that were noted till then.
     pub fn close(&mut self, alloc: Global, journal: &mut Journal) -> Result<(), Fail>
-        ensures closed { OnOk result (AreClosed self.new) }
+        ensures closed { OnOk result (AreClosed self.new ⊎ HasRefuted self.new) }
+        ensures stops { StopsAtRefuted self.old self.new }
         ensures extended { IsExtended self.old journal.old.lines self.new journal.new.lines }
         ensures limit { journal.new.limit ≡ journal.old.limit }
         ensures steps { result ≡ Err Steps → counted_in journal.new.lines ≡ journal.new.limit }

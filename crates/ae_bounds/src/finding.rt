@@ -1,16 +1,18 @@
 //! What kept rows come to.
 
-ghost use Rattle.std.specs.Prelude.{ℕ, ◌≡◌, ◌<ℤ◌, ◌⊎◌, [], pos, true, false, IfSome, IfNone};
+ghost use Rattle.std.specs.Prelude.{ℕ, List, ◌≡◌, ◌<ℤ◌, ◌⊎◌, ◌++◌, ◌∷◌, [], pos, true, false, IfSome, IfNone};
 ghost use Rattle.std.specs.List.{AllByRecursion};
-ghost use Rattle.ae_num.specs.Forms.{IsNormal};
+ghost use Rattle.ae_num.specs.Forms.{IsNormal, meaning};
 ghost use Rattle.ae_bounds.specs.Combinations.{HasZero};
-ghost use Rattle.ae_bounds.specs.Findings.{given_in, AreFounded, IsRefutedAt, IsTightAt, NoneIsRefuted};
-ghost use Rattle.ae_ineq.specs.Sums.{HasTightSum, HasRefutedSum};
+ghost use Rattle.ae_bounds.specs.Findings.{given_in, AreFounded, IsRefutedAt, IsTightAt, NoneIsRefuted, HasRefuted};
+ghost use Rattle.ae_ineq.specs.Sums.{IsRefuted, HasTightSum, HasRefutedSum};
 ghost use Rattle.ae_bounds.specs.declared.finding.Found.TheVariants.{Open, Tight, Contradiction};
+ghost use Rattle.ae_bounds.specs.declared.rows.Row.{Row as RowValue};
 ghost use Rattle.ae_bounds.specs.declared.rows.Origin.TheVariants.{Combined};
 
 use crate::directions::is_zero;
 use crate::rows::{Origin, Row};
+use sqlite_items::Items;
 
 /// What kept rows come to.
 #[derive(Clone, Copy, Debug, PartialEq, Eq)]
@@ -58,6 +60,31 @@ fn first_refuted(rows: &[Row]) -> Option<usize>
         }
     }
     None
+}
+
+/// Whether a row can't be.
+pub fn has_refuted(rows: &Items<Row>) -> bool
+    requires normal { AllByRecursion (λ row. IsNormal row.lin) rows.now }
+    requires founded { AreFounded rows.now }
+    ensures yes { result ≡ true → HasRefuted rows.now }
+    ensures no { result ≡ false → NoneIsRefuted rows.now }
+{
+    match first_refuted(rows.as_slice()) {
+        Some(_) => true,
+        None => false,
+    }
+}
+
+/// Whether the last row can't be.
+pub fn ends_refuted(rows: &Items<Row>) -> bool
+    requires normal { AllByRecursion (λ row. IsNormal row.lin) rows.now }
+    ensures yes { result ≡ true → HasRefuted rows.now }
+    ensures no { result ≡ false → (front : List RowValue) (row : RowValue) → rows.now ≡ front ++ row ∷ [] → IsRefuted row.strict (meaning row.lin) → ⊥ }
+{
+    match rows.as_slice().last() {
+        Some(row) => is_refuted(row),
+        None => false,
+    }
 }
 
 /// The first combination that is 0, where no row can't be.

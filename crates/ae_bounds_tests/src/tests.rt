@@ -205,6 +205,45 @@ fn there_and_back_strictly_is_a_contradiction(rt: HostRuntime) -> Result<(), Fai
     Ok(())
 }
 
+/// `x0 < x1` and `x1 < x0`, and behind them `x1 <= x2` and `x2 <= x0 + 3`: no combination is noted behind the contradiction.
+#[test]
+fn a_contradiction_ends_it(rt: HostRuntime) -> Result<(), Fail> {
+    let rows = [
+        at_most(0, 1, 0, true),
+        at_most(1, 0, 0, true),
+        at_most(1, 2, 0, false),
+        at_most(2, 0, 3, false),
+    ];
+    let expected = Outcome::Came {
+        found: Found::Contradiction(4),
+        rows: 5,
+        lines: 1,
+        last: 0,
+    };
+    assert!(rt; what_comes(rt.alloc(), &rows, 10)? == expected);
+    assert!(rt; what_comes_again(rt.alloc(), &rows, 10)? == expected);
+    assert!(rt; what_comes(rt.alloc(), &rows, 1)? == expected);
+    Ok(())
+}
+
+/// `x0 < x1`, `x1 < x0`, and `-1 > 0`: no combination is noted.
+#[test]
+fn an_assumed_contradiction_comes_first(rt: HostRuntime) -> Result<(), Fail> {
+    let rows = [
+        at_most(0, 1, 0, true),
+        at_most(1, 0, 0, true),
+        above(0, 0, -1, false),
+    ];
+    let expected = Outcome::Came {
+        found: Found::Contradiction(2),
+        rows: 3,
+        lines: 0,
+        last: -1,
+    };
+    assert!(rt; what_comes(rt.alloc(), &rows, 10)? == expected);
+    Ok(())
+}
+
 /// `x <= y` and `y <= x`.
 #[test]
 fn there_and_back_is_tight(rt: HostRuntime) -> Result<(), Fail> {

@@ -1,5 +1,5 @@
 -- Pairs of rows at places, and the last parts of their forms.
-use Rattle.std.specs.Prelude.{ℕ, ◌<◌, ◌≤◌, length, pos, ◌<ℤ◌, ◌≡◌, List, Option, Some, slice_get}
+use Rattle.std.specs.Prelude.{ℕ, ◌<◌, ◌≤◌, length, pos, ◌<ℤ◌, ◌≡◌, ◌⊎◌, List, [], ◌∷◌, ◌++◌, Option, Some, slice_get}
 use Rattle.ae_num.specs.declared.forms.Lin.{Lin}
 use Rattle.ae_num.specs.Forms.{first_wide, combine_steps}
 use Rattle.ae_journal.specs.declared.answers.NumStep.TheVariants.{Combine}
@@ -54,3 +54,7 @@ pub record IsKept (rows : List Row) (ds : List Direction) (latest : ℕ → Opti
   pub settled : AreSettled rows
   pub heads : AreHeads rows latest earlier
   pub pairs : AreClosedBelow (length earlier) rows
+
+-- the same rows, or one more
+abbrev pub IsOneMore : List Row → List Row → Type 0
+IsOneMore rows new = (new ≡ rows) ⊎ ((r : Row) × (new ≡ rows ++ r ∷ []))

@@ -1,6 +1,4 @@
-use Rattle.std.specs.Prelude.{List, ◌≡◌, Err}
-use Rattle.std.proofs.Common.{refl, ap, inl}
-use Rattle.ae_theory.specs.declared.theory.Fail.TheVariants.{Number}
+use Rattle.std.proofs.Common.{refl, inl}
 use Rattle.ae_bound_rest.proofs.Agreed.{agreed_kept}
 use Rattle.ae_bound_solve.proofs.licensed.solve_licensed.Goals as goal
 

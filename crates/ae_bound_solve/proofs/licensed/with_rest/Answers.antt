@@ -1,7 +1,6 @@
 use Rattle.std.specs.Prelude.{List, ◌≡◌}
 use Rattle.std.proofs.Common.{refl, subst, sym, inl, inr}
 use Rattle.ae_journal.specs.Licences.{IsLicensed}
-use Rattle.ae_journal.specs.declared.answers.WideAt.{WideAt}
 use Rattle.ae_bounds.specs.declared.rows.Row.{Row}
 use Rattle.ae_bounds.specs.Rounding.{AreRounded}
 use Rattle.ae_bound_rest.specs.Rest.{AreNoted, AreAllNoted, AreWide}

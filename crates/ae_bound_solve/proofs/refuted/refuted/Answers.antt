@@ -1,4 +1,3 @@
-use Rattle.std.specs.Prelude.{ℕ, ◌≡◌, Some, slice_get}
 use Rattle.std.proofs.lemmas.Option.{slice_get_within}
 use Rattle.ae_journal.proofs.Splits.{contains_at}
 use Rattle.ae_store.specs.Shapes.{shapes}

@@ -1,4 +1,4 @@
-use Rattle.std.specs.Prelude.{List, Err, ◌≡◌}
+use Rattle.std.specs.Prelude.{List, Err, ◌≡◌, ◌⊎◌}
 use Rattle.std.proofs.Common.{sym, ap, subst, inl, inr}
 use Rattle.std.proofs.lemmas.Result.{err_from_is_err_and}
 use Rattle.ae_store.specs.Shapes.{shapes}
@@ -6,6 +6,7 @@ use Rattle.ae_store.specs.Terms.{terms}
 use Rattle.ae_bounds.specs.declared.rows.Row.{Row}
 use Rattle.ae_bounds.specs.Rounding.{AreRounded}
 use Rattle.ae_bounds.specs.Combinations.{AreClosed}
+use Rattle.ae_bounds.specs.Findings.{HasRefuted}
 use Rattle.ae_theory.specs.declared.theory.Fail.TheVariants.{Number}
 use Rattle.ae_ineq.specs.Widths.{IsPointWide}
 use Rattle.ae_bound_points.specs.Points.{IsNonzeroRow}
@@ -16,7 +17,7 @@ use Rattle.ae_bound_solve.proofs.Extended.{given_on, names_on}
 use Rattle.ae_bound_solve.proofs.solving.solve.Goals as goal
 
 pub answer_of-requires-clause-closed : goal.answer_of-requires-clause-closed
-answer_of-requires-clause-closed c = subst (λ (rs : List Row). AreClosed rs) (sym c.rows.ensures.rows) c.in_ok-close.ensures.closed
+answer_of-requires-clause-closed c = subst (λ (rs : List Row). AreClosed rs ⊎ HasRefuted rs) (sym c.rows.ensures.rows) c.in_ok-close.ensures.closed
 
 pub answer_of-requires-clause-were_rounded : goal.answer_of-requires-clause-were_rounded
 answer_of-requires-clause-were_rounded c = subst (λ (rs : List Row). AreRounded rs) (sym c.rows.ensures.rows) c.rows.ensures.rounded

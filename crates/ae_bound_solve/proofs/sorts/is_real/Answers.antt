@@ -1,7 +1,6 @@
-use Rattle.std.specs.Prelude.{ℕ, ◌<◌, ◌≡◌, Option, Some, None, length, slice_get}
-use Rattle.std.proofs.Common.{arith, sym, ap, ◌∙◌, subst}
+use Rattle.std.proofs.Common.{arith, ◌∙◌, subst}
 use Rattle.ae_base.proofs.ListFacts.{value_at}
-use Rattle.ae_bound_blocks.specs.Ancestors.{IsAncestor, itself, parent}
+use Rattle.ae_bound_blocks.specs.Ancestors.{itself, parent}
 use Rattle.ae_bound_solve.specs.Inner.Sorts.{IsFirstParent}
 use Rattle.ae_bound_solve.proofs.OneSort.{first_before, last_assumed}
 use Rattle.ae_bound_solve.proofs.sorts.is_real.Goals as goal

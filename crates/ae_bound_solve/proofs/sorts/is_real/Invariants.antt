@@ -1,4 +1,4 @@
-use Rattle.std.specs.Prelude.{ℕ, ◌<◌, ◌≡◌, Some, length, slice_get}
+use Rattle.std.specs.Prelude.{◌<◌, ◌≡◌, Some, length, slice_get}
 use Rattle.ae_bounds.specs.declared.rows.Row.{Row}
 use Rattle.ae_bound_blocks.specs.Ancestors.{IsAncestor}
 use Rattle.ae_bound_solve.specs.Inner.Sorts.{IsFirstParent}

@@ -1,4 +1,4 @@
-use Rattle.std.specs.Prelude.{ℕ, ◌≡◌, List, [], ◌<◌}
+use Rattle.std.specs.Prelude.{◌≡◌, List, []}
 use Rattle.std.specs.List.{Contains}
 use Rattle.std.proofs.Common.{arith, subst}
 use Rattle.ae_bounds.specs.declared.rows.Row.{Row}

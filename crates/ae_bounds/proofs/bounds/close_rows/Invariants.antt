@@ -2,6 +2,7 @@ use Rattle.std.specs.Prelude.{nat_eq, length}
 use Rattle.std.proofs.Common.{◌≡◌}
 use Rattle.indexmap.specs.IndexMap.{get}
 use Rattle.ae_bounds.specs.Combinations.{IsExtended}
+use Rattle.ae_bounds.specs.Findings.{NoneIsRefuted, StopsAtRefuted}
 use Rattle.ae_bounds.specs.Inner.Pairs.{IsKept}
 use Rattle.ae_bounds.proofs.bounds.close_rows.Given as goal
 
@@ -11,4 +12,6 @@ invariant-loop-place l = record {
   closed : length l.earlier ≡ l.place;
   extended : IsExtended l.fn.rows l.fn.journal.lines l.rows l.journal.lines;
   limit : l.journal.limit ≡ l.fn.journal.limit;
+  possible : NoneIsRefuted l.rows;
+  stops : StopsAtRefuted l.fn.rows l.rows;
 }

@@ -1,5 +1,5 @@
 use Rattle.std.specs.Prelude.{List, Option, IfSome}
-use Rattle.std.proofs.Common.{subst}
+use Rattle.std.proofs.Common.{subst, refl, inl}
 use Rattle.ae_bounds.specs.declared.rows.Row.{Row}
 use Rattle.ae_bounds.specs.Combinations.IsExtended.{as_it_was}
 use Rattle.ae_bounds.specs.Inner.Pairs.{IsMadeOf}
@@ -11,6 +11,15 @@ returns-in_err-row-clause-extended c = as_it_was
 
 pub returns-in-None-clause-extended : goal.returns-in-None-clause-extended
 returns-in-None-clause-extended c = as_it_was
+
+pub returns-in_err-row-clause-one : goal.returns-in_err-row-clause-one
+returns-in_err-row-clause-one c = inl refl
+
+pub returns-in-None-clause-one : goal.returns-in-None-clause-one
+returns-in-None-clause-one c = inl refl
+
+pub returns-in-Some-clause-one : goal.returns-in-Some-clause-one
+returns-in-Some-clause-one c = c.note_new.ensures.one
 
 pub returns-in-Some-clause-done : goal.returns-in-Some-clause-done
 returns-in-Some-clause-done c =

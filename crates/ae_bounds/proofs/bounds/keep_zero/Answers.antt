@@ -1,4 +1,4 @@
-use Rattle.std.proofs.Common.{◌≡◌, ◌∙◌, refl, sym, subst}
+use Rattle.std.proofs.Common.{refl, sym, subst, inl, inr}
 use Rattle.std.specs.Prelude.{List}
 use Rattle.ae_bounds.specs.declared.rows.Row.{Row}
 use Rattle.ae_bounds.specs.Combinations.{IsExtended}
@@ -19,6 +19,15 @@ returns-then-not-is_zero-clause-held c =
 
 pub returns-then-not-is_zero-clause-extended : goal.returns-then-not-is_zero-clause-extended
 returns-then-not-is_zero-clause-extended c = λ js. as_it_was
+
+pub returns-then-not-is_zero-clause-one : goal.returns-then-not-is_zero-clause-one
+returns-then-not-is_zero-clause-one c = inl refl
+
+pub returns-in_err-add-clause-one : goal.returns-in_err-add-clause-one
+returns-in_err-add-clause-one c = inl c.in_err-add.ensures.kept.0
+
+pub returns-clause-one : goal.returns-clause-one
+returns-clause-one c = inr (c.args.row, c.in_ok-add.ensures.added)
 
 pub returns-in_err-add-clause-extended : goal.returns-in_err-add-clause-extended
 returns-in_err-add-clause-extended c = λ js. subst (λ (rs : List Row). IsExtended c.args.rows.now js rs js) (sym c.in_err-add.ensures.kept.0) as_it_was

@@ -1,4 +1,4 @@
-use Rattle.std.specs.Prelude.{ℕ, ◌≡◌, ◌≤◌, length, take, fold}
+use Rattle.std.specs.Prelude.{◌≡◌, ◌≤◌, length, take, fold}
 use Rattle.std.specs.List.{flat_map}
 use Rattle.ae_bounds.specs.Inner.Directions.{part_written}
 use Rattle.ae_bounds.proofs.directions.hash_parts.Given as goal

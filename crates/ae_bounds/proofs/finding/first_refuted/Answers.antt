@@ -1,4 +1,4 @@
-use Rattle.std.proofs.Common.{arith, ◌≡◌}
+use Rattle.std.proofs.Common.{arith}
 use Rattle.ae_bounds.proofs.Sums.{refuted_at}
 use Rattle.ae_bounds.proofs.Found.{Refuted, none_at_first, none_so_far, none_at_all, refuted_here, not_refuted}
 use Rattle.ae_bounds.proofs.finding.first_refuted.Goals as goal

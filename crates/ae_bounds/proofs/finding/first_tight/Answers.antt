@@ -1,4 +1,4 @@
-use Rattle.std.proofs.Common.{arith, ◌≡◌}
+use Rattle.std.proofs.Common.{arith}
 use Rattle.ae_bounds.proofs.Sums.{tight_at}
 use Rattle.ae_bounds.proofs.Found.{Tight, none_at_first, none_so_far, none_is_zero, tight_here, not_tight}
 use Rattle.ae_bounds.proofs.finding.first_tight.Goals as goal

@@ -1,4 +1,3 @@
-use Rattle.std.specs.Prelude.{◌≡◌}
 use Rattle.std.proofs.Common.{sym, ◌∙◌}
 use Rattle.ae_base.proofs.Tests.{true_false}
 use Rattle.ae_bounds.proofs.OwnForms.{combined_counts}
