@@ -9,6 +9,7 @@ use Rattle.ae_between_rounds.specs.Fine.{AreFine, AreOrderless, IsFineFormula}
 use Rattle.ae_between_rounds.specs.Held.{HaveChoices, HaveConstants, HaveInstances}
 use Rattle.ae_between_rounds.specs.declared.search.Search.{Search}
 use Rattle.ae_block_constants.specs.declared.opened.Opened.{Opened}
+use Rattle.ae_block_counts.specs.Counts.{blocks_of, quantifiers_left}
 use Rattle.ae_brought_clauses.specs.Brought.{AreBrought}
 use Rattle.ae_core.specs.Signatures.{IsLawful}
 use Rattle.ae_core.specs.declared.formulas.Formula.{out-Formula}
@@ -20,6 +21,7 @@ use Rattle.ae_core.specs.declared.proofs.ClauseLine.TheVariants.{Exh}
 use Rattle.ae_core.specs.declared.terms.Term.{Term, Apply}
 use Rattle.ae_data.proofs.ExhaustionLaws.{line_states}
 use Rattle.ae_entered_names.proofs.Chosen.{its_heads}
+use Rattle.ae_entered_names.proofs.Counted.{equation_blocks, same_quantifiers}
 use Rattle.ae_entered_names.specs.Inner.Choosing.{latest}
 use Rattle.ae_goal_names.specs.Named.{HasNamed, clause_terms}
 use Rattle.ae_journal.proofs.Splits.{all_contained, contains_one}
@@ -69,6 +71,15 @@ module _ (p : Problem) (g bound : ℕ) (o : Search) (u : Term) (c : Clause) (hol
 
   pub clause_sorted : clause_ok p.signature c ≡ true
   clause_sorted = stated_sorted p g (Exh u) c concludes
+
+  no_blocks : (m : Lit) → Contains c m → blocks_of m.formula ≡ []
+  no_blocks m i =
+      let w = its_heads p.signature u c e in
+      let h = of_head (choice u) w.1 m (subst (λ (x : Clause). Contains x m) (sym w.4) i) in
+      subst (λ (x : Lit). blocks_of x.formula ≡ []) h.2 (equation_blocks u (Apply h.0 [] []))
+
+  pub quantifiers : (cs : List Clause) → cs ≡ clauses ++ c ∷ [] → (ds : List Opened) → quantifiers_left ds cs ≤ quantifiers_left ds clauses
+  quantifiers cs d ds = let s = ap (quantifiers_left ds) d ∙ same_quantifiers clauses c no_blocks ds in omega (arith, s)
 
   below : IsTermBelow next u
   below = all_contained (IsTermBelow next) (terms_in o.store) u holds.constants.names there

@@ -1,4 +1,5 @@
 pub mod Stepping
 pub mod Indexed
 pub mod Chosen
+pub mod Counted
 pub mod Coming

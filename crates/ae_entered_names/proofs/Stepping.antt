@@ -36,6 +36,7 @@ module _ (p : Problem) (g bound : ℕ) where
     extends = record { signature = refl; keeps = λ i t e. e };
     lines = omega arith;
     kept = λ c i. i;
+    quantifiers = λ ds. omega arith;
   }
 
   pub goes_then : (a b c : Search) → GoesOn p g bound a b → GoesOn p g bound b c → GoesOn p g bound a c
@@ -45,6 +46,7 @@ module _ (p : Problem) (g bound : ℕ) where
     extends = record { signature = y.extends.signature ∙ x.extends.signature; keeps = λ i t e. y.extends.keeps i t (x.extends.keeps i t e) };
     lines = (let k = x.lines in let m = y.lines in omega (arith, k, m));
     kept = λ d i. y.kept d (x.kept d i);
+    quantifiers = λ ds. (let k = x.quantifiers ds in let m = y.quantifiers ds in omega (arith, k, m));
   }
 
 -- a name more was looked at

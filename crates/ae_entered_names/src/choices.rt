@@ -1,5 +1,5 @@
 //! The clauses of names of enumerations.
-ghost use Rattle.std.specs.Prelude.{◌<◌, ◌≡◌, ◌++◌, ◌∷◌, [], ℕ, List, length, slice_get, true, Some, IsTrue, OnOk};
+ghost use Rattle.std.specs.Prelude.{◌<◌, ◌≡◌, ◌++◌, ◌∷◌, [], ℕ, List, length, slice_get, true, Some, None, IsTrue, OnOk};
 ghost use Rattle.std.specs.List.{Contains};
 ghost use Rattle.ae_between_rounds.specs.Between.{Holds, IsSearchingBelow};
 ghost use Rattle.ae_block_constants.specs.declared.opened.Opened.{Opened};
@@ -7,7 +7,7 @@ ghost use Rattle.ae_between_rounds.specs.Rewriting.{IsMarkOf};
 ghost use Rattle.ae_core.specs.declared.problems.Problem.{Problem as ProblemOf};
 ghost use Rattle.ae_core.specs.declared.proofs.ClauseLine.TheVariants.{Exh};
 ghost use Rattle.ae_core.specs.declared.terms.Sort.{out-Sort};
-ghost use Rattle.ae_entered_names.specs.Inner.Choosing.{AreNamedLast, GoesOn, IsChosen, IsChosenAt, IsOneAlone, IsSameBeside};
+ghost use Rattle.ae_entered_names.specs.Inner.Choosing.{AreNamedLast, GoesOn, HaveStayed, IsChosen, IsChosenAt, IsOneAlone, IsSameBeside};
 ghost use Rattle.ae_journal.specs.declared.lines.Line.{Line as LineOf};
 ghost use Rattle.ae_rules.specs.Derivations.{clause_ok};
 ghost use Rattle.ae_rules.specs.Instances as instances;
@@ -178,6 +178,8 @@ pub(crate) fn add_choice(task: Task<'_>, search: &mut Search, name: usize) -> Re
     requires within { name < length search.old.store.nodes }
     ensures goes_on { OnOk result (GoesOn task.entry.problem.now task.entry.goal task.entry.generations search.old search.new) }
     ensures chosen { OnOk result (IsChosenAt task.entry.problem.now.signature (terms_in search.new.store) name search.new.solver.propagation.clauses) }
+    // Nothing comes in where its sort is no enumeration.
+    ensures plain { ((x : NodeOf) → slice_get search.old.store.nodes name ≡ Some x → instances.choices_of task.entry.problem.now.signature (out-Sort x.sort) ≡ None) → OnOk result (HaveStayed search.old search.new) }
     ensures looked { search.new.looked ≡ search.old.looked }
     ensures beside { IsSameBeside search.old search.new }
 {

@@ -1,5 +1,5 @@
 -- What noting a line comes to, whether it was there or not.
-use Rattle.std.specs.Prelude.{ℕ, suc, ◌<◌, ◌≡◌, true, false, Result, Err, List, [], ◌∷◌, ◌++◌, length, Some}
+use Rattle.std.specs.Prelude.{ℕ, suc, ◌+◌, ◌<◌, ◌≡◌, Bool, true, false, if◌then◌else◌, Result, Err, List, [], ◌∷◌, ◌++◌, length, Some}
 use Rattle.std.specs.List.{Contains}
 use Rattle.std.specs.declared.alloc.AllocError.{AllocError}
 use Rattle.std.proofs.Common.{refl, sym, ap, ◌∙◌, subst, arith, inl, inr, append-nil, length-append, true≢false}
@@ -18,6 +18,7 @@ use Rattle.ae_core.specs.declared.proofs.ClauseLine.{ClauseLine}
 use Rattle.ae_core.specs.declared.terms.Term.{Term}
 use Rattle.ae_goal_names.specs.Named.{clause_terms}
 use Rattle.ae_instance_lines.specs.declared.lines.InstanceLine.{InstanceLine}
+use Rattle.ae_journal.proofs.Counting.{counted-append}
 use Rattle.ae_journal.specs.InstanceLines.{MayInstantiate}
 use Rattle.ae_journal.specs.Journals.{IsBack, counted_in, is_counted}
 use Rattle.ae_journal.specs.Legal.{IsLegalLine}
@@ -82,6 +83,9 @@ counted_instance (line.Drop o) h = absurd h
 counted_instance (line.Pair u a b) h = absurd h
 counted_instance (line.Combine b f) h = absurd h
 counted_instance (line.Back n) h = absurd h
+
+one_counted : (j : Line) → IsInstanceLine j → counted_in (j ∷ []) ≡ 1
+one_counted j h = ap (λ (b : Bool). (if b then 1 else 0) + 0) (counted_instance j h)
 
 pub never_refused : {A : Type 0} (journal : Noted) (j : Line) (r : Result A JournalFail) (e : JournalFail) → IsInstanceLine j → counted_in journal.lines < journal.limit
     → (r ≡ Err fail.Full → (is_counted j ≡ true) × (counted_in journal.lines ≡ journal.limit)) → ((f : AllocError) → r ≡ Err (fail.Memory f) → is_counted j ≡ false) → r ≡ Err e → ⊥
@@ -222,7 +226,8 @@ module _ (p : Problem) (g bound level : ℕ) (o : Search) (s : IsSearchingBelow 
         plain = (instance_is_none l.own (stated_instance l.own l.statement r.stated_by), tt);
       };
       came = some w.news (omega (arith, ap (λ (z : Noted). length z.lines) w.journal, length-append o.journal.lines (l.own ∷ [])))
-          (let e : length o2.lines.items ≡ length (o.lines.items ++ l.statement ∷ []) = ap (λ (z : List ClauseLine). length z) w.lines in omega (arith, e, length-append o.lines.items (l.statement ∷ [])));
+          (let e : length o2.lines.items ≡ length (o.lines.items ++ l.statement ∷ []) = ap (λ (z : List ClauseLine). length z) w.lines in omega (arith, e, length-append o.lines.items (l.statement ∷ [])))
+          (omega (arith, ap (λ (z : Noted). counted_in z.lines) w.journal, counted-append o.journal.lines (l.own ∷ []), one_counted l.own (stated_instance l.own l.statement r.stated_by)));
       noted = inr (ap (λ (z : Noted). z.lines) w.journal);
       brought = w.brought;
       looked = w.looked;

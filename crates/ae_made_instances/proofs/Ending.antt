@@ -13,6 +13,8 @@ use Rattle.ae_between_rounds.specs.Rewriting.{Mark}
 use Rattle.ae_core.specs.declared.problems.Problem.{Problem}
 use Rattle.ae_core.specs.declared.proofs.ClauseLine.{ClauseLine}
 use Rattle.ae_core.specs.declared.terms.Term.{Term}
+use Rattle.ae_journal.proofs.Counting.{counted_push}
+use Rattle.ae_journal.specs.Journals.{counted_in}
 use Rattle.ae_journal.specs.Noted.{Noted}
 use Rattle.ae_journal.specs.declared.lines.Line.{Line}
 use Rattle.ae_journal.specs.declared.lines.Line.TheVariants as line
@@ -53,13 +55,13 @@ module _ (p : Problem) (g bound level : ℕ) (o o2 : Search) (y : GoesOn o o2) (
 -- no line came, so nothing did
 pub came_nothing : (o o2 : Search) → length o2.lines.items ≡ length o.lines.items → Came o o2 → (o2.solver ≡ o.solver) × (o2.journal ≡ o.journal) × (o2.lines ≡ o.lines) × (o2.lines.items ≡ o.lines.items) × (terms_in o2.store ≡ terms_in o.store)
 came_nothing o o2 e (nothing s j l i t) = (s, j, l, i, t)
-came_nothing o o2 e (some news later more) = absurd (omega (arith, e, more))
+came_nothing o o2 e (some news later more counted) = absurd (omega (arith, e, more))
 
 -- a line came
 pub came_some : (o o2 : Search) → ¬ (length o2.lines.items ≡ length o.lines.items) → Came o o2
-    → HasNews o2.journal.lines × (length o.lines.items < length o2.lines.items) × (length o.journal.lines < length o2.journal.lines)
+    → HasNews o2.journal.lines × (length o.lines.items < length o2.lines.items) × (length o.journal.lines < length o2.journal.lines) × (counted_in o.journal.lines < counted_in o2.journal.lines)
 came_some o o2 n (nothing s j l i t) = absurd (n (ap (λ (z : List ClauseLine). length z) i))
-came_some o o2 n (some news later more) = (news, more, later)
+came_some o o2 n (some news later more counted) = (news, more, later, counted)
 
 module _ (p : Problem) (g bound level : ℕ) (o o2 : Search) (b : IsBetweenRounds p g bound o) (y : GoesOn o o2) (m : IsInBatch p g bound level o2) (e : length o2.lines.items ≡ length o.lines.items) (c : Came o o2) where
   pub between_still : IsBetweenRounds p g bound o2
@@ -110,3 +112,8 @@ noted_batch o o2 journal n y later back =
       none_more o.journal.lines o2.journal.lines journal.lines (record { added = y.added; is = y.is; none = y.plain }) b,
       omega (arith, later, ap (λ (w : List Line). length w) b.is, length-append o2.journal.lines b.added),
     )
+
+-- a `Back` line isn't counted
+pub counted_batch : (old now new : Noted) (n : ℕ) → counted_in old.lines < counted_in now.lines → (new ≡ now) ⊎ (new ≡ record now { lines = now.lines ++ line.Back n ∷ [] }) → counted_in old.lines < counted_in new.lines
+counted_batch old now new n lt (inl e) = omega (arith, lt, ap (λ (z : Noted). counted_in z.lines) e)
+counted_batch old now new n lt (inr e) = omega (arith, lt, ap (λ (z : Noted). counted_in z.lines) e, counted_push now.lines (line.Back n))

@@ -20,7 +20,7 @@ use Rattle.ae_explain.specs.declared.trail.Assigned.{Assigned}
 use Rattle.ae_goal_names.proofs.Joining.{as_many}
 use Rattle.ae_journal.proofs.Splits.{contains_at}
 use Rattle.ae_journal.specs.InstanceLines.{HasGeneration, IsMatchAt}
-use Rattle.ae_journal.specs.Journals.{IsBack}
+use Rattle.ae_journal.specs.Journals.{IsBack, counted_in}
 use Rattle.ae_journal.specs.Noted.{Noted}
 use Rattle.ae_journal.specs.Standing.{Setting}
 use Rattle.ae_journal.specs.States.{Owner}
@@ -79,11 +79,13 @@ goes_join a b c x y = record {
 
 pub came_join : (a b c : Search) → Came a b → Came b c → Came a c
 came_join a b c (nothing s j l i t) (nothing s2 j2 l2 i2 t2) = nothing (s2 ∙ s) (j2 ∙ j) (l2 ∙ l) (i2 ∙ i) (t2 ∙ t)
-came_join a b c (nothing s j l i t) (some news later more) =
+came_join a b c (nothing s j l i t) (some news later more counted) =
     some news (omega (arith, ap (λ (z : Noted). length z.lines) j, later)) (let e : length b.lines.items ≡ length a.lines.items = ap length i in omega (arith, e, more))
-came_join a b c (some news later more) (nothing s j l i t) =
+    (omega (arith, ap (λ (z : Noted). counted_in z.lines) j, counted))
+came_join a b c (some news later more counted) (nothing s j l i t) =
     some (subst (λ (z : Noted). HasNews z.lines) (sym j) news) (omega (arith, ap (λ (z : Noted). length z.lines) j, later)) (let e : length c.lines.items ≡ length b.lines.items = ap length i in omega (arith, e, more))
-came_join a b c (some news later more) (some news2 later2 more2) = some news2 (omega (arith, later, later2)) (omega (arith, more, more2))
+    (omega (arith, ap (λ (z : Noted). counted_in z.lines) j, counted))
+came_join a b c (some news later more counted) (some news2 later2 more2 counted2) = some news2 (omega (arith, later, later2)) (omega (arith, more, more2)) (omega (arith, counted, counted2))
 
 pub said_of : (opened : List Opened) (n : ℕ) (old : Stored) (es : List Aged) (new : Stored) (fs : List Aged) (ls : List Lit) → AreBrought opened n old es new fs ls → AreSaid opened n old es new fs ls
 said_of opened n old es new fs ls b = record { had = b.had; stay = b.stay; bodies = b.bodies; justified = b.justified }

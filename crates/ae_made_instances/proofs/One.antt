@@ -10,6 +10,7 @@ use Rattle.ae_between_rounds.specs.declared.search.Search.{Search}
 use Rattle.ae_core.specs.declared.problems.Problem.{Problem}
 use Rattle.ae_goal_names.proofs.Joining.{as_many}
 use Rattle.ae_inst.specs.declared.instances.Taken.{Taken}
+use Rattle.ae_journal.specs.Journals.{counted_in}
 use Rattle.ae_journal.specs.Noted.{Noted}
 use Rattle.ae_journal.specs.States.{Owner, of_axiom, of_literal}
 use Rattle.ae_made_instances.proofs.Besides.{beside_of, holds_of}
@@ -52,14 +53,14 @@ module _ (p : Problem) (g : ℕ) (o : Search) (i : Instantiated) where
 
   pub came_other : (o2 : Search) → Came (record o { instances = i }) o2 → Came o o2
   came_other o2 (nothing s j l e t) = nothing s j l e t
-  came_other o2 (some news later more) = some news later more
+  came_other o2 (some news later more counted) = some news later more counted
 
   pub goes_to_other : (first : Search) → GoesOn first o → GoesOn first (record o { instances = i })
   goes_to_other first y = record { extends = y.extends; trail = y.trail; theory = y.theory; blocks = y.blocks; owners = y.owners; limit = y.limit; added = y.added; is = y.is; forth = y.forth; plain = y.plain }
 
   pub came_to_other : (first : Search) → Came first o → Came first (record o { instances = i })
   came_to_other first (nothing s j l e t) = nothing s j l e t
-  came_to_other first (some news later more) = some news later more
+  came_to_other first (some news later more counted) = some news later more counted
 
   pub batch_other : (bound level : ℕ) → i.made ≡ o.instances.made → i.taken.taken ≡ o.instances.taken.taken → IsInBatch p g bound level o → IsInBatch p g bound level (record o { instances = i })
   batch_other bound level em et b = record {
@@ -93,8 +94,9 @@ module _ (p : Problem) (g bound n : ℕ) (lt : n < bound) (o : Search) (i : Inst
 pub came_entered : (first o o2 : Search) → o.looked ≡ length first.store.nodes → o.looked < length o.store.nodes → o2.journal ≡ o.journal → length o.lines.items ≤ length o2.lines.items → Came first o → Came first o2
 came_entered first o o2 looked less ej more (nothing s j l e t) =
     absurd (let a = as_many o.store in let b = as_many first.store in let c = ap length t in omega (arith, looked, less, a, b, c))
-came_entered first o o2 looked less ej more (some news later lt) =
+came_entered first o o2 looked less ej more (some news later lt counted) =
     some (subst (λ (z : Noted). HasNews z.lines) (sym ej) news) (omega (arith, ap (λ (z : Noted). length z.lines) ej, later)) (omega (arith, more, lt))
+    (omega (arith, ap (λ (z : Noted). counted_in z.lines) ej, counted))
 
 pub goes_entered : (o o2 : Search) → Extends o.store o2.store → o2.solver.propagation.trail ≡ o.solver.propagation.trail → o2.solver.theory ≡ o.solver.theory → o2.journal ≡ o.journal → o2.blocks ≡ o.blocks → o2.owners ≡ o.owners
     → GoesOn o o2

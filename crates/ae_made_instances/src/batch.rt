@@ -77,6 +77,8 @@ pub fn make_owed(task: Task<'_>, search: &mut Search, found: OwedAt) -> Result<b
     ensures made { OnOk result (length search.old.instances.made < length search.new.instances.made) }
     // Lines of instances were noted, and perhaps one that goes back.
     ensures noted { result ≡ Ok true → NotesNoCombination search.old.journal.lines search.new.journal.lines × (length search.old.journal.lines < length search.new.journal.lines) }
+    // Lines of instances are counted.
+    ensures counted { result ≡ Ok true → counted_in search.old.journal.lines < counted_in search.new.journal.lines }
     ensures stopped { result ≡ Err OutOfSteps → IsStopped task.entry.problem.now task.entry.goal task.entry.generations search.new }
     ensures steps { result ≡ Err OutOfSteps → counted_in search.new.journal.lines ≡ search.new.journal.limit }
     ensures never_wide { (wide : WideAt) → ¬ (result ≡ Err (Number wide)) }

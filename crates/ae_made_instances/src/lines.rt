@@ -66,7 +66,7 @@ fn is_of_terms(line: &Line, formula: &Formula, terms: &[Term]) -> bool
         Line::TermInstance {
             formula: other,
             terms: others,
-        } => same_formula(other, formula) && same_terms(others.as_slice(), terms),
+        } => same_terms(others.as_slice(), terms) && same_formula(other, formula),
         _ => false,
     }
 }

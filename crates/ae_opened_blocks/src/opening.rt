@@ -2,6 +2,7 @@
 ghost use Rattle.std.specs.Prelude.{◌<◌, ◌≡◌, true, false, length, Ok, IfOk, OnOk};
 ghost use Rattle.ae_between_rounds.specs.Between.{IsBetweenRounds};
 ghost use Rattle.ae_between_rounds.specs.Passing.{Passes};
+ghost use Rattle.ae_block_counts.specs.Counts.{quantifiers_left};
 ghost use Rattle.ae_explain.specs.Trail as trails;
 ghost use Rattle.ae_opening.specs.Asking.{AllServed, IsNextUnopened};
 
@@ -32,6 +33,7 @@ fn open_place(task: Task<'_>, search: &mut Search, place: usize) -> Result<(), A
     ensures lines { OnOk result (length search.old.lines.items < length search.new.lines.items) }
     ensures journal { search.new.journal ≡ search.old.journal }
     ensures passes { OnOk result (Passes search.old search.new) }
+    ensures falls { OnOk result (quantifiers_left search.new.blocks.opened search.new.solver.propagation.clauses < quantifiers_left search.old.blocks.opened search.old.solver.propagation.clauses) }
 {
     let formula = formula_at(task.alloc, search.solver.trail(), place)?;
     add_block(
@@ -60,10 +62,11 @@ pub fn open_blocks(task: Task<'_>, search: &mut Search) -> Result<bool, AllocErr
     ensures journal { search.new.journal ≡ search.old.journal }
     // The trail stays, and the names and the blocks only grow.
     ensures passes { OnOk result (Passes search.old search.new) }
+    // Fewer quantifiers are left to open, where one was opened.
+    ensures falls { result ≡ Ok true → quantifiers_left search.new.blocks.opened search.new.solver.propagation.clauses < quantifiers_left search.old.blocks.opened search.old.solver.propagation.clauses }
 {
     let mut some = false;
     'openings: loop {
-        let _count = search.lines.len();
         match next_unopened(search.solver.trail(), search.blocks.opened.as_slice()) {
             None => return Ok(some),
             Some(place) => {

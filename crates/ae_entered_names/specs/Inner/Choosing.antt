@@ -1,19 +1,23 @@
 -- Names that enter: of enumerations, and what a search keeps meanwhile.
-use Rattle.std.specs.Prelude.{ℕ, ◌≤◌, List, [], ◌≡◌, ◌⊎◌, length, slice_get, Some}
+use Rattle.std.specs.Prelude.{ℕ, ◌≤◌, List, [], ◌≡◌, ◌⊎◌, length, slice_get, Some, None}
 use Rattle.std.specs.List.{Contains}
 use Rattle.ae_ages.specs.declared.entries.Aged.{Aged}
 use Rattle.ae_between_rounds.specs.Between.{Holds, IsSearchingBelow}
 use Rattle.ae_between_rounds.specs.declared.search.Search.{Search}
+use Rattle.ae_block_constants.specs.declared.opened.Opened.{Opened}
+use Rattle.ae_block_counts.specs.Counts.{quantifiers_left}
 use Rattle.ae_brought_clauses.specs.Brought.{AreBrought}
 use Rattle.ae_core.specs.declared.problems.Problem.{Problem}
 use Rattle.ae_core.specs.declared.problems.Signature.{Signature}
 use Rattle.ae_core.specs.declared.terms.Head.{Head}
+use Rattle.ae_core.specs.declared.terms.Sort.{out-Sort}
 use Rattle.ae_core.specs.declared.terms.Term.{Term, Apply}
 use Rattle.ae_open_states.specs.Choices.{IsChoiceOf}
 use Rattle.ae_rules.specs.Clauses.{Clause}
-use Rattle.ae_rules.specs.Instances.{exhaustion}
+use Rattle.ae_rules.specs.Instances.{choices_of, exhaustion}
 use Rattle.ae_sat.specs.Standing.{IsOneOf}
 use Rattle.ae_store.specs.Stores.{Stored}
+use Rattle.ae_store.specs.declared.nodes.Node.{Node}
 use Rattle.ae_theory.specs.Names.{Extends}
 
 -- the greatest generation: nothing of it is matched
@@ -53,3 +57,12 @@ pub record GoesOn (p : Problem) (g bound : ℕ) (old new : Search) : Type 0 wher
   pub extends : Extends old.store new.store
   pub lines : length old.lines.items ≤ length new.lines.items
   pub kept : (c : Clause) → IsOneOf old.solver.propagation.clauses c → IsOneOf new.solver.propagation.clauses c
+  pub quantifiers : (opened : List Opened) → quantifiers_left opened new.solver.propagation.clauses ≤ quantifiers_left opened old.solver.propagation.clauses
+
+-- no name from this one on is of an enumeration
+abbrev pub ArePlainFrom : Signature → Stored → ℕ → Type 0
+ArePlainFrom sig s name = (n : ℕ) (x : Node) → name ≤ n → slice_get s.nodes n ≡ Some x → choices_of sig (out-Sort x.sort) ≡ None
+
+-- no clause and no name came in
+abbrev pub HaveStayed : Search → Search → Type 0
+HaveStayed old new = (new.solver.propagation.clauses ≡ old.solver.propagation.clauses) × (new.store ≡ old.store)

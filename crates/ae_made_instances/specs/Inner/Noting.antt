@@ -8,6 +8,7 @@ use Rattle.ae_core.specs.declared.formulas.Lit.{Lit}
 use Rattle.ae_core.specs.declared.problems.Problem.{Problem}
 use Rattle.ae_instance_lines.specs.declared.lines.InstanceLine.{InstanceLine}
 use Rattle.ae_journal.specs.InstanceLines.{MayInstantiate}
+use Rattle.ae_journal.specs.Journals.{counted_in}
 use Rattle.ae_journal.specs.Laws.{NoBack}
 use Rattle.ae_journal.specs.Standing.{Setting}
 use Rattle.ae_journal.specs.declared.lines.Line.{Line}
@@ -74,10 +75,10 @@ pub record GoesOn (o o2 : Search) : Type 0 where
   pub forth : NoBack added
   pub plain : AllByRecursion (λ j. ¬ IsCombination j) added
 
--- nothing was noted and no name came, or a line of an instance was noted
+-- nothing was noted and no name came, or a line of an instance was noted, which is counted
 pub data Came (o o2 : Search) : Type 0 where
   nothing : o2.solver ≡ o.solver → o2.journal ≡ o.journal → o2.lines ≡ o.lines → o2.lines.items ≡ o.lines.items → terms_in o2.store ≡ terms_in o.store → Came o o2
-  some : HasNews o2.journal.lines → length o.journal.lines < length o2.journal.lines → length o.lines.items < length o2.lines.items → Came o o2
+  some : HasNews o2.journal.lines → length o.journal.lines < length o2.journal.lines → length o.lines.items < length o2.lines.items → counted_in o.journal.lines < counted_in o2.journal.lines → Came o o2
 
 -- what noting a line at n comes to, whether it was there or not
 pub record IsNoted (p : Problem) (g n : ℕ) (l : InstanceLine) (o o2 : Search) : Type 0 where

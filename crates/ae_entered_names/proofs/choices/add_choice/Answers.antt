@@ -1,5 +1,6 @@
-use Rattle.std.proofs.Common.{Some, sym, ap, subst, ◌∙◌}
+use Rattle.std.proofs.Common.{Some, refl, sym, ap, subst, ◌∙◌}
 use Rattle.std.proofs.lemmas.Option.{same_Some}
+use Rattle.ae_base.proofs.Options.{never_some}
 use Rattle.ae_core.specs.declared.problems.Signature.{Signature}
 use Rattle.ae_core.specs.declared.terms.Sort.{out-Sort}
 use Rattle.ae_entered_names.proofs.Chosen.{none_chosen}
@@ -25,3 +26,9 @@ returns-in-None-clause-beside v c = same_itself c.args.search.now
 pub add_for-requires-clause-heads : goal.add_for-requires-clause-heads
 add_for-requires-clause-heads v c x at =
     ap (λ (z : Node). choices_of c.args.task.problem.now.signature (out-Sort z.sort)) (same_Some x c.node-node.result.now (sym at ∙ c.node-node.ensures.node)) ∙ sym c.in_ok-choices_of.ensures ∙ c.in-Some.is ∙ ap Some (sym c.as_slice.ensures)
+
+pub returns-in-None-clause-plain : goal.returns-in-None-clause-plain
+returns-in-None-clause-plain v c h = (refl, refl)
+
+pub returns-in-Some-clause-plain : goal.returns-in-Some-clause-plain
+returns-in-Some-clause-plain v c h = never_some c.in-Some.heads (sym (h c.node-node.result.now c.node-node.ensures.node) ∙ (sym c.in_ok-choices_of.ensures ∙ c.in-Some.is))

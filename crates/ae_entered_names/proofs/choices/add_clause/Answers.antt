@@ -2,7 +2,7 @@ use Rattle.std.proofs.Common.{List, [], ◌∷◌, ◌++◌, ◌≡◌, length, 
 use Rattle.ae_between_rounds.proofs.Growing.{firsts_grow}
 use Rattle.ae_brought_clauses.specs.Brought.{AreBrought}
 use Rattle.ae_core.specs.declared.proofs.ClauseLine.TheVariants.{Exh}
-use Rattle.ae_entered_names.proofs.Coming.{choices, clause_sorted, comes, constants, extends, fine, grows, heads, instances, orderless}
+use Rattle.ae_entered_names.proofs.Coming.{choices, clause_sorted, comes, constants, extends, fine, grows, heads, instances, orderless, quantifiers}
 use Rattle.ae_entered_names.specs.Inner.Choosing.{latest}
 use Rattle.ae_rules.specs.Clauses.{Clause}
 use Rattle.ae_rules.specs.Derivations.{clause_ok}
@@ -60,6 +60,7 @@ returns v c =
         extends = extends p g n o u d hold sig there e t es b;
         lines = (let l = ap length lines in let m = length-append o.lines.items (Exh u ∷ []) in omega (arith, l, m));
         kept = kept;
+        quantifiers = quantifiers p g n o u d hold sig there e c.add_choice_line.new.solver.propagation.clauses clauses;
       };
       added = subst (λ (ks : List Clause). IsOneOf ks d) (sym clauses) (new_one o.solver.propagation.clauses d);
       looked = refl;

@@ -48,7 +48,9 @@ returns v c =
         extends = a.extends;
         lines = a.lines;
         kept = a.kept;
+        quantifiers = a.quantifiers;
       };
+      plain = c.in_ok-add_choice.ensures.plain;
       looked = refl;
       beside = record { trail = b.trail; theory = b.theory; journal = b.journal; blocks = b.blocks; ages = b.ages; owners = b.owners; instances = b.instances };
     }

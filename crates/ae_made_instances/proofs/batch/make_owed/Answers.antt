@@ -5,7 +5,7 @@ use Rattle.ae_between_rounds.specs.Owed.{IsOwedAt}
 use Rattle.ae_between_rounds.specs.declared.search.Owed.{Owed}
 use Rattle.ae_between_rounds.specs.Rewriting.{IsMarkOf}
 use Rattle.ae_inst.specs.Matches.{is_match}
-use Rattle.ae_made_instances.proofs.Ending.{between_still, came_nothing, came_some, holds_returned, limit_returned, noted_batch, open_still, stopped_returned}
+use Rattle.ae_made_instances.proofs.Ending.{between_still, came_nothing, came_some, counted_batch, holds_returned, limit_returned, noted_batch, open_still, stopped_returned}
 use Rattle.ae_made_instances.proofs.Joining.{owed_due}
 use Rattle.ae_made_instances.proofs.batch.make_owed.Goals as goal
 use Rattle.ae_made_instances.specs.Inner.Making.{IsDueOwed}
@@ -103,3 +103,9 @@ returns-clause-noted g c q =
     let e = c.in_ok-level.ensures in
     let news = came_some c.args.search.now o2 (λ same. c.if-len-before.false (c.len.ensures ∙ c.make_all.new.search.lines.ok.0 ∙ same ∙ sym c.args.search.now.lines.ok.0 ∙ sym c.len-before.ensures)) e.came in
     noted_batch c.args.search.now o2 c.return_to.new.journal c.in_ok-level.level e.goes_on news.2 c.return_to.ensures.noted_or
+
+pub returns-clause-counted : goal.returns-clause-counted
+returns-clause-counted g c q =
+    let o2 = c.make_all.new.search in
+    let news = came_some c.args.search.now o2 (λ same. c.if-len-before.false (c.len.ensures ∙ c.make_all.new.search.lines.ok.0 ∙ same ∙ sym c.args.search.now.lines.ok.0 ∙ sym c.len-before.ensures)) c.in_ok-level.ensures.came in
+    counted_batch c.args.search.now.journal o2.journal c.return_to.new.journal c.in_ok-level.level news.3 c.return_to.ensures.noted_or

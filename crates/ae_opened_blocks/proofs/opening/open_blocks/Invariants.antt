@@ -1,6 +1,7 @@
-use Rattle.std.proofs.Common.{◌≡◌, ◌<◌, ◌-◌, ◌^◌, true, false, length}
+use Rattle.std.proofs.Common.{◌≡◌, ◌<◌, true, false, length}
 use Rattle.ae_between_rounds.specs.Between.{IsBetweenRounds}
 use Rattle.ae_between_rounds.specs.Passing.{Passes}
+use Rattle.ae_block_counts.specs.Counts.{quantifiers_left}
 use Rattle.ae_opened_blocks.proofs.opening.open_blocks.Given as goal
 
 abbrev pub invariant-openings : goal.invariant-openings
@@ -10,8 +11,9 @@ invariant-openings v l = record {
   lines : l.some ≡ true → length l.fn.search.lines.items < length l.search.lines.items;
   journal : l.search.journal ≡ l.fn.search.journal;
   passes : Passes l.fn.search l.search;
+  falls : l.some ≡ true → quantifiers_left l.search.blocks.opened l.search.solver.propagation.clauses < quantifiers_left l.fn.search.blocks.opened l.fn.search.solver.propagation.clauses;
 }
 
--- there is room for so many more lines
+-- the quantifiers that are left to open
 abbrev pub decreases-openings : goal.decreases-openings
-decreases-openings v l = 2 ^ 64 - length l.search.lines.items
+decreases-openings v l = quantifiers_left l.search.blocks.opened l.search.solver.propagation.clauses

@@ -4,13 +4,15 @@ use Rattle.std.specs.List.{Contains}
 use Rattle.ae_between_rounds.specs.Between.{IsSearchingBelow}
 use Rattle.ae_between_rounds.specs.Passing.Passes.{rests}
 use Rattle.ae_block_constants.specs.declared.opened.Opened.{Opened}
+use Rattle.ae_block_counts.specs.Counts.{quantifiers_left}
 use Rattle.ae_explain.specs.Trail.{at}
 use Rattle.ae_explain.specs.declared.trail.Assigned.{Assigned}
 use Rattle.ae_opened_blocks.proofs.Holding.{holds_still}
-use Rattle.ae_opened_blocks.proofs.Placing.{block, can_be_opened, its_clause, unopened}
+use Rattle.ae_opened_blocks.proofs.Placing.{among_blocks, block, can_be_opened, its_clause, unopened}
 use Rattle.ae_opened_blocks.proofs.Steps.{goes_on, sorted, there}
 use Rattle.ae_journal.specs.Noted.{Noted}
 use Rattle.ae_opened_blocks.proofs.opening.open_place.Goals as goal
+use Rattle.ae_opening.proofs.Opened.{fewer}
 use Rattle.ae_opening.specs.declared.opening.OpenedBlocks.{OpenedBlocks}
 use Rattle.ae_propagation.specs.Settled.{last_level}
 use Rattle.ae_sat.proofs.Resting.{lengthens_none}
@@ -90,3 +92,24 @@ returns-clause-passes v c =
     rests (ap (λ (n : Noted). n.lines) e.journal) (lengthens_none o.solver.propagation.trail last.solver.propagation.trail (e.trail ∙ added.trail))
     (record { signature = e.extends.signature ∙ w.brought.named.signature; keeps = λ i t h. e.extends.keeps i t (w.brought.named.keeps i t h) })
     (λ d i. subst (λ (z : OpenedBlocks). Contains z.opened d) (sym e.blocks) (subst (λ (ds : List Opened). Contains ds d) (sym w.opens.more) (Contains-append_left o.blocks.opened _ d i)))
+
+pub returns-clause-falls : goal.returns-clause-falls
+returns-clause-falls v c =
+    let p = c.args.task.problem.now in
+    let g = c.args.task.goal in
+    let bound = c.args.task.generations in
+    let o = c.args.search.now in
+    let b = c.requires.between in
+    let f = c.get.result.now in
+    let is : f ≡ (at o.solver.propagation.trail c.args.place).lit.formula = c.get.ensures ∙ c.in_ok-formula.ensures ∙ ap (λ (t : List Assigned). (at t c.args.place).lit.formula) c.trail.ensures in
+    let blocks = c.add_block.new.blocks in
+    let w = c.in_ok-add_block.ensures.comes in
+    let last = c.enter_names.new.search in
+    let e = c.in_ok-enter_names.ensures in
+    let less =
+    fewer f o.blocks.next blocks.next o.blocks.opened blocks.opened w.line w.clause w.opens o.solver.propagation.clauses (among_blocks p g bound o b c.args.place c.requires.next f is)
+    (unopened p g bound o b c.args.place c.requires.next f is) in
+    let with_clause = ap (quantifiers_left blocks.opened) w.clauses in
+    let no_more = e.quantifiers blocks.opened in
+    let same = ap (λ (z : OpenedBlocks). quantifiers_left z.opened last.solver.propagation.clauses) e.blocks in
+    omega (arith, less, with_clause, no_more, same)
