@@ -1,13 +1,14 @@
 -- A search goes on with the clause of the order of two numbers.
-use Rattle.std.specs.Prelude.{ℕ, ◌≤◌, ◌≡◌, true, take, List, [], ◌∷◌, ◌++◌, Some}
+use Rattle.std.specs.Prelude.{ℕ, ◌≤◌, ◌≡◌, true, take, List, [], ◌∷◌, ◌++◌, length, slice_get, Some, None}
 use Rattle.std.specs.List.{AllByRecursion, Contains}
-use Rattle.std.proofs.Common.{refl, sym, ap, ◌∙◌, subst, arith, append-nil}
+use Rattle.std.proofs.Common.{sym, subst, arith, append-nil}
 use Rattle.ae_added_orders.proofs.Concluding.{fine_line, fine_order, order_concludes}
+use Rattle.ae_added_orders.proofs.Over.{new_numbers}
 use Rattle.ae_added_orders.specs.Inner.Added.{latest}
 use Rattle.ae_added_orders.specs.Ordering.{MayBeOrdered}
 use Rattle.ae_ages.specs.declared.entries.Aged.{Aged}
 use Rattle.ae_between_rounds.proofs.Growing.{choices_grow, clause_terms_lowest, constants_more, constants_names, fine_more, fine_names, instances_names}
-use Rattle.ae_between_rounds.specs.Between.{Holds, IsSearchingBelow}
+use Rattle.ae_between_rounds.specs.Between.{Holds}
 use Rattle.ae_between_rounds.specs.Fine.{AreFine, AreOrderless}
 use Rattle.ae_between_rounds.specs.Held.{HaveChoices, HaveConstants, HaveInstances}
 use Rattle.ae_between_rounds.specs.declared.search.Search.{Search}
@@ -17,6 +18,7 @@ use Rattle.ae_core.specs.declared.formulas.Lit.{Lit}
 use Rattle.ae_core.specs.declared.problems.Problem.{Problem}
 use Rattle.ae_core.specs.declared.proofs.ClauseLine.{ClauseLine}
 use Rattle.ae_core.specs.declared.proofs.ClauseLine.TheVariants.{Tri}
+use Rattle.ae_core.specs.declared.terms.Sort.{out-Sort}
 use Rattle.ae_core.specs.declared.terms.Term.{Term}
 use Rattle.ae_goal_names.specs.Named.{HasNamed, clause_terms}
 use Rattle.ae_journal.proofs.Splits.{all_contained, contains_one}
@@ -37,12 +39,13 @@ use Rattle.ae_orderless.specs.Orderless.{IsOrderlessGoal}
 use Rattle.ae_rules.proofs.SortedLines.{stated_sorted}
 use Rattle.ae_rules.specs.Clauses.{Clause}
 use Rattle.ae_rules.specs.Derivations.{clause_ok, conclusion}
-use Rattle.ae_rules.specs.Instances.{trichotomy}
+use Rattle.ae_rules.specs.Instances.{choices_of, trichotomy}
 use Rattle.ae_sat.proofs.Learnt.{still_one}
 use Rattle.ae_searching.proofs.Settings.{for_setting, told_before}
 use Rattle.ae_searching.specs.Steps.{Grows, MayCome}
 use Rattle.ae_searching.specs.Told.{IsToldIn}
 use Rattle.ae_store.specs.Stores.{Stored, IsStore}
+use Rattle.ae_store.specs.declared.nodes.Node.{Node}
 use Rattle.ae_theory.specs.Names.{Extends, terms_in}
 use Rattle.ae_writable.specs.Numbers.{HasLowestNumerals}
 
@@ -103,6 +106,10 @@ module _ (p : Problem) (g bound : ℕ) (o : Search) (u w : Term) (c : Clause) (h
 
     pub heads : IsStore t.signature t.nodes → HasHeads (take o.looked t.nodes) o.known
     heads st = heads_stay o.looked o.store t o.known holds.store st b.named.signature b.named.keeps holds.choices.within holds.heads
+
+    -- the names that are new are of no enumeration
+    pub numbers : IsStore t.signature t.nodes → o.looked ≡ length o.store.nodes → (n : ℕ) (x : Node) → o.looked ≤ n → slice_get t.nodes n ≡ Some x → choices_of p.signature (out-Sort x.sort) ≡ None
+    numbers st looked n x l at = new_numbers p.signature o.store t c u w e same may.over b.named st n x (subst (λ (k : ℕ). k ≤ n) looked l) at
 
     module _ (low : HasLowestNumerals p) where
       pub fine : (ls : List ClauseLine) (cs : List Clause) → ls ≡ o.lines.items ++ Tri u w ∷ [] → cs ≡ clauses ++ c ∷ [] → AreFine t ls cs

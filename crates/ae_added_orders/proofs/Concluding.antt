@@ -1,5 +1,5 @@
 -- The line of the order of two numbers states its clause.
-use Rattle.std.specs.Prelude.{ℕ, Bool, true, false, not, ◌&&◌, List, [], ◌∷◌, ◌++◌, ◌≡◌, ◌⊎◌, Option, Some, None}
+use Rattle.std.specs.Prelude.{ℕ, Bool, true, not, ◌&&◌, [], ◌∷◌, ◌≡◌, Option, Some, None}
 use Rattle.std.specs.List.{Contains}
 use Rattle.std.proofs.Common.{refl, sym, ap, ◌∙◌, subst, inl, inr}
 use Rattle.ae_base.proofs.AllOf.{all_append}
@@ -17,7 +17,7 @@ use Rattle.ae_core.specs.declared.proofs.ClauseLine.TheVariants.{Tri}
 use Rattle.ae_core.specs.declared.terms.Sort.{Sort}
 use Rattle.ae_core.specs.declared.terms.Term.{Term}
 use Rattle.ae_journal.proofs.Splits.{contains_cases, contains_one}
-use Rattle.ae_legal_texts.specs.Numbers.{Number, term_numbers}
+use Rattle.ae_legal_texts.specs.Numbers.{term_numbers}
 use Rattle.ae_legal_texts.specs.Writable.{is_negation}
 use Rattle.ae_numerals_kept.proofs.Lowest.{order_lowest}
 use Rattle.ae_numerals_kept.specs.Lowest.{IsLowestTerm}

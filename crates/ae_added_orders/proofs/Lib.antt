@@ -1,2 +1,3 @@
 mod Concluding
+pub mod Over
 mod Coming

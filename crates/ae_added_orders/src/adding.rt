@@ -1,5 +1,5 @@
 //! The clause of the order of two numbers.
-ghost use Rattle.std.specs.Prelude.{◌<◌, ◌≡◌, ◌++◌, ◌∷◌, [], ℕ, List, length, true, Some, IfOk, OnOk};
+ghost use Rattle.std.specs.Prelude.{◌<◌, ◌≤◌, ◌≡◌, ◌++◌, ◌∷◌, [], ℕ, List, length, slice_get, true, Some, None, IfOk, OnOk};
 ghost use Rattle.ae_added_orders.specs.Inner.Added.{Adds, AreNamedLast};
 ghost use Rattle.ae_added_orders.specs.Ordering.{MayBeOrdered};
 ghost use Rattle.ae_between_rounds.specs.Between.{IsBetweenRounds};
@@ -8,6 +8,7 @@ ghost use Rattle.ae_block_constants.specs.declared.opened.Opened.{Opened};
 ghost use Rattle.ae_between_rounds.specs.Rewriting.{IsMarkOf};
 ghost use Rattle.ae_core.specs.declared.problems.Problem.{Problem as ProblemOf};
 ghost use Rattle.ae_core.specs.declared.proofs.ClauseLine.TheVariants.{Tri};
+ghost use Rattle.ae_core.specs.declared.terms.Sort.{out-Sort};
 ghost use Rattle.ae_journal.specs.declared.lines.Line.{Line as LineOf};
 ghost use Rattle.ae_rules.specs.Clauses.{Clause as ClauseOf};
 ghost use Rattle.ae_rules.specs.Derivations.{clause_ok};
@@ -19,6 +20,7 @@ ghost use Rattle.ae_state.specs.Fitting.{FitsStore};
 ghost use Rattle.ae_state.specs.Names.{assumed_in};
 ghost use Rattle.ae_state.specs.Stepping.{IsInStep};
 ghost use Rattle.ae_store.specs.Stores.{Stored};
+ghost use Rattle.ae_store.specs.declared.nodes.Node.{Node as NodeOf};
 
 use ae_between_rounds::search::{Search, State, Task};
 use ae_brought_clauses::bring_clause;
@@ -86,6 +88,10 @@ fn add_clause(
     requires clause { instances.trichotomy task.problem.now.signature left.now right.now ≡ Some clause }
     ensures adds { OnOk result (Adds task.entry.problem.now task.entry.goal task.entry.generations search.old search.new) }
     ensures added { OnOk result (IsOneOf search.new.solver.propagation.clauses clause) }
+    ensures clauses { OnOk result (search.new.solver.propagation.clauses ≡ search.old.solver.propagation.clauses ++ clause ∷ []) }
+    // The names that are new are of no enumeration.
+    ensures plain { OnOk result ((n : ℕ) (x : NodeOf) → search.new.looked ≤ n → slice_get search.new.store.nodes n ≡ Some x →
+        instances.choices_of task.entry.problem.now.signature (out-Sort x.sort) ≡ None) }
     ensures trail { search.new.solver.propagation.trail ≡ search.old.solver.propagation.trail }
     ensures theory { search.new.solver.theory ≡ search.old.solver.theory }
     ensures journal { search.new.journal ≡ search.old.journal }
@@ -133,11 +139,15 @@ pub fn add_order(
     requires may { MayBeOrdered task.problem.now task.goal search.old left.now right.now }
     requires numbers { (c : ClauseOf) × (instances.trichotomy task.problem.now.signature left.now right.now ≡ Some c) }
     ensures between { OnOk result (IsBetweenRounds task.entry.problem.now task.entry.goal task.entry.generations search.new) }
-    // A line came in, and with it the clause.
+    // A line came in, and with it the clause, and no other.
     ensures lines { OnOk result (length search.old.lines.items < length search.new.lines.items) }
     ensures added { (c : ClauseOf) → instances.trichotomy task.entry.problem.now.signature left.now right.now ≡ Some c → OnOk result (IsOneOf search.new.solver.propagation.clauses c) }
+    ensures clauses { (c : ClauseOf) → instances.trichotomy task.entry.problem.now.signature left.now right.now ≡ Some c →
+        OnOk result (search.new.solver.propagation.clauses ≡ search.old.solver.propagation.clauses ++ c ∷ []) }
     // Nothing was noted, and nothing that there was is gone.
     ensures passes { OnOk result (Passes search.old search.new) }
+    ensures trail { search.new.solver.propagation.trail ≡ search.old.solver.propagation.trail }
+    ensures blocks { search.new.blocks ≡ search.old.blocks }
     ensures journal { search.new.journal ≡ search.old.journal }
 {
     let clause = order_clause(task, left, right)?;

@@ -1,5 +1,5 @@
 -- The values of a point have a text.
-use Rattle.std.specs.Prelude.{ℕ, ℤ, pos, negsuc, ◌+◌, ◌-◌, ◌<◌, ◌<ℤ◌, ◌≤◌, ◌^◌, ◌≡◌, List, [], ◌∷◌, length, take, slice_index_or, unsigned_abs}
+use Rattle.std.specs.Prelude.{ℕ, ℤ, pos, negsuc, ◌+◌, ◌<◌, ◌<ℤ◌, ◌^◌, ◌≡◌, List, [], ◌∷◌, length, take, slice_index_or, unsigned_abs}
 use Rattle.std.specs.List.{AllByRecursion}
 use Rattle.std.proofs.Common.{arith, refl, sym, subst}
 use borrow.Author.Differences.{ints}

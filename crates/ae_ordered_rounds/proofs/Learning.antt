@@ -1,7 +1,7 @@
 -- What a search has learnt from a block.
-use Rattle.std.specs.Prelude.{ℕ, ◌<◌, ◌≡◌, List, [], ◌∷◌, ◌++◌, length}
+use Rattle.std.specs.Prelude.{◌<◌, ◌≡◌, List, [], ◌∷◌, length}
 use Rattle.std.specs.List.{AllByRecursion}
-use Rattle.std.proofs.Common.{arith, refl, ap, length-append}
+use Rattle.std.proofs.Common.{arith, ap, length-append}
 use Rattle.ae_base.proofs.AllOf.{all_weaker}
 use Rattle.ae_between_rounds.proofs.Passing.{passes_run}
 use Rattle.ae_between_rounds.specs.Passing.{Passes}

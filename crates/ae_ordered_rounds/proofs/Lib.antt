@@ -1,10 +1,14 @@
 mod Trails
 mod Steps
+mod Asking
 mod Stopping
+mod Weak
 mod Pointless
 mod Learning
 mod Solving
 mod Closed
+mod Sums
 mod Orderable
+mod Denied
 mod Rows
 mod Fractions

@@ -1,8 +1,10 @@
 -- The sides of an inequality that is true in a search with nothing left to do are numbers whose order may come in.
-use Rattle.std.specs.Prelude.{ℕ, ◌<◌, ◌≡◌, Bool, true, false, ◌&&◌, ◌||◌, List, [], ◌∷◌, length, Some, None}
+use Rattle.std.specs.Prelude.{ℕ, ◌≡◌, Bool, true, false, ◌&&◌, ◌||◌, List, [], ◌∷◌, Some}
 use Rattle.std.specs.List.{Contains}
 use Rattle.std.proofs.Common.{refl, sym, ap, ◌∙◌, subst}
 use Rattle.std.proofs.lemmas.Option.{none-some}
+use Rattle.ae_added_orders.proofs.Over.{named_over}
+use Rattle.ae_added_orders.specs.Ordering.{IsOverNames}
 use Rattle.ae_base.proofs.Decided.{decided_of}
 use Rattle.ae_base.specs.Options.{when}
 use Rattle.ae_between_rounds.specs.Between.{IsBetweenRounds}
@@ -62,6 +64,9 @@ module _ (p : Problem) (g bound : ℕ) (o : Search) (between : IsBetweenRounds p
   pub lowest_of : HasLowestNumerals p → (u : Term) → Contains (terms_in o.store) u → IsLowestTerm u
   lowest_of low u h = (between.holds.fine low).names u h
 
+  pub over_of : (u : Term) → Contains (terms_in o.store) u → IsOverNames p.signature o.store u
+  over_of u h = subst (λ (sig : Signature). IsOverNames sig o.store u) (sym between.searching.signature) (named_over o.store between.holds.store u h)
+
   module _ (is_open : IsOpenSearch o) (l : Lit) (u w : Term) (strict : Bool) (h : Holds t l) (e : inequality l ≡ Some (u, w, strict)) where
     -- there is an inequality in the problem
     pub is_ordered : ¬ IsOrderlessGoal p g
@@ -82,6 +87,7 @@ module _ (p : Problem) (g bound : ℕ) (o : Search) (between : IsBetweenRounds p
             entered = λ x told. let lawful = between.searching.lawful x told in (lawful.entered w named.1, lawful.entered u named.0);
             below = (below_of w named.1, below_of u named.0);
             lowest = λ low. (lowest_of low w named.1, lowest_of low u named.0);
+            over = (over_of w named.1, over_of u named.0);
             ordered = is_ordered;
           };
           numbers = have_order p.signature sorts.0 w u sorts.2 sorts.1;

@@ -1,5 +1,5 @@
 -- Where no inequality is true, any point satisfies them.
-use Rattle.std.specs.Prelude.{List, Some}
+use Rattle.std.specs.Prelude.{List}
 use Rattle.std.proofs.Common.{sym, ◌∙◌}
 use Rattle.std.proofs.lemmas.Option.{none-some}
 use Rattle.ae_between_rounds.specs.Finished.{IsPointOf}

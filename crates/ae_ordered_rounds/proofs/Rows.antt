@@ -1,8 +1,9 @@
 -- The sides of a row of a tight sum are numbers whose order may come in.
-use Rattle.std.specs.Prelude.{ℕ, zero, suc, ℤ, pos, ◌<◌, ◌≡◌, ◌≢◌, Bool, true, false, cond, List, [], ◌∷◌, ◌++◌, length, map, take, slice_get, Some}
+use Rattle.std.specs.Prelude.{ℕ, zero, suc, ℤ, pos, ◌≡◌, ◌≢◌, Bool, true, false, List, [], ◌∷◌, slice_get, Some}
 use Rattle.std.specs.List.{AllByRecursion, Contains}
 use Rattle.std.proofs.Common.{arith, refl, sym, ap, ◌∙◌, subst, append-nil}
 use Rattle.std.proofs.lemmas.Option.{get_or_from_slice_get, slice_get_within}
+use Rattle.ae_added_orders.specs.Ordering.{IsOverNames}
 use Rattle.ae_agreed_rows.specs.Laws.{WholeRowsStand}
 use Rattle.ae_base.proofs.AllOf.{all_at, all_both, all_weaker}
 use Rattle.ae_base.proofs.ListFacts.{get_append, value_at}
@@ -22,8 +23,7 @@ use Rattle.ae_core.specs.declared.terms.Sort.{Int, out-Sort}
 use Rattle.ae_core.specs.declared.terms.Term.{Term, Apply}
 use Rattle.ae_explain.specs.Trail.{at}
 use Rattle.ae_explain.specs.declared.trail.Assigned.{Assigned}
-use Rattle.ae_inequalities.specs.Rows.{IsRightRow}
-use Rattle.ae_inequalities.specs.Tight.{AreTightRows, IsRowAt}
+use Rattle.ae_inequalities.specs.Tight.{IsRowAt}
 use Rattle.ae_inequalities.specs.declared.answer.Ineq.TheVariants.{Tight}
 use Rattle.ae_inequalities.specs.declared.rows.Row.{Row}
 use Rattle.ae_journal.proofs.Splits.{all_contained}
@@ -42,10 +42,11 @@ use Rattle.ae_numerals_kept.proofs.Lowest.{apply_lowest, whole_lowest}
 use Rattle.ae_numerals_kept.specs.Lowest.{IsLowestTerm}
 use Rattle.ae_ordered_rounds.proofs.Closed.{other_holds, side_holds}
 use Rattle.ae_ordered_rounds.proofs.Orderable.{below_of, is_ordered, literal_orderable, lowest_of}
-use Rattle.ae_ordered_rounds.specs.Inner.Orderable.{AreOrderableRows, IsFineRow, IsOrderable, IsTrueInequality}
+use Rattle.ae_ordered_rounds.proofs.Sums.{sides_over}
+use Rattle.ae_ordered_rounds.specs.Inner.Orderable.{AreOrderableRows, HasInequality, IsFineRow, IsOrderable}
 use Rattle.ae_ordered_rounds.specs.Inner.Solving.{IsSolved}
 use Rattle.ae_propagation.specs.Settled.{Holds}
-use Rattle.ae_row_sides.specs.Laws.{SidesAreKept, SidesAreOrdered}
+use Rattle.ae_row_sides.specs.Laws.{SidesAreKept, SidesAreOrdered, SidesAreWhole}
 use Rattle.ae_rules.specs.Clauses.{Clause}
 use Rattle.ae_rules.specs.Instances.{trichotomy}
 use Rattle.ae_sat.proofs.Saturating.{atoms_stand}
@@ -54,7 +55,6 @@ use Rattle.ae_searching.specs.Told.{IsToldIn}
 use Rattle.ae_solved_orders.specs.Passed.{AreInStepWith, Solved, literals_to}
 use Rattle.ae_state_steps.specs.ValueSteps.{IsNumberName}
 use Rattle.ae_store.proofs.StoreLaws.{name_term}
-use Rattle.ae_store.specs.Terms.{named}
 use Rattle.ae_theory.specs.Names.{terms_in}
 use Rattle.ae_theory.specs.Noting.{IsBlockOf}
 use Rattle.ae_tight_sides.specs.Sides.{AreSidesOf}
@@ -77,9 +77,10 @@ names_whole sig ts f a =
     all_weaker (λ (q : Part). IsNumberName sig ts false q.key) (λ (q : Part). (t : Term) × (slice_get ts q.key ≡ Some t) × (sort_of sig t ≡ Some Int))
     (λ q h. let w = value_at ts q.key (name_within sig ts false q.key h) in (w.0, w.1, ap (sort_of sig) (sym (name_term ts q.key w.0 w.1)) ∙ h)) f.parts a
 
-module _ (p : Problem) (g bound : ℕ) (o : Search) (between : IsBetweenRounds p g bound o) (is_open : IsOpenSearch o) (r : Solved) (solved : IsSolved p g o r) (other : Sides)
-    (inequal : IsTrueInequality o.solver.propagation.trail other) (may : (x : Setting) → IsToldIn p g o.store o.blocks.opened x → (l : Lit) → Holds o.solver.propagation.trail l → MayStand x o.journal.lines l)
-    (stand : WholeRowsStand) (kept : SidesAreKept) (ordered : SidesAreOrdered) where
+module _ (p : Problem) (g bound : ℕ) (o : Search) (between : IsBetweenRounds p g bound o) (is_open : IsOpenSearch o) (r : Solved) (solved : IsSolved p g o r)
+    (inequal : HasInequality o.solver.propagation.trail) (may : (x : Setting) → IsToldIn p g o.store o.blocks.opened x → (l : Lit) → Holds o.solver.propagation.trail l → MayStand x o.journal.lines l)
+    (stand : WholeRowsStand) (kept : SidesAreKept) (ordered : SidesAreOrdered)
+    (all_whole : SidesAreWhole) where
   abbrev t : List Assigned
   t = o.solver.propagation.trail
 
@@ -137,13 +138,20 @@ module _ (p : Problem) (g bound : ℕ) (o : Search) (between : IsBetweenRounds p
           let two : (q : Op) (a b : Term) → IsLowestTerm a → IsLowestTerm b → IsLowestTerm (Apply (arithmetic Int q) [] (a ∷ b ∷ [])) = λ q a b h m. apply_lowest (arithmetic Int q) [] (a ∷ b ∷ []) (h, (m, tt)) in
           (other_holds IsLowestTerm ts all number two row.lin, side_holds IsLowestTerm ts all number two row.lin)
 
+      both_over : IsOverNames p.signature o.store (other_side Int ts row.lin) × IsOverNames p.signature o.store (side Int ts row.lin)
+      both_over =
+          let sorts = all_whole o.store.signature ts row.lin fine_row.normal whole in
+          subst (λ (sig : Signature). IsOverNames sig o.store (other_side Int ts row.lin) × IsOverNames sig o.store (side Int ts row.lin)) (sym between.searching.signature)
+          (sides_over o.store between.holds.store row.lin sorts.0 sorts.1)
+
       row_orderable : IsOrderable p g o (other_side Int ts row.lin) (side Int ts row.lin)
       row_orderable = record {
         may = record {
           entered = λ x told. (other_entered x told, side_entered x told);
           below = both_below;
           lowest = both_lowest;
-          ordered = is_ordered p g bound o between is_open inequal.literal other.right other.left inequal.strict inequal.holds inequal.is;
+          over = both_over;
+          ordered = is_ordered p g bound o between is_open inequal.1.literal inequal.0.right inequal.0.left inequal.1.strict inequal.1.holds inequal.1.is;
         };
         numbers = subst (λ (sig : Signature). (c : Clause) × (trichotomy sig (other_side Int ts row.lin) (side Int ts row.lin) ≡ Some c)) (sym between.searching.signature)
             (ordered o.store.signature ts row.lin fine_row.normal whole);

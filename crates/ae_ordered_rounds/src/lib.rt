@@ -4,5 +4,7 @@
 
 mod choosing;
 pub mod laws;
+mod meeting;
 pub mod ordering;
 pub mod orders;
+mod pending;

@@ -3,4 +3,4 @@
 
 mod strict;
 
-pub use strict::strict_contradiction;
+pub use strict::{long_strict_contradiction, strict_contradiction};

@@ -6,6 +6,7 @@ ghost use Rattle.ae_opaque_numbers.specs.Opaque.{AreOpaqueNumbers};
 ghost use Rattle.ae_state.specs.Fitting.{FitsStore};
 ghost use Rattle.ae_state.specs.Names.{system_now, terms_now};
 ghost use Rattle.ae_strict_rows.specs.Found.{IsFoundIn};
+ghost use Rattle.ae_strict_rows.specs.Inner.Within.{IsRight};
 ghost use Rattle.ae_theory.specs.Names.{terms_in};
 ghost use Rattle.ae_theory.specs.declared.theory.Explained.{Explained as ExplainedValue};
 
@@ -92,6 +93,41 @@ fn found_without(
     rows.solve(alloc, store, &mut journal)
 }
 
+/// What the rows of the others come to.
+#[derive(Drop)]
+enum Found {
+    /// They can't hold together.
+    Contradiction(Explained),
+    /// They come to no contradiction, as far as numbers have room.
+    Nothing,
+    /// They take more combinations.
+    Unfinished,
+}
+
+/// What the rows of the others come to with at most so many combinations.
+fn found_within(
+    alloc: Global,
+    store: &Store,
+    state: &State,
+    trail: &Trail,
+    limit: usize,
+) -> Result<Found, AllocError>
+    requires fits { FitsStore state.now store.now }
+    requires taken { terms_now state.now ≡ terms_in store.now }
+    requires opaque { AreOpaqueNumbers store.now.signature (system_now state.now) }
+    requires told { IsTold state.now store.now trail.now.assigned }
+    ensures { IfOk result (IsRight store.now trail.now.assigned) }
+{
+    match found_without(alloc, store, state, trail, limit) {
+        Ok(Ineq::Contradiction(explained)) => Ok(Found::Contradiction(explained)),
+        Ok(Ineq::Point(_made)) => Ok(Found::Nothing),
+        Ok(Ineq::Tight(_rows)) => Ok(Found::Nothing),
+        Err(Fail::Number(_wide)) => Ok(Found::Nothing),
+        Err(Fail::Steps) => Ok(Found::Unfinished),
+        Err(Fail::Memory(failed)) => Err(failed),
+    }
+}
+
 /// A block of inequalities of a trail that can't hold together, if their rows come to one with at most so many combinations; of two inequalities that differ in
 /// strictness alone the strict one is taken.
 pub fn strict_contradiction(
@@ -107,12 +143,36 @@ pub fn strict_contradiction(
     requires told { IsTold state.now store.now trail.now.assigned }
     ensures { IfOk result (λ o. IfSome o (IsFoundIn store.now trail.now.assigned)) }
 {
-    match found_without(alloc, store, state, trail, limit) {
-        Ok(Ineq::Contradiction(explained)) => Ok(Some(explained)),
-        Ok(Ineq::Point(_made)) => Ok(None),
-        Ok(Ineq::Tight(_rows)) => Ok(None),
-        Err(Fail::Number(_wide)) => Ok(None),
-        Err(Fail::Steps) => Ok(None),
-        Err(Fail::Memory(failed)) => Err(failed),
+    let found = found_within(alloc, store, state, trail, limit)?;
+    match found {
+        Found::Contradiction(explained) => Ok(Some(explained)),
+        Found::Nothing => Ok(None),
+        Found::Unfinished => Ok(None),
     }
+}
+
+/// The same, however many combinations it takes: with twice as many each time, until their rows come to something.
+pub fn long_strict_contradiction(
+    alloc: Global,
+    store: &Store,
+    state: &State,
+    trail: &Trail,
+) -> Result<Option<Explained>, AllocError>
+    requires fits { FitsStore state.now store.now }
+    requires taken { terms_now state.now ≡ terms_in store.now }
+    requires opaque { AreOpaqueNumbers store.now.signature (system_now state.now) }
+    requires told { IsTold state.now store.now trail.now.assigned }
+    ensures { IfOk result (λ o. IfSome o (IsFoundIn store.now trail.now.assigned)) }
+{
+    let mut limit: usize = 1024;
+    for _doubling in 0..64 {
+        let found = found_within(alloc, store, state, trail, limit)?;
+        match found {
+            Found::Contradiction(explained) => return Ok(Some(explained)),
+            Found::Nothing => return Ok(None),
+            Found::Unfinished => {}
+        }
+        limit = limit.saturating_mul(2);
+    }
+    Ok(None)
 }

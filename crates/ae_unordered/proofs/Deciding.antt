@@ -12,7 +12,8 @@ use Rattle.ae_explain.specs.declared.trail.Assigned.{Assigned}
 use Rattle.ae_filled_trails.specs.Ordered.{AreOrdered}
 use Rattle.ae_propagation.specs.Settled.{Holds}
 use Rattle.ae_rules.specs.Clauses.{is_false, is_true}
-use Rattle.ae_unordered.specs.Inner.Sides.{denied_equation, equation_by, BothSaid, IsLeftOpen, IsSaid}
+use Rattle.ae_unordered.specs.Denied.{denied_equation, equation_by}
+use Rattle.ae_unordered.specs.Inner.Sides.{BothSaid, IsLeftOpen, IsSaid}
 use Rattle.ae_unordered.specs.Unordered.{IsOpenPair}
 use Rattle.ae_unordered.specs.declared.pairs.Pair.{Pair}
 
@@ -36,7 +37,7 @@ both_said t s u a b e f g h = (
 )
 
 -- ---- literals that deny equations
-denies : (l : Lit) (s u : Term) → l ≡ is_false (Eq s u) → denied_equation l ≡ Some (s, u)
+pub denies : (l : Lit) (s u : Term) → l ≡ is_false (Eq s u) → denied_equation l ≡ Some (s, u)
 denies l s u e = ap denied_equation e ∙ ap equation_by (outs-Eq s u)
 
 pub pair_found : (t : List Assigned) (l : Lit) (s u : Term) (found : Option Pair) → denied_equation l ≡ Some (s, u) → MatchOption found (BothSaid t s u) (IsOpenPair t)

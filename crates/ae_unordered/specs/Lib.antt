@@ -1,3 +1,4 @@
--- Numbers of a trail whose order it leaves open (Unordered). Inner holds nothing to be believed.
+-- Numbers of a trail whose order it leaves open (Unordered), and literals that deny equations (Denied). Inner holds nothing to be believed.
 pub mod Unordered
+pub mod Denied
 pub mod Inner

@@ -4,7 +4,8 @@ ghost use Rattle.ae_core.specs.declared.terms.Term.{Term as TermOf};
 ghost use Rattle.ae_core.specs.declared.formulas.Formula.{Eq, Lt, out-Formula};
 ghost use Rattle.ae_filled_trails.specs.Ordered.{AreOrdered};
 ghost use Rattle.ae_rules.specs.Clauses as spec;
-ghost use Rattle.ae_unordered.specs.Inner.Sides.{denied_equation, equation_by, BothSaid, IsLeftOpen, IsSaid};
+ghost use Rattle.ae_unordered.specs.Denied.{denied_equation, equation_by};
+ghost use Rattle.ae_unordered.specs.Inner.Sides.{BothSaid, IsLeftOpen, IsSaid};
 ghost use Rattle.ae_unordered.specs.Unordered.{IsOpenPair};
 
 use ae_core::copies::copy_term;
@@ -24,9 +25,9 @@ pub struct Pair {
 
 /// The sides of an equation.
 #[derive(Clone, Copy)]
-struct Equation<'a> {
-    left: &'a Term,
-    right: &'a Term,
+pub struct Equation<'a> {
+    pub left: &'a Term,
+    pub right: &'a Term,
 }
 
 /// The sides of a formula that is an equation.
@@ -41,7 +42,7 @@ fn equation_sides<'a>(formula: &'a Formula) -> Option<Equation<'a>>
 }
 
 /// The sides of a literal that denies an equation.
-fn denied_sides<'a>(literal: &'a Lit) -> Option<Equation<'a>>
+pub fn denied_sides<'a>(literal: &'a Lit) -> Option<Equation<'a>>
     ensures some { IfSome result (λ sides. denied_equation literal.now ≡ Some (sides.left.now, sides.right.now)) }
     ensures none { IfNone result (denied_equation literal.now ≡ None) }
 {
@@ -52,7 +53,7 @@ fn denied_sides<'a>(literal: &'a Lit) -> Option<Equation<'a>>
 }
 
 /// That one number is below another.
-fn below(alloc: Global, left: &Term, right: &Term) -> Result<Boxed<Lit>, AllocError>
+pub fn below(alloc: Global, left: &Term, right: &Term) -> Result<Boxed<Lit>, AllocError>
     ensures { IfOk result (λ l. l ≡ spec.is_true (Lt left.now right.now)) }
 {
     Boxed::new(

@@ -1,5 +1,5 @@
 -- A search with one clause more.
-use Rattle.std.specs.Prelude.{ℕ, ◌<◌, List, [], ◌≡◌, length}
+use Rattle.std.specs.Prelude.{ℕ, ◌<◌, List, [], length}
 use Rattle.ae_ages.specs.declared.entries.Aged.{Aged}
 use Rattle.ae_between_rounds.specs.Between.{Holds, IsSearchingBelow}
 use Rattle.ae_between_rounds.specs.declared.search.Search.{Search}

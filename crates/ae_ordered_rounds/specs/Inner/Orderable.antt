@@ -31,6 +31,9 @@ pub record IsTrueInequality (t : List Assigned) (both : Sides) : Type 0 where
   pub holds : Holds t literal
   pub is : inequality literal ≡ Some (both.right, both.left, strict)
 
+abbrev pub HasInequality : List Assigned → Type 0
+HasInequality t = (both : Sides) × IsTrueInequality t both
+
 abbrev pub HasNoInequality : List Assigned → Type 0
 HasNoInequality t = (l : Lit) → Holds t l → inequality l ≡ None
 

@@ -1,5 +1,5 @@
 use Rattle.std.proofs.Common.{List, [], ◌∷◌, ◌++◌, ◌≡◌, length, refl, sym, ap, ◌∙◌, subst, arith, length-append}
-use Rattle.ae_added_orders.proofs.Coming.{choices, clause_sorted, comes, constants, extends, fine, grows, heads, instances, orderless}
+use Rattle.ae_added_orders.proofs.Coming.{choices, clause_sorted, comes, constants, extends, fine, grows, heads, instances, numbers, orderless}
 use Rattle.ae_added_orders.specs.Inner.Added.{latest}
 use Rattle.ae_between_rounds.proofs.Growing.{firsts_grow}
 use Rattle.ae_brought_clauses.specs.Brought.{AreBrought}
@@ -62,6 +62,8 @@ returns v c =
         lines = (let l = ap length lines in let m = length-append o.lines.items (Tri u z ∷ []) in omega (arith, l, m));
       };
       added = subst (λ (ks : List Clause). IsOneOf ks d) (sym clauses) (new_one o.solver.propagation.clauses d);
+      clauses = clauses;
+      plain = numbers p g n o u z d hold sig may e t es b c.len-names.ensures.store c.requires.between.looked;
       trail = c.add_order_line.ensures.trail;
       theory = c.add_order_line.ensures.theory;
       journal = refl;

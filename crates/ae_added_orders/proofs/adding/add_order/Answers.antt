@@ -1,4 +1,4 @@
-use Rattle.std.specs.Prelude.{◌≡◌, ◌<◌, List, length}
+use Rattle.std.specs.Prelude.{List, [], ◌∷◌, ◌++◌}
 use Rattle.std.specs.List.{Contains}
 use Rattle.std.proofs.Common.{◌∙◌, sym, ap, subst, arith}
 use Rattle.std.proofs.lemmas.Option.{same_Some}
@@ -35,6 +35,12 @@ enter_names-requires v c =
 pub returns-in_err-enter_names-clause-journal : goal.returns-in_err-enter_names-clause-journal
 returns-in_err-enter_names-clause-journal v c = c.enter_names.ensures.journal ∙ c.add_clause.ensures.journal
 
+pub returns-in_err-enter_names-clause-trail : goal.returns-in_err-enter_names-clause-trail
+returns-in_err-enter_names-clause-trail v c = c.enter_names.ensures.trail ∙ c.add_clause.ensures.trail
+
+pub returns-in_err-enter_names-clause-blocks : goal.returns-in_err-enter_names-clause-blocks
+returns-in_err-enter_names-clause-blocks v c = c.enter_names.ensures.blocks ∙ c.add_clause.ensures.blocks
+
 pub returns-clause-between : goal.returns-clause-between
 returns-clause-between v c =
     let k = c.args.task in
@@ -60,6 +66,11 @@ returns-clause-added v c d is =
     subst (IsOneOf c.enter_names.new.search.solver.propagation.clauses) (same_Some c.in_ok-clause.clause d (sym c.in_ok-clause.ensures ∙ is))
     (c.in_ok-enter_names.ensures.kept c.in_ok-clause.clause c.in_ok-add_clause.ensures.added)
 
+pub returns-clause-clauses : goal.returns-clause-clauses
+returns-clause-clauses v c d is =
+    c.in_ok-enter_names.ensures.plain c.in_ok-add_clause.ensures.plain ∙ c.in_ok-add_clause.ensures.clauses
+    ∙ ap (λ (k : Clause). c.args.search.now.solver.propagation.clauses ++ k ∷ []) (same_Some c.in_ok-clause.clause d (sym c.in_ok-clause.ensures ∙ is))
+
 pub returns-clause-passes : goal.returns-clause-passes
 returns-clause-passes v c =
     let o = c.args.search.now in
@@ -73,3 +84,9 @@ returns-clause-passes v c =
 
 pub returns-clause-journal : goal.returns-clause-journal
 returns-clause-journal v c = c.enter_names.ensures.journal ∙ c.add_clause.ensures.journal
+
+pub returns-clause-trail : goal.returns-clause-trail
+returns-clause-trail v c = c.enter_names.ensures.trail ∙ c.add_clause.ensures.trail
+
+pub returns-clause-blocks : goal.returns-clause-blocks
+returns-clause-blocks v c = c.enter_names.ensures.blocks ∙ c.add_clause.ensures.blocks

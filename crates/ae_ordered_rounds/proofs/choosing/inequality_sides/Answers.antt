@@ -1,6 +1,5 @@
-use Rattle.std.specs.Prelude.{◌≡◌, Bool, Some}
-use Rattle.std.proofs.Common.{◌∙◌, sym, ap}
-use Rattle.ae_core.specs.declared.terms.Term.{Term}
+use Rattle.std.specs.Prelude.{Some}
+use Rattle.std.proofs.Common.{◌∙◌, sym}
 use Rattle.ae_ordered_rounds.proofs.choosing.inequality_sides.Goals as goal
 
 pub returns-in-None : goal.returns-in-None

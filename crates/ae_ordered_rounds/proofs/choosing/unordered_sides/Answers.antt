@@ -1,6 +1,7 @@
 use Rattle.std.specs.Prelude.{Option, IfSome}
 use Rattle.std.proofs.Common.{sym, subst}
 use Rattle.ae_journal.proofs.Splits.{all_contained}
+use Rattle.ae_order_counts.specs.Counts.{IsOrderOpen}
 use Rattle.ae_ordered_rounds.specs.Inner.Orderable.{IsFineRow}
 use Rattle.ae_theory.specs.Names.{terms_in}
 use Rattle.ae_tight_sides.specs.Sides.{AreSidesOf}
@@ -13,8 +14,7 @@ open_sides-requires c = record {
 }
 
 pub returns-in-Some : goal.returns-in-Some
-returns-in-Some c = (
-  c.row-item.result,
-  (c.loop-row.row-index, c.loop-row-test.true, sym c.row-item.is),
-  subst (λ (o : Option Sides). IfSome o (AreSidesOf (terms_in c.args.store.now) c.row-item.result)) c.in-Some.is c.in_ok-found.ensures,
-)
+returns-in-Some c =
+    let row = c.row-item.result in
+    let w = subst (λ (o : Option Sides). IfSome o (λ both. AreSidesOf (terms_in c.args.store.now) row both × IsOrderOpen c.args.trail.now.assigned both.left both.right)) c.in-Some.is c.in_ok-found.ensures in
+    ((row, (c.loop-row.row-index, c.loop-row-test.true, sym c.row-item.is), w.0), w.1)

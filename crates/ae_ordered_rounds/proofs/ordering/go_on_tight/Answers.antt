@@ -25,8 +25,8 @@ add_unordered-requires-clause-between v c = c.requires.between
 pub add_unordered-requires-clause-rows : goal.add_unordered-requires-clause-rows
 add_unordered-requires-clause-rows v c = c.requires.rows
 
-pub add_unordered-requires-clause-other : goal.add_unordered-requires-clause-other
-add_unordered-requires-clause-other v c = c.requires.other
+pub add_unordered-requires-clause-is_open : goal.add_unordered-requires-clause-is_open
+add_unordered-requires-clause-is_open v c = c.requires.is_open
 
 pub returns-in-None-clause-comes : goal.returns-in-None-clause-comes
 returns-in-None-clause-comes v c k h = c.add_unordered.ensures.comes k h

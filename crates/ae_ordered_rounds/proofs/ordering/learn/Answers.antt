@@ -1,5 +1,5 @@
-use Rattle.std.specs.Prelude.{◌≡◌, Bool, Ok, Err}
-use Rattle.std.proofs.Common.{arith, refl, sym, ap, ◌∙◌, subst}
+use Rattle.std.specs.Prelude.{Bool, Ok, Err}
+use Rattle.std.proofs.Common.{arith, refl, ap, ◌∙◌, inl}
 use Rattle.ae_between_rounds.specs.declared.search.Search.{Search}
 use Rattle.ae_kept_runs.proofs.Learnt.{hyps_sorted}
 use Rattle.ae_kept_runs.proofs.Running.{notes_none, stopped_run}
@@ -67,6 +67,7 @@ returns-in-Ok-clause-comes v c k h =
           (notes_none p g b o n between (λ x told. c.learn_from.ensures.instances p g b level o.blocks.opened (omega arith) between.searching x told)),
       more_lines block o.solver.propagation.clauses o.lines.items c.learn_from.new.lines.items e.lines,
       c.orders_stay.ensures p g o n k (passes_learnt o n refl refl (c.learn_from.ensures.learnt on) c.learn_from.ensures.journal) h,
+      inl (c.learn_from.ensures.learnt on).more,
     )
 
 pub returns-in-Ok-clause-limit : goal.returns-in-Ok-clause-limit

@@ -30,11 +30,14 @@ point_or_round-requires-clause-ordered v c =
 pub point_or_round-requires-clause-orders : goal.point_or_round-requires-clause-orders
 point_or_round-requires-clause-orders v c = c.requires.orders
 
-pub add_sides-requires-clause-between : goal.add_sides-requires-clause-between
-add_sides-requires-clause-between v c = c.requires.between
+pub add_pair-requires-clause-between : goal.add_pair-requires-clause-between
+add_pair-requires-clause-between v c = c.requires.between
 
-pub add_sides-requires-clause-orderable : goal.add_sides-requires-clause-orderable
-add_sides-requires-clause-orderable v c =
+pub add_pair-requires-clause-is_open : goal.add_pair-requires-clause-is_open
+add_pair-requires-clause-is_open v c = c.requires.is_open
+
+pub add_pair-requires-clause-orderable : goal.add_pair-requires-clause-orderable
+add_pair-requires-clause-orderable v c =
     let k = c.args.task in
     let pair = c.in-Some.pair in
     pair_orderable k.problem.now k.goal k.generations c.args.search.now c.requires.between c.requires.is_open pair.left pair.right
@@ -45,4 +48,4 @@ pub returns-in-None-clause-comes : goal.returns-in-None-clause-comes
 returns-in-None-clause-comes v c = c.point_or_round.ensures.comes
 
 pub returns-in-Some-clause-comes : goal.returns-in-Some-clause-comes
-returns-in-Some-clause-comes v c = c.add_sides.ensures.comes c.args.orders.now c.requires.orders
+returns-in-Some-clause-comes v c = c.add_pair.ensures.comes c.args.orders.now c.requires.orders

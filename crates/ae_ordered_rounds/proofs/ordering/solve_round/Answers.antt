@@ -1,13 +1,11 @@
-use Rattle.std.specs.Prelude.{◌≡◌, Option, Err}
-use Rattle.std.proofs.Common.{refl, sym, ap, ◌∙◌, subst}
-use Rattle.ae_explain.specs.declared.trail.Assigned.{Assigned}
+use Rattle.std.specs.Prelude.{Err}
+use Rattle.std.proofs.Common.{sym, ap, ◌∙◌, subst}
 use Rattle.ae_ordered_rounds.proofs.Solving.{is_solved}
-use Rattle.ae_ordered_rounds.proofs.Steps.{failed_by, later}
+use Rattle.ae_ordered_rounds.proofs.Steps.{failed_by, later, more_counted}
 use Rattle.ae_ordered_rounds.proofs.Stopping.{stopped_between}
-use Rattle.ae_ordered_rounds.specs.Inner.Orderable.{IsTrueInequality}
+use Rattle.ae_ordered_rounds.specs.Inner.Orderable.{HasInequality}
 use Rattle.ae_solved_orders.specs.Passed.{AreOrdersOf}
 use Rattle.ae_theory.specs.declared.theory.Fail.{Fail}
-use Rattle.std.specs.Prelude.{List}
 use Rattle.ae_ordered_rounds.proofs.ordering.solve_round.Goals as goal
 
 pub solve_orders-requires-clause-between : goal.solve_orders-requires-clause-between
@@ -37,14 +35,14 @@ go_on_solved-requires-clause-solved v c =
     is_solved c.args.task.problem.now c.args.task.goal c.args.search.now c.solve_orders.new.search e.same c.in-Ok.solved c.in-Ok.ensures.lines c.in-Ok.ensures.orders
     (λ made i. e.point c.in-Ok.solved made c.in-Ok.is i) (λ made i. e.stand c.in-Ok.solved made c.in-Ok.is i) (λ x i. e.contradiction c.in-Ok.solved x c.in-Ok.is i) (λ x i. e.built c.in-Ok.solved x c.in-Ok.is i) (λ rows i. e.tight c.in-Ok.solved rows c.in-Ok.is i)
 
-pub go_on_solved-requires-clause-other : goal.go_on_solved-requires-clause-other
-go_on_solved-requires-clause-other v c =
-    subst (λ (t : List Assigned). IsTrueInequality t c.args.other.now) (sym (ap (λ w. w.propagation.trail) c.solve_orders.ensures.same.solver)) c.requires.other
+pub go_on_solved-requires-clause-inequal : goal.go_on_solved-requires-clause-inequal
+go_on_solved-requires-clause-inequal v c = subst HasInequality (sym (ap (λ w. w.propagation.trail) c.solve_orders.ensures.same.solver)) c.requires.inequal
 
 pub returns-in-Ok-clause-comes : goal.returns-in-Ok-clause-comes
 returns-in-Ok-clause-comes v c =
     let k = c.args.task in
-    later k.problem.now k.goal k.generations c.args.search.now c.solve_orders.new.search c.go_on_solved.new.search c.go_on_solved.new.orders c.go_on_solved.result c.solve_orders.ensures.same c.go_on_solved.ensures.comes
+    later k.problem.now k.goal k.generations c.args.search.now c.solve_orders.new.search c.go_on_solved.new.search c.go_on_solved.new.orders c.go_on_solved.result c.solve_orders.ensures.same
+    (more_counted c.args.search.now.journal.lines c.solve_orders.new.search.journal.lines c.solve_orders.ensures.combines.0 c.solve_orders.ensures.combines.1) c.go_on_solved.ensures.comes
 
 pub returns-in-Ok-clause-limit : goal.returns-in-Ok-clause-limit
 returns-in-Ok-clause-limit v c = c.go_on_solved.ensures.limit ∙ c.solve_orders.ensures.limit

@@ -1,4 +1,4 @@
-use Rattle.std.specs.Prelude.{◌≡◌, List, length}
+use Rattle.std.specs.Prelude.{List, length}
 use Rattle.std.proofs.Common.{sym, ap, ◌∙◌, subst}
 use Rattle.ae_explain.specs.declared.trail.Assigned.{Assigned}
 use Rattle.ae_literal_rows.specs.Beside.{IsTold}

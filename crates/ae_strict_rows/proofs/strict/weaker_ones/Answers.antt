@@ -1,4 +1,4 @@
-use Rattle.std.specs.Prelude.{ℕ, ◌<◌, ◌≡◌, Bool, List, [], ◌∷◌, length}
+use Rattle.std.specs.Prelude.{Bool, List, [], ◌∷◌, length}
 use Rattle.std.proofs.Common.{arith, ap, ◌∙◌, length-append}
 use Rattle.ae_strict_rows.proofs.strict.weaker_ones.Goals as goal
 

@@ -1,0 +1,49 @@
+use Rattle.std.specs.Prelude.{Option, IfSome}
+use Rattle.std.proofs.Common.{subst}
+use Rattle.ae_ordered_rounds.proofs.Steps.{passed_on}
+use Rattle.ae_strict_rows.specs.Found.{IsFoundIn}
+use Rattle.ae_theory.specs.declared.theory.Explained.{Explained}
+use Rattle.ae_theory.specs.declared.theory.Fail.TheVariants.{Memory}
+use Rattle.ae_ordered_rounds.proofs.ordering.pending_round.Goals as goal
+
+pub remembered_strict_found-requires-clause-between : goal.remembered_strict_found-requires-clause-between
+remembered_strict_found-requires-clause-between v c = c.requires.between
+
+pub remembered_strict_found-requires-clause-is_open : goal.remembered_strict_found-requires-clause-is_open
+remembered_strict_found-requires-clause-is_open v c = c.requires.is_open
+
+pub returns-in_err-found-clause-comes : goal.returns-in_err-found-clause-comes
+returns-in_err-found-clause-comes v c = passed_on c.args.task.problem.now c.args.task.goal c.args.task.generations c.args.search.now c.args.search.now c.args.orders.now c.from_residual.result
+    (Memory c.in_err-found.field-0.0) c.from_residual.ensures.1 tt
+
+pub add_pending-requires-clause-between : goal.add_pending-requires-clause-between
+add_pending-requires-clause-between v c = c.requires.between
+
+pub add_pending-requires-clause-is_open : goal.add_pending-requires-clause-is_open
+add_pending-requires-clause-is_open v c = c.requires.is_open
+
+pub add_pending-requires-clause-served : goal.add_pending-requires-clause-served
+add_pending-requires-clause-served v c = c.requires.served
+
+pub add_pending-requires-clause-ordered : goal.add_pending-requires-clause-ordered
+add_pending-requires-clause-ordered v c = c.requires.ordered
+
+pub add_pending-requires-clause-orders : goal.add_pending-requires-clause-orders
+add_pending-requires-clause-orders v c = c.requires.orders
+
+pub add_pending-requires-clause-inequal : goal.add_pending-requires-clause-inequal
+add_pending-requires-clause-inequal v c = c.requires.inequal
+
+pub returns-in-None-clause-comes : goal.returns-in-None-clause-comes
+returns-in-None-clause-comes v c = c.add_pending.ensures.comes
+
+pub learn-requires-clause-between : goal.learn-requires-clause-between
+learn-requires-clause-between v c = c.requires.between
+
+pub learn-requires-clause-found : goal.learn-requires-clause-found
+learn-requires-clause-found v c =
+    let o = c.args.search.now in
+    subst (λ (found : Option Explained). IfSome found (IsFoundIn o.store o.solver.propagation.trail)) c.in-Some.is c.in_ok-found.ensures
+
+pub returns-in-Some-clause-comes : goal.returns-in-Some-clause-comes
+returns-in-Some-clause-comes v c = c.learn.ensures.comes c.args.orders.now c.requires.orders

@@ -1,0 +1,10 @@
+use Rattle.ae_ordered_rounds.proofs.ordering.remembered_strict_found.Goals as goal
+
+pub short_strict_found-requires-clause-between : goal.short_strict_found-requires-clause-between
+short_strict_found-requires-clause-between v c = c.requires.between
+
+pub short_strict_found-requires-clause-is_open : goal.short_strict_found-requires-clause-is_open
+short_strict_found-requires-clause-is_open v c = c.requires.is_open
+
+pub returns : goal.returns
+returns v c = c.short_strict_found.ensures
