@@ -1,5 +1,5 @@
 -- Why a search stopped, by what a call says of its refusals, and a refusal that is passed on.
-use Rattle.std.specs.Prelude.{ℕ, ◌≡◌, Result, Err, IsErr, IsErrAnd}
+use Rattle.std.specs.Prelude.{ℕ, ◌≡◌, Result, Err, IsErrAnd}
 use Rattle.std.proofs.Common.{refl, sym, ap, ◌∙◌, subst}
 use Rattle.std.proofs.lemmas.Result.{err_from_is_err_and}
 use Rattle.ae_between_rounds.specs.declared.search.Search.{Search}

@@ -1,3 +1,4 @@
 mod Failing
-mod Steps
+mod Stepping
+mod Turning
 mod Written

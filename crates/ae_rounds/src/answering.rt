@@ -14,7 +14,7 @@ ghost use Rattle.ae_stories.specs.Told.{told};
 ghost use Rattle.ae_writable.specs.Numbers.{HasLowestNumerals};
 ghost use Rattle.ae_writable.specs.Writable.{IsWritable, IsWritableRule};
 
-use crate::rounds::End;
+use crate::progress::End;
 use ae_between_rounds::search::{Search, Task};
 use ae_core::lists::List;
 use ae_core::proofs::Proof;

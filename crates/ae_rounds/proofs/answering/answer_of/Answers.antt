@@ -1,7 +1,7 @@
 use Rattle.std.specs.Prelude.{Result}
 use Rattle.std.proofs.Common.{subst}
 use Rattle.ae_rounds.specs.Ended.{HasEnded}
-use Rattle.ae_rounds.specs.declared.rounds.End.{End}
+use Rattle.ae_rounds.specs.declared.progress.End.{End}
 use Rattle.ae_theory.specs.declared.theory.Fail.{Fail}
 use Rattle.ae_rounds.proofs.answering.answer_of.Goals as goal
 

@@ -1,7 +1,7 @@
 use Rattle.std.specs.Prelude.{Ok}
 use Rattle.std.proofs.Common.{subst}
 use Rattle.ae_rounds.specs.Ended.{HasEnded}
-use Rattle.ae_rounds.specs.declared.rounds.End.{End}
+use Rattle.ae_rounds.specs.declared.progress.End.{End}
 use Rattle.ae_rounds.proofs.answering.ended_answer.Goals as goal
 
 pub refuted_answer-requires : goal.refuted_answer-requires

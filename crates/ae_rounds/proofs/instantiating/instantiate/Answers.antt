@@ -1,7 +1,8 @@
-use Rattle.std.specs.Prelude.{◌≡◌, ◌<◌, Bool, Ok, Err, Result, Option, length}
-use Rattle.std.proofs.Common.{refl, sym, ap, ◌∙◌, subst, arith}
+use Rattle.std.specs.Prelude.{◌<◌, Bool, Ok, Err, Result, Option, length}
+use Rattle.std.proofs.Common.{refl, ap, ◌∙◌, subst, arith}
 use Rattle.ae_between_rounds.specs.Passing.Passes.{notes}
 use Rattle.ae_between_rounds.specs.declared.search.OwedAt.{OwedAt}
+use Rattle.ae_journal.specs.Journals.{counted_in}
 use Rattle.ae_journal.specs.Noted.{Noted}
 use Rattle.ae_rounds.proofs.Failing.{failed_by, passed_on}
 use Rattle.ae_rounds.specs.Ended.{HasMade}
@@ -71,6 +72,7 @@ returns-then-branch g c =
         c.in_ok-make_owed-in-Some.ensures.between,
         subst (λ v. length v.items < length new.lines.items) (c.next_owed.ensures.lines ∙ c.matches.invariant.lines) (c.make_owed.ensures.lines yes),
         notes (subst (λ (j : Noted). NotesNoCombination j.lines new.journal.lines) same noted.0) (subst (λ (j : Noted). length j.lines < length new.journal.lines) same noted.1),
+        subst (λ (j : Noted). counted_in j.lines < counted_in new.journal.lines) same (c.make_owed.ensures.counted yes),
       );
       limit = c.make_owed.ensures.limit ∙ ap (λ (j : Noted). j.limit) same;
     }

@@ -1,4 +1,4 @@
-use Rattle.std.specs.Prelude.{◌≡◌, Ok, Err, Result}
+use Rattle.std.specs.Prelude.{Ok, Err, Result}
 use Rattle.std.proofs.Common.{refl, sym, ap, ◌∙◌, subst}
 use Rattle.std.proofs.Math.Nat.{le_refl}
 use Rattle.std.proofs.lemmas.Result.{err_from_is_err_and}
@@ -47,13 +47,18 @@ returns-in-Open g c =
     let e = c.in_ok-run_on.ensures in
     let open_now = c.in_ok-run_on.was ∙ ap (λ (x : SatEnd). Ok x) c.in-Open.is in
     record {
-      run = (
-        between_run p k b o n h (e.searching p k b level o.blocks.opened (le_refl level) h.searching) e.kept e.formulas e.lines
-            (notes_none p k b o n h (λ x told. c.run_on.ensures.instances p k b level o.blocks.opened (le_refl level) h.searching x told)),
-        record { all_true = c.run_on.ensures.open_clauses open_now; told = c.run_on.ensures.told open_now; complete = c.run_on.ensures.complete open_now },
-        no_fewer o.store o.solver.propagation.clauses o.lines.items c.run_on.new.lines.items e.lines,
-        passes_run o n refl refl (λ same. c.run_on.ensures.still open_now same) c.run_on.ensures.journal,
-      );
+      run = record {
+        between = between_run p k b o n h (e.searching p k b level o.blocks.opened (le_refl level) h.searching) e.kept e.formulas e.lines
+            (notes_none p k b o n h (λ x told. c.run_on.ensures.instances p k b level o.blocks.opened (le_refl level) h.searching x told));
+        is_open = record { all_true = c.run_on.ensures.open_clauses open_now; told = c.run_on.ensures.told open_now; complete = c.run_on.ensures.complete open_now };
+        lines = no_fewer o.store o.solver.propagation.clauses o.lines.items c.run_on.new.lines.items e.lines;
+        passes = passes_run o n refl refl (λ same. (c.run_on.ensures.still open_now same).front) c.run_on.ensures.journal;
+        blocks = refl;
+        counted = c.run_on.ensures.journal.more;
+        kept = e.kept;
+        over = e.formulas;
+        still = c.run_on.ensures.still open_now;
+      };
       limit = c.run_on.ensures.journal.limit;
     }
 

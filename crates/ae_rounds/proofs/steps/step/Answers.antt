@@ -1,25 +1,28 @@
-use Rattle.std.specs.Prelude.{◌≡◌, ◌<◌, ◌≤◌, Bool, Ok, Err, Result, length}
+use Rattle.std.specs.Prelude.{Bool, Ok, Result, length}
 use Rattle.std.proofs.Common.{sym, ap, ◌∙◌, subst, arith}
 use Rattle.ae_between_rounds.specs.Between.{IsBetweenRounds}
 use Rattle.ae_between_rounds.specs.Finished.{IsOpenSearch}
 use Rattle.ae_between_rounds.specs.declared.search.Search.{Search}
+use Rattle.ae_journal.specs.Journals.{counted_in}
+use Rattle.ae_journal.specs.Noted.{Noted}
 use Rattle.ae_opening.specs.Asking.{AllServed}
 use Rattle.ae_ordered_rounds.specs.Comes.{HasOrdered}
 use Rattle.ae_ordered_rounds.specs.Orders.{AreOrdersOf}
 use Rattle.ae_ordered_rounds.specs.declared.ordering.Ordered.{Ordered}
 use Rattle.ae_rounds.proofs.Failing.{failed_ordered, passed_on}
-use Rattle.ae_rounds.proofs.Steps.{comes_later, served_still}
-use Rattle.ae_rounds.specs.Ended.{HasComeTo, HasOpened}
-use Rattle.ae_rounds.specs.declared.rounds.Progress.{Progress}
+use Rattle.ae_rounds.proofs.Stepping.{added_by, finished_later, served_still}
+use Rattle.ae_rounds.specs.Ended.{HasOpened}
+use Rattle.ae_rounds.specs.Turns.{HasStepped, IsStep}
+use Rattle.ae_rounds.specs.declared.progress.Progress.{Progress}
 use Rattle.ae_theory.specs.declared.theory.Fail.{Fail}
-use Rattle.ae_rounds.proofs.rounds.go_on.Goals as goal
+use Rattle.ae_rounds.proofs.steps.step.Goals as goal
 
 pub open_some-requires : goal.open_some-requires
-open_some-requires g c = record { between = c.requires.between }
+open_some-requires g c = record { between = c.requires.turns.between }
 
 pub returns-in_err-open_some : goal.returns-in_err-open_some
 returns-in_err-open_some g c = record {
-  comes = passed_on (λ (r : Result Progress Fail). HasComeTo c.args.task.problem.now c.args.task.goal c.args.task.generations c.args.search.now c.open_some.new.search c.args.orders.now r)
+  stepped = passed_on (λ (r : Result Progress Fail). HasStepped c.args.task.problem.now c.args.task.goal c.args.task.generations c.args.search.now c.open_some.new.search c.args.orders.now r)
       c.from_residual.result c.in_err-open_some.field-0.0 c.from_residual.ensures.1
       (subst (λ (r : Result Bool Fail). HasOpened c.args.task.problem.now c.args.task.goal c.args.task.generations c.args.search.now c.open_some.new.search r) c.in_err-open_some.was c.open_some.ensures.opened);
   limit = c.open_some.ensures.limit;
@@ -32,7 +35,12 @@ returns-then-branch g c =
     let b = c.args.task.generations in
     let w = subst (λ (r : Result Bool Fail). HasOpened p k b c.args.search.now c.open_some.new.search r) (c.in_ok-open_some.was ∙ ap (λ (x : Bool). Ok x) c.if-branch.true) c.open_some.ensures.opened in
     record {
-      comes = (w.0, w.1, c.orders_stay.ensures p k c.args.search.now c.open_some.new.search c.args.orders.now w.2 c.requires.orders);
+      stepped = record {
+        between = w.between;
+        orders = c.orders_stay.ensures p k c.args.search.now c.open_some.new.search c.args.orders.now w.passes c.requires.turns.orders;
+        lines = w.lines;
+        added = (ap (λ (j : Noted). counted_in j.lines) w.journal, w.falls);
+      };
       limit = c.open_some.ensures.limit;
     }
 
@@ -43,10 +51,10 @@ order_round-requires g c =
     let b = c.args.task.generations in
     let w = subst (λ (r : Result Bool Fail). HasOpened p k b c.args.search.now c.open_some.new.search r) (c.in_ok-open_some.was ∙ ap (λ (x : Bool). Ok x) c.if-branch.false) c.open_some.ensures.opened in
     record {
-      between = subst (IsBetweenRounds p k b) (sym w.0) c.requires.between;
-      is_open = subst IsOpenSearch (sym w.0) c.requires.is_open;
+      between = subst (IsBetweenRounds p k b) (sym w.0) c.requires.turns.between;
+      is_open = subst IsOpenSearch (sym w.0) c.requires.turns.is_open;
       served = subst (λ (o : Search). AllServed o.solver.propagation.trail o.blocks.opened) (sym w.0) w.1;
-      orders = subst (λ (o : Search). AreOrdersOf p k o c.args.orders.now) (sym w.0) c.requires.orders;
+      orders = subst (λ (o : Search). AreOrdersOf p k o c.args.orders.now) (sym w.0) c.requires.turns.orders;
     }
 
 pub returns-in_err-order_round : goal.returns-in_err-order_round
@@ -57,7 +65,7 @@ returns-in_err-order_round g c =
     let e = c.order_round.ensures in
     let new = c.order_round.new.search in
     record {
-      comes = passed_on (λ (r : Result Progress Fail). HasComeTo p k b c.args.search.now new c.order_round.new.orders r) c.from_residual-in_err-order_round.result c.in_err-order_round.field-0.0
+      stepped = passed_on (λ (r : Result Progress Fail). HasStepped p k b c.args.search.now new c.order_round.new.orders r) c.from_residual-in_err-order_round.result c.in_err-order_round.field-0.0
           c.from_residual-in_err-order_round.ensures.1
           (failed_ordered p k b c.open_some.new.search new c.order_round.new.orders c.in_err-order_round.field-0.0
           (subst (λ (r : Result Ordered Fail). HasOrdered p k b c.open_some.new.search new c.order_round.new.orders r) c.in_err-order_round.was e.comes));
@@ -66,7 +74,7 @@ returns-in_err-order_round g c =
 
 pub returns-in-Refuted : goal.returns-in-Refuted
 returns-in-Refuted g c = record {
-  comes = subst (λ (r : Result Ordered Fail). HasOrdered c.args.task.problem.now c.args.task.goal c.args.task.generations c.open_some.new.search c.order_round.new.search c.order_round.new.orders r)
+  stepped = subst (λ (r : Result Ordered Fail). HasOrdered c.args.task.problem.now c.args.task.goal c.args.task.generations c.open_some.new.search c.order_round.new.search c.order_round.new.orders r)
       (c.in_ok-order_round.was ∙ ap (λ (x : Ordered). Ok x) c.in-Refuted.is) c.order_round.ensures.comes;
   limit = c.order_round.ensures.limit ∙ c.open_some.ensures.limit;
 }
@@ -80,7 +88,13 @@ returns-in-Added g c =
     let h = subst (λ (r : Result Ordered Fail). HasOrdered p k b c.open_some.new.search c.order_round.new.search c.order_round.new.orders r)
     (c.in_ok-order_round.was ∙ ap (λ (x : Ordered). Ok x) c.in-Added.is) c.order_round.ensures.comes in
     record {
-      comes = (h.0, subst (λ (o : Search). length o.lines.items < length c.order_round.new.search.lines.items) w.0 h.1, h.2);
+      stepped = subst (λ (o : Search). IsStep p k b c.added_since-added.result o c.order_round.new.search c.order_round.new.orders) w.0 record {
+        between = h.0;
+        orders = h.2;
+        lines = h.1;
+        added = added_by p k b c.open_some.new.search c.order_round.new.search c.counted-before.result c.added_since-added.result c.counted-before.ensures.count c.added_since-added.ensures.lines
+            c.added_since-added.ensures.same h.3;
+      };
       limit = c.order_round.ensures.limit ∙ c.open_some.ensures.limit;
     }
 
@@ -111,9 +125,9 @@ returns-in-Point g c =
     let w = subst (λ (r : Result Bool Fail). HasOpened p k b c.args.search.now c.open_some.new.search r) (c.in_ok-open_some.was ∙ ap (λ (x : Bool). Ok x) c.if-branch.false) c.open_some.ensures.opened in
     let found = subst (λ (r : Result Ordered Fail). HasOrdered p k b c.open_some.new.search c.order_round.new.search c.order_round.new.orders r)
     (c.in_ok-order_round.was ∙ ap (λ (x : Ordered). Ok x) c.in-Point.is) c.order_round.ensures.comes in
-    let fewer : length c.args.search.now.lines.items ≤ length c.order_round.new.search.lines.items =
-    omega (arith, ap (λ (o : Search). length o.lines.items) w.0, ap (λ v. length v.items) found.same.lines) in
     record {
-      comes = comes_later p k b c.args.search.now c.order_round.new.search c.finish.new.search c.order_round.new.orders c.finish.result fewer (c.finish.ensures.comes c.order_round.new.orders found.orders);
+      stepped = finished_later p k b c.args.search.now c.order_round.new.search c.finish.new.search c.order_round.new.orders c.finish.result
+          (omega (arith, ap (λ (o : Search). length o.lines.items) w.0, ap (λ v. length v.items) found.same.lines))
+          (omega (arith, ap (λ (o : Search). counted_in o.journal.lines) w.0, found.counted)) (c.finish.ensures.finished c.order_round.new.orders found.orders);
       limit = c.finish.ensures.limit ∙ c.order_round.ensures.limit ∙ c.open_some.ensures.limit;
     }
