@@ -1,6 +1,5 @@
 -- The terms of each formula of a generation are known at it.
-use Rattle.std.specs.Prelude.{ℕ, suc, ◌<◌, ◌≤◌, List, ◌≡◌, ◌⊎◌}
-use Rattle.std.specs.List.{Contains}
+use Rattle.std.specs.Prelude.{ℕ, suc, ◌≤◌, List}
 use Rattle.std.proofs.Common.{sym, subst, arith, inl, inr}
 use Rattle.ae_core.specs.declared.formulas.Formula.{Formula}
 use Rattle.ae_core.specs.declared.problems.Problem.{Problem}

@@ -1,6 +1,5 @@
 -- What is had, and what each form of formula brings.
-use Rattle.std.specs.Prelude.{ℕ, ◌<◌, ◌≤◌, List, [], ◌∷◌, ◌++◌, ◌≡◌, ◌⊎◌}
-use Rattle.std.specs.List.{Contains}
+use Rattle.std.specs.Prelude.{ℕ, ◌≤◌, List, [], ◌∷◌, ◌++◌, ◌≡◌}
 use Rattle.std.proofs.Common.{sym, subst, arith, inl, inr}
 use Rattle.ae_core.specs.declared.formulas.Formula.{Formula}
 use Rattle.ae_core.specs.declared.terms.Term.{Term}
@@ -8,7 +7,7 @@ use Rattle.ae_journal.specs.States.{outside}
 use Rattle.ae_owed.specs.Known.{IsYoung}
 use Rattle.ae_store.specs.Stores.{Stored}
 use Rattle.ae_ages.specs.Ages.{HasAge, AreAged, quantified}
-use Rattle.ae_ages.specs.Interned.{IsInterned, IsBrought, IsHad}
+use Rattle.ae_ages.specs.Interned.{IsInterned, IsBrought}
 use Rattle.ae_ages.specs.Laws.{WhatIsHadStays, BroughtOnesAreHad, BringingIsLate}
 use Rattle.ae_ages.specs.declared.entries.Aged.{Aged}
 use Rattle.ae_ages.proofs.Aging.{none_aged, both_aged}

@@ -1,7 +1,7 @@
 -- What is brought at a generation of the journal leaves no generation too small.
-use Rattle.std.specs.Prelude.{ℕ, zero, suc, ◌<◌, ◌≤◌, List, ◌++◌, ◌≡◌, ◌⊎◌}
+use Rattle.std.specs.Prelude.{ℕ, zero, suc, ◌<◌, ◌≤◌, List, ◌≡◌}
 use Rattle.std.specs.List.{Contains}
-use Rattle.std.proofs.Common.{sym, ap, ◌∙◌, subst, arith, inl, inr}
+use Rattle.std.proofs.Common.{sym, ap, ◌∙◌, arith, inl, inr}
 use Rattle.ae_core.specs.declared.formulas.Formula.{Formula}
 use Rattle.ae_core.specs.declared.problems.Signature.{Signature}
 use Rattle.ae_core.specs.declared.terms.Term.{Term}
@@ -15,10 +15,8 @@ use Rattle.ae_journal.specs.Systems.{record_fields}
 use Rattle.ae_journal.specs.declared.lines.Line.{Line}
 use Rattle.ae_core.specs.Sorts.{sort_of}
 use Rattle.ae_owed.specs.Generations.{IsJustified}
-use Rattle.ae_owed.specs.Known.{IsYoung}
 use Rattle.ae_owed.proofs.Rising.{rise_to}
 use Rattle.ae_store.specs.Stores.{Stored}
-use Rattle.ae_ages.specs.Ages.{HasAge, quantified}
 use Rattle.ae_ages.specs.Interned.{IsBrought}
 use Rattle.ae_ages.specs.Laws.{AreJustifiedAges, BringingJustifies}
 use Rattle.ae_ages.specs.declared.entries.Aged.{Aged}

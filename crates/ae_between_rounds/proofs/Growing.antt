@@ -1,6 +1,6 @@
 -- What a search holds beside the solver stays so where clauses, lines and names are more.
-use Rattle.std.specs.Prelude.{ℕ, suc, ◌<◌, ◌≤◌, ◌≡◌, ◌⊎◌, true, List, [], ◌∷◌, ◌++◌, length, slice_get, Some}
-use Rattle.std.specs.List.{AllByRecursion, Contains, flat_map}
+use Rattle.std.specs.Prelude.{ℕ, suc, ◌<◌, ◌≤◌, ◌≡◌, ◌⊎◌, true, List, [], ◌∷◌, ◌++◌, length, Some}
+use Rattle.std.specs.List.{AllByRecursion, Contains}
 use Rattle.std.proofs.Common.{refl, sym, append-nil, ap, ◌∙◌, subst, arith, inl, inr, length-append}
 use Rattle.std.proofs.lemmas.List.Elements.{Contains-append_cases, Contains-append_left}
 use Rattle.std.proofs.lemmas.Option.{same_Some}
@@ -44,7 +44,6 @@ use Rattle.ae_ages.specs.Laws.{AreJustifiedAges}
 use Rattle.ae_owners.specs.Owners.{owner_of}
 use Rattle.ae_owners.specs.declared.owners.Owner.{Owner}
 use Rattle.ae_rules.specs.Clauses.{Clause, yes_of, no_of}
-use Rattle.ae_rules.specs.Instances.{exhaustion}
 use Rattle.ae_sat.proofs.Learnt.{one_more, still_one}
 use Rattle.ae_sat.specs.Standing.{IsOneOf}
 use Rattle.ae_searching.proofs.Settings.{keeps_splits, told_before}

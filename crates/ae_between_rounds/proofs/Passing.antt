@@ -5,7 +5,6 @@ use Rattle.std.proofs.Common.{refl, sym, ap, ◌∙◌, subst, arith, append-nil
 use Rattle.ae_between_rounds.specs.Passing.{Passes}
 use Rattle.ae_between_rounds.specs.Passing.Passes.{notes, rests}
 use Rattle.ae_between_rounds.specs.declared.search.Search.{Search}
-use Rattle.ae_block_constants.specs.declared.opened.Opened.{Opened}
 use Rattle.ae_journal.specs.Journals.{counted_in}
 use Rattle.ae_journal.specs.declared.lines.Line.{Line}
 use Rattle.ae_opening.specs.declared.opening.OpenedBlocks.{OpenedBlocks}

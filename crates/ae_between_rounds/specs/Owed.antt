@@ -1,5 +1,5 @@
 -- Matches that are owed between two rounds.
-use Rattle.std.specs.Prelude.{ℕ, ◌<◌, ◌≡◌, ◌≢◌, false, List, [], length, map, slice_get, Some}
+use Rattle.std.specs.Prelude.{ℕ, ◌<◌, ◌≡◌, ◌≢◌, false, [], length, map, slice_get, Some}
 use Rattle.std.specs.List.{AllByRecursion, list_any}
 use Rattle.ae_between_rounds.specs.declared.search.Owed.{Owed}
 use Rattle.ae_between_rounds.specs.declared.search.OwedAt.{OwedAt}

@@ -1,12 +1,12 @@
 -- One line more, which says a row.
-use Rattle.std.specs.Prelude.{ℕ, suc, ℤ, pos, neg_ℤ, ◌+◌, ◌<◌, Some, ◌*ℤ◌, ◌<ℤ◌, ◌≡◌, ◌⊎◌, Bool, true, false, ◌||◌, List, [], ◌∷◌, ◌++◌, length, map}
+use Rattle.std.specs.Prelude.{ℕ, suc, ℤ, pos, neg_ℤ, ◌+◌, ◌<◌, Some, ◌*ℤ◌, ◌<ℤ◌, ◌≡◌, ◌⊎◌, Bool, true, false, ◌||◌, List, [], ◌∷◌, ◌++◌, length}
 use Rattle.std.specs.List.{AllByRecursion}
 use Rattle.std.proofs.Common.{arith, refl, sym, ap, ◌∙◌, subst, inl, inr, length-append}
 use Rattle.ae_base.proofs.AllOf.{all_push}
 use native.Mathlib.Decide.{ℕ_discrete}
 use lib.IntN.{*ℤ-one}
 use borrow.Author.Differences.{ints}
-use Rattle.ae_math.specs.Fractions.{ℚ, zero_ℚ, one_ℚ, ◌*ℚ◌, whole}
+use Rattle.ae_math.specs.Fractions.{zero_ℚ, one_ℚ, ◌*ℚ◌, whole}
 use Rattle.ae_math.specs.Forms.{Form, SameForm, number, plus, scale}
 use Rattle.ae_math.proofs.FractionLaws.{mul_comm_q, one_mul_q'}
 use Rattle.ae_math.proofs.FormLaws.{same_sym, same_trans, plus_comm, zero_plus, scale_one}
@@ -19,11 +19,11 @@ use Rattle.ae_core.specs.declared.proofs.Deriv.{Deriv}
 use Rattle.ae_core.specs.declared.proofs.Relation.{Relation}
 use Rattle.ae_core.specs.declared.proofs.Relation.TheVariants.{Equal, AtMost, Below}
 use Rattle.ae_num.specs.declared.forms.Lin.{Lin}
-use Rattle.ae_num.specs.Forms.{meaning, IsNormal, SameMeaning, factor_of as lin_factor}
+use Rattle.ae_num.specs.Forms.{meaning, IsNormal, factor_of as lin_factor}
 use Rattle.ae_num.specs.declared.forms.Part.{Part}
 use Rattle.ae_num.specs.Limits.{FitsLimits}
 use Rattle.ae_num.proofs.MeaningLaws.{product_positive}
-use Rattle.ae_rows.specs.Rows.{mixture, combination}
+use Rattle.ae_rows.specs.Rows.{mixture}
 use Rattle.ae_ineq.specs.Inner.Sets.{last_part}
 use Rattle.ae_ineq.proofs.LastLaws.{rising_last, last_within}
 use Rattle.ae_ineq.proofs.LineNumbers.{factor_within, times_within}
@@ -34,7 +34,7 @@ use Rattle.ae_rules.specs.Built.{HasFactorsWithin}
 use Rattle.ae_rules.specs.Linear.{IsSame}
 use Rattle.ae_rules.specs.Lines.{Fact, Stated, Allowed, AllAllowed, fact_ok, HaveSort, MayCount, gap, total, states}
 use Rattle.ae_rules.proofs.Written.{all_append, stated_before, stated_last}
-use Rattle.ae_row_lines.specs.Says.{Says, Used, shares_of, SaysCombination, parts_of_line}
+use Rattle.ae_row_lines.specs.Says.{Says, Used, SaysCombination, parts_of_line}
 use Rattle.ae_row_lines.proofs.Sums.{mixture_sums}
 use Rattle.ae_row_lines.proofs.TwoRows.{at_most_line, below_line}
 use Rattle.ae_store.specs.Terms.{named}

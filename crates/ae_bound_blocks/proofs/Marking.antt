@@ -1,12 +1,11 @@
 -- The marks of the rows that a row is made of.
-use Rattle.std.specs.Prelude.{ℕ, zero, suc, ◌+◌, ◌<◌, ◌≤◌, ◌≡◌, ◌↔◌, ◌⊎◌, Bool, true, false, List, [], ◌∷◌, ◌++◌, map, length, take, set, get_or, slice_get, slice_index_or, Option, Some, None}
+use Rattle.std.specs.Prelude.{ℕ, zero, suc, ◌+◌, ◌<◌, ◌≤◌, ◌≡◌, ◌↔◌, ◌⊎◌, Bool, true, false, List, [], ◌∷◌, ◌++◌, length, take, set, get_or, slice_get, Option, Some, None}
 use Rattle.std.specs.List.{Contains}
 use Rattle.std.proofs.Common.{arith, refl, sym, ap, ◌∙◌, subst, inl, inr}
 use Rattle.std.proofs.lemmas.List.{length-map, length-take-le}
 use Rattle.std.proofs.lemmas.Option.{slice_get-get_or}
 use Rattle.ae_base.proofs.ListFacts.{get_front}
 use Rattle.ae_base.specs.Options.{or_else, ◌>>=◌}
-use Rattle.ae_core.specs.declared.proofs.ClauseLine.{ClauseLine}
 use Rattle.ae_journal.proofs.Splits.{all_contained}
 use Rattle.ae_bounds.specs.declared.rows.Row.{Row}
 use Rattle.ae_bounds.specs.declared.rows.Unrounded.{Unrounded}
@@ -14,7 +13,7 @@ use Rattle.ae_bounds.specs.declared.rows.Origin.{Origin}
 use Rattle.ae_bounds.specs.declared.rows.Origin.TheVariants.{Assumed, Combined}
 use Rattle.ae_bounds.specs.Combinations.{IsCombined}
 use Rattle.ae_bounds.specs.Findings.{AreFounded}
-use Rattle.ae_trim.specs.Used.{hints_of, hints_at, HintEarlier, IsUsed, last, hinted}
+use Rattle.ae_trim.specs.Used.{hints_at, HintEarlier, IsUsed, last, hinted}
 use Rattle.ae_trim.specs.Inner.Marks.{marked, AreMarked, MarkUsed}
 use Rattle.ae_trim.proofs.Marking.{marked_none, marked_turn}
 use Rattle.ae_bound_blocks.specs.Ancestors.{parents, summands, sources, sources_at, IsSource, itself, parent, tag_of, tags_of}

@@ -1,18 +1,16 @@
 -- The lines of one row more.
-use Rattle.std.specs.Prelude.{ℕ, zero, suc, ◌+◌, ◌<◌, ◌≡◌, ◌⊎◌, Bool, true, false, ◌||◌, List, [], ◌∷◌, ◌++◌, take, length, slice_get, get_or, Option, Some, None}
+use Rattle.std.specs.Prelude.{ℕ, zero, suc, ◌+◌, ◌<◌, ◌≡◌, Bool, true, false, ◌||◌, List, [], ◌∷◌, ◌++◌, take, length, slice_get, get_or, Option, Some, None}
 use Rattle.std.specs.List.{Contains, flat_map}
 use Rattle.std.proofs.Common.{arith, refl, sym, ap, ◌∙◌, subst, inl, inr, append_assoc, append-nil}
 use Rattle.std.proofs.lemmas.Bool.{cases_lt, true≢false}
 use Rattle.std.proofs.lemmas.List.{get_or_append_left, get_or_at, length_push}
 use Rattle.std.proofs.lemmas.Grind.{flat_map-append}
-use Rattle.std.proofs.lemmas.Option.{slice_get-get_or, get_or_from_slice_get, slice_get_within}
+use Rattle.std.proofs.lemmas.Option.{slice_get-get_or, get_or_from_slice_get}
 use Rattle.ae_base.specs.Options.{or_else, ◌>>=◌}
 use Rattle.ae_base.proofs.Tests.{false_true}
 use Rattle.ae_base.proofs.ListFacts.{get_front}
-use Rattle.ae_core.specs.declared.formulas.Lit.{Lit}
 use Rattle.ae_core.specs.declared.terms.Term.{Term}
 use Rattle.ae_core.specs.declared.problems.Signature.{Signature}
-use Rattle.ae_core.specs.declared.proofs.EqLine.{EqLine}
 use Rattle.ae_num.specs.Forms.{IsNormal}
 use Rattle.ae_rules.specs.Lines.{Stated, AllAllowed, fact_ok}
 use Rattle.ae_num.specs.declared.forms.Lin.{Lin}
@@ -20,8 +18,7 @@ use Rattle.ae_bounds.specs.declared.rows.Row.{Row}
 use Rattle.ae_bounds.specs.declared.rows.Unrounded.{Unrounded}
 use Rattle.ae_bounds.specs.Rounding.{IsRowOf}
 use Rattle.ae_bounds.specs.Rounding.IsRowOf.{as_it_is, rounded}
-use Rattle.ae_bounds.specs.declared.rows.Origin.{Origin}
-use Rattle.ae_bounds.specs.declared.rows.Origin.TheVariants.{Assumed, Combined}
+use Rattle.ae_bounds.specs.declared.rows.Origin.TheVariants.{Combined}
 use Rattle.ae_trim.specs.Inner.Marks.{marked}
 use Rattle.ae_bound_blocks.specs.declared.given.Given.{Given}
 use Rattle.ae_bound_blocks.specs.declared.emitting.Emitted.{Emitted}

@@ -1,5 +1,5 @@
 -- The line that says a rounded row, after the one that says the form that it had.
-use Rattle.std.specs.Prelude.{ℕ, suc, pos, ◌+◌, ◌<◌, ◌≡◌, Bool, true, false, List, [], ◌∷◌, ◌++◌, length, Option, Some, None}
+use Rattle.std.specs.Prelude.{ℕ, suc, pos, ◌+◌, ◌≡◌, Bool, false, List, [], ◌∷◌, ◌++◌, length, Option, Some, None}
 use Rattle.std.proofs.Common.{arith, refl, sym, ap, ◌∙◌, subst, length-append}
 use Rattle.ae_base.proofs.AllOf.{all_push}
 use Rattle.ae_core.specs.declared.terms.Term.{Term}
@@ -9,7 +9,7 @@ use Rattle.ae_core.specs.declared.proofs.EqLine.{EqLine}
 use Rattle.ae_core.specs.declared.proofs.Deriv.{Deriv}
 use Rattle.ae_num.specs.declared.forms.Lin.{Lin}
 use Rattle.ae_num.specs.Forms.{meaning, IsNormal}
-use Rattle.ae_rules.specs.Lines.{Fact, Stated, AllowedRound, AllAllowed, fact_ok, HaveSort}
+use Rattle.ae_rules.specs.Lines.{Stated, AllowedRound, AllAllowed, fact_ok, HaveSort}
 use Rattle.ae_rules.proofs.Written.{all_append, stated_before, stated_last}
 use Rattle.ae_rounding.specs.Laws.{AreOpaque}
 use Rattle.ae_rounding.proofs.Lines.{rounds}

@@ -1,9 +1,9 @@
 -- A form written out says the row.
-use Rattle.std.specs.Prelude.{ℕ, ℤ, pos, ◌≡◌, ◌*ℤ◌, ◌<ℤ◌, Bool, List, [], ◌∷◌, map}
+use Rattle.std.specs.Prelude.{ℕ, ℤ, pos, ◌≡◌, ◌<ℤ◌, Bool, List, [], ◌∷◌, map}
 use Rattle.std.proofs.Common.{refl, sym, ap, ◌∙◌}
 use Rattle.ae_math.specs.Fractions.{ℚ, zero_ℚ, one_ℚ, neg_ℚ, ◌+ℚ◌, ◌*ℚ◌, ratio, whole}
-use Rattle.ae_math.specs.Forms.{sum_of, value, minus}
-use Rattle.ae_math.proofs.FractionLaws.{field, mul_zero_q, zero_mul_q, add_zero_q, zero_add_q, one_mul_q, add_assoc_q}
+use Rattle.ae_math.specs.Forms.{sum_of, value}
+use Rattle.ae_math.proofs.FractionLaws.{field, mul_zero_q, zero_mul_q, add_zero_q, zero_add_q, add_assoc_q}
 use Rattle.ae_math.proofs.FormLaws.{factor_in-append, factor_in-scale, minus_factor}
 use Rattle.ae_core.specs.Decided.{Term_discrete}
 use Rattle.ae_core.specs.declared.terms.Term.{Term}

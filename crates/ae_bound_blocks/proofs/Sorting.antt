@@ -1,22 +1,20 @@
 -- The terms of a row that is written out are numbers of the sort of its names.
-use Rattle.std.specs.Prelude.{ℕ, ℤ, pos, ◌≡◌, ◌<◌, Bool, true, false, ◌&&◌, List, [], ◌∷◌, map, length, Option, Some, None}
+use Rattle.std.specs.Prelude.{ℕ, ℤ, ◌≡◌, ◌<◌, Bool, true, false, List, [], ◌∷◌, length, Option, Some, None}
 use Rattle.std.specs.List.{AllByRecursion}
 use Rattle.std.proofs.Common.{refl, sym, ap, ◌∙◌, inl, inr}
 use Rattle.std.proofs.lemmas.Bool.{cases_lt}
 use Rattle.std.proofs.lemmas.Option.{slice_get_past}
 use Rattle.ae_base.specs.Options.{or_else}
 use Rattle.ae_core.specs.Sorts.{sort_of, is_closed_sort}
-use Rattle.ae_core.specs.declared.terms.Sort.{Sort, Int, Real}
+use Rattle.ae_core.specs.declared.terms.Sort.{Sort}
 use Rattle.ae_core.specs.declared.terms.Term.{Term, Bound}
 use Rattle.ae_core.specs.declared.problems.Signature.{Signature}
-use Rattle.ae_core.specs.declared.proofs.EqLine.{EqLine}
 use Rattle.ae_core.proofs.SortLaws.{sort_in_bound}
 use Rattle.ae_num.specs.declared.forms.Part.{Part}
 use Rattle.ae_num.specs.declared.forms.Lin.{Lin}
 use Rattle.ae_num.specs.Forms.{IsNormal}
 use Rattle.ae_rules.specs.Lines.{fact_ok, states, HaveSort, IsNumeric}
 use Rattle.ae_numeric.proofs.FitLaws.{of_sort}
-use Rattle.ae_store.specs.Terms.{named}
 use Rattle.ae_just.specs.Sides.{ArePartsWithin}
 use Rattle.ae_state_steps.specs.ValueSteps.{sort_for, times_of, IsNumberName}
 use Rattle.ae_state_steps.proofs.SideSorts.{form_sorted, nothing_sorted}

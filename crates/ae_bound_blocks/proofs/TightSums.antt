@@ -1,5 +1,5 @@
 -- A combination that is 0 is a positive sum of rows that were assumed or rounded.
-use Rattle.std.specs.Prelude.{ℕ, zero, suc, ◌+◌, ◌<◌, ◌≤◌, ◌≡◌, ◌⊎◌, Bool, true, false, ◌||◌, List, [], ◌∷◌, ◌++◌, Option, Some, None, map, length, take, slice_get}
+use Rattle.std.specs.Prelude.{ℕ, zero, suc, ◌+◌, ◌<◌, ◌≡◌, ◌⊎◌, Bool, false, ◌||◌, List, [], ◌∷◌, ◌++◌, Option, Some, None, map, length, take, slice_get}
 use Rattle.std.specs.List.{Contains}
 use Rattle.std.proofs.Common.{arith, refl, sym, ap, ◌∙◌, subst, inl, inr}
 use Rattle.std.proofs.lemmas.List.{length-take-le}
@@ -8,7 +8,7 @@ use Rattle.std.proofs.lemmas.List.Elements.{Contains-append_left, Contains-appen
 use Rattle.std.proofs.Math.Bool.{or-false, or_assoc}
 use native.Mathlib.Decide.{ℕ_discrete}
 use Rattle.ae_base.proofs.ListFacts.{get_front}
-use Rattle.ae_math.specs.Fractions.{ℚ, one_ℚ, neg_ℚ, ◌*ℚ◌, is_positive}
+use Rattle.ae_math.specs.Fractions.{ℚ, one_ℚ, neg_ℚ, ◌*ℚ◌}
 use Rattle.ae_math.specs.Forms.{SameForm, plus, scale}
 use Rattle.ae_math.proofs.FormLaws.{same_sym, same_trans, plus-same, scale-same}
 use Rattle.ae_num.specs.declared.forms.Lin.{Lin}
@@ -26,7 +26,7 @@ use Rattle.ae_bounds.specs.declared.rows.Origin.{Origin}
 use Rattle.ae_bounds.specs.declared.rows.Origin.TheVariants.{Assumed, Combined}
 use Rattle.ae_bounds.specs.Findings.{AreFounded, IsTightAt}
 use Rattle.ae_bounds.proofs.Sums.{some_none, plain_is, lower_nonzero, upper_nonzero, row_nonzero}
-use Rattle.ae_bound_blocks.specs.Ancestors.{parents, summands, sources, sources_at, IsSource, itself, parent}
+use Rattle.ae_bound_blocks.specs.Ancestors.{summands, sources, sources_at, IsSource, itself, parent}
 use Rattle.ae_trim.specs.Inner.Marks.{MarkUsed}
 use Rattle.ae_bound_blocks.specs.Inner.Marks.{as_lines}
 use Rattle.ae_bound_blocks.specs.Inner.Listed.{AreListed}

@@ -1,6 +1,6 @@
 -- The rows that a row is made of, and the tags under which these were assumed.
 use Rattle.std.specs.Prelude.{ℕ, Bool, true, false, Option, None, List, [], ◌∷◌, ◌++◌, ◌≡◌, ◌↔◌, slice_get, slice_index_or, Some}
-use Rattle.std.specs.List.{Contains, flat_map}
+use Rattle.std.specs.List.{Contains}
 use Rattle.ae_base.specs.Options.{or_else, ◌>>=◌}
 use Rattle.ae_core.specs.declared.formulas.Lit.{Lit}
 use Rattle.ae_bounds.specs.declared.rows.Row.{Row}

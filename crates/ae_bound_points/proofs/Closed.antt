@@ -1,9 +1,9 @@
 -- Rows without a combination that is left are a closed set, and its numbers are positive.
 use Rattle.std.specs.Prelude.{ℕ, Bool, true, false, ◌||◌, ◌≡◌, Some, List}
 use Rattle.std.specs.List.{Contains}
-use Rattle.std.proofs.Common.{arith, refl, sym, ap, ◌∙◌, subst, inl, inr}
+use Rattle.std.proofs.Common.{arith, refl, sym, subst, inl, inr}
 use native.Mathlib.Decide.{ℕ_discrete}
-use Rattle.ae_math.specs.Fractions.{ℚ, zero_ℚ, one_ℚ, neg_ℚ, is_positive}
+use Rattle.ae_math.specs.Fractions.{ℚ, one_ℚ, neg_ℚ, is_positive}
 use Rattle.ae_math.specs.Forms.{Form, scale, value}
 use Rattle.ae_math.proofs.FormLaws.{scale_one, same_trans}
 use Rattle.ae_math.proofs.FractionOrder.{neither_positive}

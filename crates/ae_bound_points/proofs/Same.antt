@@ -1,5 +1,5 @@
 -- Sets that have the same forms with names have the same points, and the same steps that leave the limits.
-use Rattle.std.specs.Prelude.{ℕ, ◌<◌, ◌≡◌, ◌⊎◌, Option}
+use Rattle.std.specs.Prelude.{ℕ, ◌⊎◌, Option}
 use Rattle.std.proofs.Common.{inl, inr}
 use Rattle.ae_math.specs.Fractions.{ℚ}
 use Rattle.ae_math.specs.Forms.{Form}

@@ -3,9 +3,9 @@ use Rattle.std.specs.Prelude.{ℕ, ◌≡◌, ◌⊎◌, Bool, true, false}
 use Rattle.std.proofs.Common.{refl, sym, ap, ◌∙◌, subst, inl, inr}
 use Rattle.std.proofs.lemmas.List.{append-nil}
 use native.Mathlib.Decide.{ℕ_discrete}
-use Rattle.ae_math.specs.Fractions.{ℚ, zero_ℚ, one_ℚ, neg_ℚ, ◌+ℚ◌, ◌*ℚ◌, is_positive}
-use Rattle.ae_math.specs.Forms.{Form, plus, scale, number, factor_in, SameForm}
-use Rattle.ae_math.proofs.FractionLaws.{zero_add_q, add_zero_q, mul_zero_q, mul_assoc_q, mul_comm_q, add_assoc_q, mul_add_q, neg_zero_q}
+use Rattle.ae_math.specs.Fractions.{ℚ, zero_ℚ, neg_ℚ, ◌+ℚ◌, ◌*ℚ◌, is_positive}
+use Rattle.ae_math.specs.Forms.{Form, plus, scale, number, factor_in}
+use Rattle.ae_math.proofs.FractionLaws.{zero_add_q, add_zero_q, mul_zero_q, mul_assoc_q, add_assoc_q, mul_add_q, neg_zero_q}
 use Rattle.ae_math.proofs.FractionOrder.{positive_sum, positive_product, positive_zero, not_both_positive, neither_positive}
 use Rattle.ae_math.proofs.FormLaws.{factor_in-scale}
 use Rattle.ae_rows.specs.Rows.{factor_at}

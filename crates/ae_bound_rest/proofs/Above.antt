@@ -1,9 +1,9 @@
 -- Forms of which a positive multiple is another one and a number that isn't negative; where the form is strict, the number is positive or the other one strict.
 use Rattle.std.specs.Prelude.{ℕ, suc, ◌≡◌, ◌⊎◌, Bool, true, false, ◌||◌}
-use Rattle.std.proofs.Common.{refl, sym, ap, ◌∙◌, subst, inl, inr}
+use Rattle.std.proofs.Common.{refl, sym, ap, ◌∙◌, inl, inr}
 use native.Mathlib.Decide.{ℕ_discrete}
 use Rattle.ae_math.specs.Fractions.{ℚ, zero_ℚ, neg_ℚ, ◌+ℚ◌, ◌*ℚ◌, is_positive}
-use Rattle.ae_math.specs.Forms.{Form, plus, scale, number, SameForm}
+use Rattle.ae_math.specs.Forms.{Form}
 use Rattle.ae_math.proofs.FractionLaws.{field, add_comm_q, add_zero_q, mul_neg_q, mul_zero_q}
 use Rattle.ae_math.proofs.FractionOrder.{positive_sum}
 use Rattle.ae_math.proofs.FormLaws.{factor_in-scale}

@@ -1,7 +1,7 @@
 -- Rows that agree with a journal, and one combination more.
-use Rattle.std.specs.Prelude.{ℕ, Bool, true, false, ◌&&◌, ◌||◌, pos, List, [], ◌∷◌, ◌++◌, ◌≡◌, ◌≢◌, ◌⊎◌, slice_get, Some}
-use Rattle.std.specs.List.{AllByRecursion, Contains}
-use Rattle.std.proofs.Common.{refl, sym, ap, ◌∙◌, subst, inl, inr, append_assoc}
+use Rattle.std.specs.Prelude.{ℕ, Bool, true, ◌&&◌, pos, List, [], ◌∷◌, ◌++◌, ◌≡◌, ◌≢◌}
+use Rattle.std.specs.List.{Contains}
+use Rattle.std.proofs.Common.{refl, sym, ap, ◌∙◌, subst, inl, inr}
 use Rattle.std.proofs.lemmas.Bool.{and_parts}
 use Rattle.std.proofs.lemmas.List.Elements.{Contains-append_left, Contains-append_right, Contains-append_cases}
 use Rattle.ae_base.proofs.AllOf.{all_both}
@@ -11,24 +11,18 @@ use Rattle.ae_math.specs.Forms.{Form}
 use Rattle.ae_math.proofs.FractionLaws.{mul_zero_q, neg_zero_q}
 use Rattle.ae_math.proofs.FractionOrder.{positive_zero}
 use Rattle.ae_math.proofs.Wholes.{ratio_is_zero}
-use Rattle.ae_core.specs.Sorts.{sort_of}
 use Rattle.ae_core.specs.declared.terms.Term.{Term}
-use Rattle.ae_core.specs.declared.terms.Sort.{Int}
-use Rattle.ae_core.specs.declared.formulas.Lit.{Lit}
 use Rattle.ae_num.specs.declared.forms.Part.{Part}
 use Rattle.ae_num.specs.declared.forms.Lin.{Lin}
 use Rattle.ae_num.specs.Forms.{meaning, factor_of, IsNormal}
 use Rattle.ae_num.proofs.MeaningLaws.{factor_meaning}
 use Rattle.ae_rows.specs.Rows.{factor_at, combination, IsLower, IsUpper}
 use Rattle.ae_rows.proofs.Elimination.{positive_nonzero}
-use Rattle.ae_journal.specs.Values.{Sum, sum_of_lin, sum_in, minus_val}
-use Rattle.ae_journal.specs.States.{inequality}
-use Rattle.ae_journal.specs.Journals.{OnlyCombines}
+use Rattle.ae_journal.specs.Values.{sum_of_lin, sum_in, minus_val}
 use Rattle.ae_journal.specs.Sides.{AreWhole}
-use Rattle.ae_journal.specs.Standing.{Setting, SurelyStands, IsWholeRow, value_now}
+use Rattle.ae_journal.specs.Standing.{Setting, IsWholeRow, value_now}
 use Rattle.ae_journal.specs.Standing.IsWholeRow.{of_inequality, of_combine, of_rounding}
 use Rattle.ae_journal.proofs.Growing.{further}
-use Rattle.ae_journal.specs.Rows.{IsRow}
 use Rattle.ae_journal.specs.declared.lines.Line.{Line}
 use Rattle.ae_journal.specs.declared.lines.Line.TheVariants as line
 use Rattle.ae_journal.proofs.Splits.{contains_here, contains_one, contains_at}
@@ -40,7 +34,7 @@ use Rattle.ae_ineq.specs.Sums.{IsZero}
 use Rattle.ae_bounds.specs.declared.rows.Row.{Row}
 use Rattle.ae_bounds.specs.declared.rows.Origin.{Origin}
 use Rattle.ae_bounds.specs.declared.rows.Origin.TheVariants.{Assumed, Combined}
-use Rattle.ae_bounds.specs.Combinations.{IsCombined, IsCombinationOf, IsExtended}
+use Rattle.ae_bounds.specs.Combinations.{IsCombined, IsExtended}
 use Rattle.ae_bounds.specs.Combinations.IsExtended.{as_it_was, one_more, zero_more}
 use Rattle.ae_bound_lines.proofs.Legal.{standing_more, extended}
 use Rattle.ae_bound_points.proofs.Closed.{combination_weaker}

@@ -1,5 +1,5 @@
 -- Rows that count, and combinations that were noted and added.
-use Rattle.std.specs.Prelude.{ℕ, suc, ◌<◌, Bool, true, false, ◌&&◌, ◌||◌, List, [], ◌∷◌, ◌++◌, map, take, length, ◌≡◌, ◌≢◌, ◌⊎◌, Option, Some, None, Result, Ok, Err, OnOk, OnErr, IfSome, IfNone}
+use Rattle.std.specs.Prelude.{ℕ, suc, ◌<◌, Bool, true, false, ◌&&◌, ◌||◌, List, [], ◌∷◌, ◌++◌, map, take, length, ◌≡◌, ◌≢◌, Option, Some, None, Result, Ok, Err, OnOk, OnErr, IfSome, IfNone}
 use Rattle.std.specs.List.{AllByRecursion, Contains}
 use Rattle.std.proofs.Common.{refl, sym, ap, ◌∙◌, subst, arith, inl, inr, get_or, append_assoc}
 use Rattle.std.proofs.Math.Seq.{take-suc}

@@ -1,13 +1,13 @@
 -- Each row that counts is above a kept row, so the widths of the making of the point of the kept rows are licensed.
-use Rattle.std.specs.Prelude.{ℕ, suc, pos, ◌-ℤ◌, ◌<◌, Bool, true, false, ◌&&◌, ◌||◌, List, [], ◌∷◌, ◌++◌, map, ◌≡◌, ◌≢◌, ◌⊎◌, Option, Some, None, length}
-use Rattle.std.specs.List.{AllByRecursion, Contains}
-use Rattle.std.proofs.Common.{refl, sym, ap, ◌∙◌, subst, arith, inl, inr}
+use Rattle.std.specs.Prelude.{ℕ, pos, ◌-ℤ◌, Bool, true, false, ◌&&◌, ◌||◌, List, [], ◌∷◌, map, ◌≡◌, ◌≢◌, ◌⊎◌, Option, Some, None, length}
+use Rattle.std.specs.List.{Contains}
+use Rattle.std.proofs.Common.{refl, sym, ap, ◌∙◌, subst, inl, inr}
 use Rattle.std.proofs.lemmas.Bool.{and_parts}
 use Rattle.std.proofs.lemmas.List.Elements.{Contains-append_cases}
 use native.Mathlib.Decide.{ℕ_discrete}
 use Rattle.ae_base.proofs.Tests.{true_false}
 use Rattle.ae_math.specs.Fractions.{ℚ, zero_ℚ, one_ℚ, neg_ℚ, ◌*ℚ◌, ratio, is_positive}
-use Rattle.ae_math.specs.Forms.{Form, SameForm, scale, plus, number}
+use Rattle.ae_math.specs.Forms.{Form, SameForm, scale}
 use Rattle.ae_math.proofs.FractionLaws.{mul_zero_q, neg_zero_q, cancel_q}
 use Rattle.ae_math.proofs.FractionOrder.{positive_zero}
 use Rattle.ae_math.proofs.FormLaws.{scale_one, same_trans, factor_in-scale}
@@ -21,7 +21,6 @@ use Rattle.ae_rows.proofs.Choosing.{positive_one}
 use Rattle.ae_rows.proofs.Elimination.{positive_nonzero}
 use Rattle.ae_journal.specs.Sides.{IsRounded}
 use Rattle.ae_journal.specs.Values.{Sum, leaf_factor, sum_of_lin}
-use Rattle.ae_journal.specs.TermValues.{IsLargest}
 use Rattle.ae_journal.specs.Standing.{Setting}
 use Rattle.ae_journal.specs.Rows.{IsRow}
 use Rattle.ae_journal.specs.Licences.{IsLicensed}
@@ -36,8 +35,7 @@ use Rattle.ae_ineq.specs.Widths.{IsPointWide}
 use Rattle.ae_ineq.proofs.RowSets.{multiples_meet}
 use Rattle.ae_bounds.specs.declared.rows.Row.{Row}
 use Rattle.ae_bounds.specs.declared.rows.Unrounded.{Unrounded}
-use Rattle.ae_bounds.specs.declared.rows.Origin.{Origin}
-use Rattle.ae_bounds.specs.declared.rows.Origin.TheVariants.{Assumed, Combined}
+use Rattle.ae_bounds.specs.declared.rows.Origin.TheVariants.{Assumed}
 use Rattle.ae_bounds.specs.Rounding.{StaysUnrounded, DoesCount, IsRowOf, HasForm, IsLeastRounded, WasRounded, AreSettled}
 use Rattle.ae_bounds.specs.Rounding.StaysUnrounded.{a_number, outside, no_change}
 use Rattle.ae_bounds.specs.Rounding.IsRowOf.{as_it_is, rounded}

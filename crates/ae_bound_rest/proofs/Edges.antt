@@ -1,11 +1,9 @@
 -- Forms over integers that a strict row can't be rounded from: the constant is the least within the limits, and the factors have no divisor in common.
-use Rattle.std.specs.Prelude.{ℕ, zero, suc, ℤ, pos, negsuc, ◌≡◌, ◌≢◌, ◌⊎◌, ◌<◌, ◌≤◌, ◌+◌, ◌*◌, ◌^◌, ◌*ℤ◌, ◌+ℤ◌, ◌-ℤ◌, ◌<ℤ◌, ◌≤ℤ◌, Bool, true, false, List, [], ◌∷◌, map, unsigned_abs}
+use Rattle.std.specs.Prelude.{ℕ, zero, suc, ℤ, pos, negsuc, ◌≡◌, ◌≢◌, ◌⊎◌, ◌<◌, ◌≤◌, ◌*◌, ◌^◌, ◌*ℤ◌, ◌+ℤ◌, ◌-ℤ◌, ◌<ℤ◌, ◌≤ℤ◌, Bool, true, false, [], map, unsigned_abs}
 use Rattle.std.proofs.Common.{arith, refl, sym, ap, ◌∙◌, subst, inl, inr, mul-le-mul_left}
 use native.Mathlib.Decide.{ℕ_discrete}
 use lib.IntN.{zero-*ℤ}
 use borrow.Author.Differences.{ints}
-use Rattle.ae_math.specs.Fractions.{ℚ}
-use Rattle.ae_math.specs.Forms.{Form}
 use Rattle.ae_math.specs.Inner.Integers.{add_mul_z}
 use Rattle.ae_math.proofs.FormLaws.{factor_in-scale}
 use Rattle.ae_num.specs.declared.forms.Lin.{Lin}

@@ -1,7 +1,6 @@
 -- What the lines of the rest are, and the widths of its combinations.
-use Rattle.std.specs.Prelude.{ℕ, List, ◌++◌, ◌≡◌, map, Some}
-use Rattle.std.specs.List.{Contains}
-use Rattle.std.proofs.Common.{refl, sym, ◌∙◌, subst, inl}
+use Rattle.std.specs.Prelude.{ℕ, List, ◌++◌, ◌≡◌, Some}
+use Rattle.std.proofs.Common.{sym, ◌∙◌, subst, inl}
 use Rattle.ae_num.specs.declared.forms.Lin.{Lin}
 use Rattle.ae_num.specs.Forms.{IsNormal, first_wide}
 use Rattle.ae_journal.specs.Values.{sum_of_lin}

@@ -1,6 +1,6 @@
 -- Each line of the rest is legal, and each row that counts stands.
-use Rattle.std.specs.Prelude.{ℕ, ◌<◌, Bool, true, false, ◌&&◌, ◌||◌, List, [], ◌∷◌, ◌++◌, map, ◌≡◌, ◌≢◌, ◌⊎◌, length, Option, Some, None}
-use Rattle.std.specs.List.{AllByRecursion, Contains}
+use Rattle.std.specs.Prelude.{ℕ, Bool, true, false, ◌&&◌, ◌||◌, List, [], ◌∷◌, ◌++◌, map, ◌≡◌, ◌≢◌, length, None}
+use Rattle.std.specs.List.{Contains}
 use Rattle.std.proofs.Common.{refl, sym, ap, ◌∙◌, subst, arith, inl, inr, append_assoc}
 use Rattle.std.proofs.lemmas.List.{append-nil}
 use Rattle.std.proofs.lemmas.List.Elements.{Contains-append_left, Contains-append_right, Contains-append_cases}
@@ -8,10 +8,9 @@ use Rattle.ae_math.specs.Fractions.{ℚ, zero_ℚ, neg_ℚ, is_positive}
 use Rattle.ae_math.proofs.FractionLaws.{neg_zero_q}
 use Rattle.ae_num.specs.declared.forms.Lin.{Lin}
 use Rattle.ae_num.specs.Forms.{meaning, IsNormal, SameMeaning}
-use Rattle.ae_rows.specs.Rows.{factor_at, combination, IsOver, IsLower, IsUpper}
+use Rattle.ae_rows.specs.Rows.{factor_at, combination, IsOver}
 use Rattle.ae_rows.proofs.Elimination.{over_combination}
 use Rattle.ae_journal.specs.Values.{Sum, sum_of_lin}
-use Rattle.ae_journal.specs.Sides.{AreWhole, IsRounded}
 use Rattle.ae_journal.specs.Standing.{Setting, IsWholeRow}
 use Rattle.ae_journal.specs.Standing.IsWholeRow.{of_combine, of_rounding}
 use Rattle.ae_journal.specs.Rows.{IsRow, IsMultiple, MayCombine}
@@ -39,7 +38,7 @@ use Rattle.ae_bound_lines.proofs.Legal.{positive_apart, named_below, legal_push}
 use Rattle.ae_bound_widths.specs.Fractions.{AreFinished}
 use Rattle.ae_bound_rest.specs.Rest.{plain, counted, counted_of, IsRoundingOf, IsStandingIn, AreOpposedIn, IsFormRow, IsMade, IsGrown}
 use Rattle.ae_bound_rest.specs.Rest.IsGrown.{as_it_was, one_more}
-use Rattle.ae_bound_rest.specs.Laws.{IsWholeName, IsStanding, IsSorted, AreAgreed}
+use Rattle.ae_bound_rest.specs.Laws.{IsStanding, IsSorted, AreAgreed}
 use Rattle.ae_bound_rest.specs.Inner.Pairs.{IsPlain}
 use Rattle.ae_bound_rest.proofs.Counting.{counted_cases, counted_plain, counted_does, made_counts, plain_grown, unrounded_none}
 use Rattle.ae_bound_rest.proofs.Agreed.{all_whole, combined_sorted, names_weaker, standing_stays, own_standing}

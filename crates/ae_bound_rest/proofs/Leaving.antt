@@ -1,16 +1,16 @@
 -- After the rest was noted no combination is left.
-use Rattle.std.specs.Prelude.{ℕ, ◌<◌, Bool, true, false, ◌&&◌, ◌||◌, Option, Some, None, List, [], ◌∷◌, ◌++◌, map, ◌≡◌, ◌≢◌, ◌⊎◌}
+use Rattle.std.specs.Prelude.{ℕ, Bool, true, false, ◌&&◌, ◌||◌, Option, Some, None, List, [], ◌∷◌, ◌++◌, map, ◌≡◌, ◌≢◌}
 use Rattle.std.specs.List.{Contains}
 use Rattle.std.proofs.Common.{refl, sym, ap, ◌∙◌, subst, arith, inl, inr, append_assoc}
 use Rattle.std.proofs.lemmas.List.{append-nil}
 use Rattle.std.proofs.lemmas.List.Elements.{Contains-append_left, Contains-append_right, Contains-append_cases}
 use native.Mathlib.Decide.{ℕ_discrete}
-use Rattle.ae_math.specs.Fractions.{ℚ, zero_ℚ, neg_ℚ, is_positive}
+use Rattle.ae_math.specs.Fractions.{zero_ℚ, neg_ℚ, is_positive}
 use Rattle.ae_math.specs.Forms.{SameForm, scale}
 use Rattle.ae_num.specs.declared.forms.Lin.{Lin}
-use Rattle.ae_num.specs.Forms.{meaning, IsNormal, SameMeaning}
+use Rattle.ae_num.specs.Forms.{meaning, IsNormal}
 use Rattle.ae_num.proofs.UniqueLaws.{unique}
-use Rattle.ae_rows.specs.Rows.{factor_at, combination, IsLower, IsUpper}
+use Rattle.ae_rows.specs.Rows.{factor_at, combination}
 use Rattle.ae_journal.specs.Values.{Sum, leaf_factor, sum_of_lin}
 use Rattle.ae_journal.specs.Sides.{AreWhole, IsRounded}
 use Rattle.ae_journal.specs.Standing.{Setting, IsWholeRow}
@@ -34,7 +34,7 @@ use Rattle.ae_bounds.specs.Rounding.HasForm.{own, assumed}
 use Rattle.ae_bounds.specs.Combinations.{IsThere}
 use Rattle.ae_bound_widths.specs.Fractions.{AreFinished}
 use Rattle.ae_bound_widths.proofs.Left.{sum_multiple, same_factor, whole_name, number_rounded}
-use Rattle.ae_bound_rest.specs.Rest.{plain, counted, IsRoundingOf, IsStandingIn, AreOpposedIn, IsMade, IsGrown, IsDoneIn, AreAllNoted}
+use Rattle.ae_bound_rest.specs.Rest.{plain, counted, IsStandingIn, AreOpposedIn, IsGrown, IsDoneIn, AreAllNoted}
 use Rattle.ae_bound_rest.specs.Rest.IsGrown.{as_it_was, one_more}
 use Rattle.ae_bound_rest.specs.Laws.{AreAgreed, AreThoseAssumed}
 use Rattle.ae_bound_rest.specs.Inner.Pairs.{IsPlain}

@@ -1,20 +1,18 @@
 -- Pairs of rows at places, of which the combinations are there.
-use Rattle.std.specs.Prelude.{ℕ, zero, suc, ◌+◌, ◌<◌, ◌≤◌, pos, Bool, true, false, List, [], ◌∷◌, ◌++◌, ◌≡◌, ◌⊎◌, Option, Some, IfSome, Result, Ok, Err, OnOk, length, slice_get}
+use Rattle.std.specs.Prelude.{ℕ, suc, ◌+◌, ◌<◌, ◌≤◌, pos, true, List, ◌++◌, ◌≡◌, Option, Some, IfSome, Result, Ok, Err, OnOk, length, slice_get}
 use Rattle.std.specs.List.{Contains}
 use Rattle.std.proofs.Common.{refl, arith, sym, ap, ◌∙◌, subst, inl, inr, length-append}
 use Rattle.std.proofs.lemmas.Option.{slice_get-get_or}
 use native.Mathlib.Decide.{dec_lt}
 use Rattle.ae_base.proofs.ListFacts.{get_append, value_at}
 use Rattle.ae_base.proofs.Tests.{true_false}
-use Rattle.ae_math.specs.Fractions.{ℚ, zero_ℚ, neg_ℚ, ◌*ℚ◌, is_positive}
+use Rattle.ae_math.specs.Fractions.{zero_ℚ, neg_ℚ, ◌*ℚ◌, is_positive}
 use Rattle.ae_math.proofs.FractionLaws.{mul_comm_q, mul_neg_q, mul_zero_q, cancel_q}
 use Rattle.ae_math.proofs.FractionOrder.{positive_product, not_both_positive}
 use Rattle.ae_rows.proofs.Elimination.{positive_nonzero}
-use Rattle.ae_num.specs.declared.forms.Lin.{Lin}
 use Rattle.ae_num.specs.Forms.{meaning, IsNormal}
 use Rattle.ae_rows.specs.Rows.{factor_at, IsOver, IsLower, IsUpper}
 use Rattle.ae_journal.specs.declared.lines.Line.{Line}
-use Rattle.ae_journal.specs.Sides.{IsRounded}
 use Rattle.ae_journal.proofs.Splits.{contains_at}
 use Rattle.ae_ineq.proofs.LastLaws.{ratio_positive}
 use Rattle.ae_theory.specs.declared.theory.Fail.{Fail}
@@ -24,7 +22,7 @@ use Rattle.ae_bounds.specs.Inner.Pairs.{HaveLast}
 use Rattle.ae_bounds.proofs.Lasts.{lower_last, upper_last}
 use Rattle.ae_bounds.proofs.Closing.{place_less}
 use Rattle.ae_bounds.proofs.Rounded.{times, above, factors}
-use Rattle.ae_bound_rest.specs.Rest.{plain, IsRoundingOf, IsStandingIn, AreOpposedIn, IsGrown, IsDoneIn, IsComplete}
+use Rattle.ae_bound_rest.specs.Rest.{IsRoundingOf, IsStandingIn, IsGrown, IsComplete}
 use Rattle.ae_bound_rest.specs.Inner.Pairs.{IsOneRow, IsBoth, IsOneOf, AreNormal, AreStandingIn, IsDoneOn, IsPairDone, ArePairsDone, AreDoneBelow}
 use Rattle.ae_bound_rest.specs.declared.combining.Both.{Both}
 use Rattle.ae_bound_rest.proofs.Counting.{grown_more, done_grown, both_normal, one_of_row, row_one_of}

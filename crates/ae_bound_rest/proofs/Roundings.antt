@@ -1,5 +1,5 @@
 -- Rounding has one result, which isn't rounded any further.
-use Rattle.std.specs.Prelude.{ℕ, suc, zero, ℤ, pos, negsuc, ◌≡◌, ◌≢◌, ◌*◌, ◌*ℤ◌, ◌-ℤ◌, ◌+ℤ◌, ◌<ℤ◌, ◌≤ℤ◌, ◌<◌, ◌^◌, Bool, true, false, cond, List, [], ◌∷◌, map, unsigned_abs}
+use Rattle.std.specs.Prelude.{ℕ, suc, zero, ℤ, pos, negsuc, ◌≡◌, ◌≢◌, ◌*◌, ◌*ℤ◌, ◌-ℤ◌, ◌+ℤ◌, ◌<ℤ◌, ◌≤ℤ◌, ◌<◌, Bool, false, List, [], ◌∷◌, map, unsigned_abs}
 use Rattle.std.specs.Int.{◌∣◌}
 use Rattle.std.proofs.Common.{arith, refl, sym, ap, ◌∙◌, subst}
 use Rattle.std.proofs.lemmas.Int.{unsigned_abs-mul}

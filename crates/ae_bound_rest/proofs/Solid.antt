@@ -1,5 +1,5 @@
 -- A form of integers is above what it is rounded; and what is rounded is above each rounded form that the form is above.
-use Rattle.std.specs.Prelude.{ℕ, zero, suc, ℤ, pos, negsuc, ◌≡◌, ◌≢◌, ◌<◌, ◌*◌, ◌*ℤ◌, ◌-ℤ◌, ◌<ℤ◌, ◌≤ℤ◌, ◌⊎◌, Bool, true, false, cond, List, [], ◌∷◌, map, unsigned_abs}
+use Rattle.std.specs.Prelude.{ℕ, zero, suc, ℤ, pos, ◌≡◌, ◌≢◌, ◌*ℤ◌, ◌-ℤ◌, ◌<ℤ◌, ◌≤ℤ◌, Bool, true, false, cond, List, [], ◌∷◌, map, unsigned_abs}
 use Rattle.std.specs.List.{AllByRecursion}
 use Rattle.std.specs.Int.{◌∣◌}
 use Rattle.std.proofs.Common.{arith, refl, sym, ap, ◌∙◌, subst, inl}
@@ -11,7 +11,7 @@ use lib.Signed.{lt_z}
 use borrow.Author.Differences.{ints}
 use Rattle.ae_base.proofs.Integers.{size_nonzero}
 use Rattle.ae_math.specs.Fractions.{ℚ, zero_ℚ, one_ℚ, neg_ℚ, ◌+ℚ◌, ◌*ℚ◌, ratio, is_positive}
-use Rattle.ae_math.specs.Forms.{Form, SameForm, scale, factor_in}
+use Rattle.ae_math.specs.Forms.{Form, factor_in}
 use Rattle.ae_math.proofs.FractionLaws.{add_comm_q, add_neg_cancel_q, neg_add_cancel_q, mul_comm_q, mul_zero_q, one_mul_q, cancel_q}
 use Rattle.ae_math.proofs.FractionOrder.{below_crosswise, neg_difference}
 use Rattle.ae_math.proofs.FormLaws.{factor_in-scale}
@@ -19,10 +19,9 @@ use Rattle.ae_math.proofs.Wholes.{ratio_of_zero}
 use Rattle.ae_math.proofs.Divisors.{mul_cancel}
 use Rattle.ae_num.specs.declared.forms.Part.{Part}
 use Rattle.ae_num.specs.declared.forms.Lin.{Lin}
-use Rattle.ae_num.specs.Forms.{meaning, factor_of, IsNormal, DividesAll, IsCommonDivisor}
+use Rattle.ae_num.specs.Forms.{meaning, IsNormal}
 use Rattle.ae_rows.specs.Rows.{factor_at}
 use Rattle.ae_rows.proofs.Choosing.{positive_one}
-use Rattle.ae_rules.specs.Lines.{IsFloor}
 use Rattle.ae_journal.specs.Sides.{AreDivided, IsRounded}
 use Rattle.ae_rounding.proofs.Quotients.{with_constant}
 use Rattle.ae_ineq.specs.Inner.Primitive.{IsPrimitive}
@@ -31,7 +30,7 @@ use Rattle.ae_ineq.proofs.Directions.{directions_same}
 use Rattle.ae_ineq.proofs.LastLaws.{ratio_positive}
 use Rattle.ae_ineq.proofs.RowSets.{multiples_meet}
 use Rattle.ae_bounds.proofs.SameDirection.{turned}
-use Rattle.ae_bounds.proofs.Rounded.{IsWeaker, by, above, times, share, factors, rest, weaker, weaker_rest}
+use Rattle.ae_bounds.proofs.Rounded.{IsWeaker, above, times, share, factors, rest, weaker, weaker_rest}
 use Rattle.ae_bound_points.proofs.Weaker.{plus_factor}
 use Rattle.ae_bound_widths.proofs.Left.{first_some}
 use Rattle.ae_bound_rest.proofs.Roundings.{floor_most, rounded_again, divided_some}

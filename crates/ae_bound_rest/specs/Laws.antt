@@ -1,6 +1,6 @@
 -- Rows that agree with a journal, over integers too, and the licences of the steps that make their point after the rest of their combinations was noted.
 use Rattle.std.specs.Prelude.{ℕ, Bool, true, List, [], ◌∷◌, ◌++◌, ◌≡◌, ◌≢◌, ◌⊎◌, slice_get, Some}
-use Rattle.std.specs.List.{AllByRecursion, Contains}
+use Rattle.std.specs.List.{Contains}
 use Rattle.ae_math.specs.Fractions.{zero_ℚ}
 use Rattle.ae_core.specs.Sorts.{sort_of}
 use Rattle.ae_core.specs.declared.terms.Term.{Term}
@@ -9,7 +9,7 @@ use Rattle.ae_core.specs.declared.formulas.Lit.{Lit}
 use Rattle.ae_num.specs.declared.forms.Lin.{Lin}
 use Rattle.ae_num.specs.Forms.{meaning}
 use Rattle.ae_rows.specs.Rows.{IsOver, factor_at}
-use Rattle.ae_journal.specs.Values.{Sum, sum_of_lin, sum_in, minus_val}
+use Rattle.ae_journal.specs.Values.{sum_of_lin, sum_in, minus_val}
 use Rattle.ae_journal.specs.States.{inequality}
 use Rattle.ae_journal.specs.Journals.{OnlyCombines}
 use Rattle.ae_journal.specs.Standing.{Setting, MayStand, SurelyStands, IsWholeRow, value_now}

@@ -11,7 +11,7 @@ use Rattle.ae_core.specs.Sorts.{sort_of}
 use Rattle.ae_core.specs.declared.terms.Term.{Term}
 use Rattle.ae_core.specs.declared.terms.Sort.{Int}
 use Rattle.ae_num.specs.declared.forms.Lin.{Lin}
-use Rattle.ae_num.specs.Forms.{meaning, IsNormal}
+use Rattle.ae_num.specs.Forms.{meaning}
 use Rattle.ae_rows.specs.Rows.{combination, factor_at}
 use Rattle.ae_rows.proofs.Elimination.{factor_combination}
 use Rattle.ae_journal.specs.Journals.{OnlyCombines}
@@ -24,7 +24,6 @@ use Rattle.ae_journal.proofs.Splits.{contains_here, contains_one, contains_at}
 use Rattle.ae_combine_lines.proofs.Lists.{front_same, only_more, only_less}
 use Rattle.ae_ineq.specs.Sums.{IsZero}
 use Rattle.ae_bounds.specs.declared.rows.Row.{Row}
-use Rattle.ae_bounds.specs.declared.rows.Origin.TheVariants.{Combined}
 use Rattle.ae_bounds.specs.Rounding.{IsRowOf}
 use Rattle.ae_bounds.specs.Rounding.IsRowOf.{as_it_is, rounded}
 use Rattle.ae_bounds.specs.Combinations.{IsCombined, IsCombinationOf, IsExtended}

@@ -1,9 +1,8 @@
 -- Kept rows with names are the rows of the journal's point.
-use Rattle.std.specs.Prelude.{ℕ, Bool, ◌≡◌, ◌≢◌, ◌⊎◌, List, [], Option, Some, None, length}
+use Rattle.std.specs.Prelude.{ℕ, Bool, ◌≢◌, ◌⊎◌, List, [], length}
 use Rattle.std.specs.List.{AllByRecursion, Contains}
-use Rattle.std.proofs.Common.{arith, refl, sym, ap, subst, inl, inr}
+use Rattle.std.proofs.Common.{arith, sym, ap, subst, inl, inr}
 use Rattle.ae_math.specs.Forms.{Form}
-use Rattle.ae_num.specs.declared.forms.Part.{Part}
 use Rattle.ae_num.specs.Forms.{meaning, IsNormal}
 use Rattle.ae_rows.specs.Rows.{IsOver}
 use Rattle.ae_journal.specs.Values.{sum_of_lin}

@@ -1,5 +1,5 @@
 -- After all combinations of rows over fractions were noted none is left, and the widths of the making of their point are licensed.
-use Rattle.std.specs.Prelude.{ℕ, suc, ◌<◌, ◌≤◌, ℤ, pos, Bool, true, false, ◌&&◌, ◌||◌, List, [], ◌∷◌, ◌++◌, ◌≡◌, ◌≢◌, ◌⊎◌, Option, Some, None, map, slice_get, unsigned_abs}
+use Rattle.std.specs.Prelude.{ℕ, ℤ, pos, Bool, true, List, [], ◌∷◌, ◌++◌, ◌≡◌, ◌≢◌, ◌⊎◌, Some, map, slice_get, unsigned_abs}
 use Rattle.std.specs.List.{AllByRecursion, Contains}
 use Rattle.std.proofs.Common.{arith, refl, sym, ap, ◌∙◌, subst, inl, inr}
 use native.Mathlib.Decide.{ℕ_discrete}
@@ -7,7 +7,7 @@ use Rattle.std.proofs.Math.Nat.{eq-zero_of_zero-dvd}
 use borrow.Author.Differences.{ints}
 use Rattle.ae_base.proofs.Tests.{true_false}
 use Rattle.ae_math.specs.Fractions.{ℚ, zero_ℚ, one_ℚ, neg_ℚ, ◌+ℚ◌, ◌*ℚ◌, ratio, is_positive}
-use Rattle.ae_math.specs.Forms.{Form, SameForm, scale}
+use Rattle.ae_math.specs.Forms.{SameForm, scale}
 use Rattle.ae_math.proofs.FractionLaws.{zero_mul_q, add_zero_q, one_mul_q}
 use Rattle.ae_math.proofs.FormLaws.{factor_in-scale}
 use Rattle.ae_math.proofs.Wholes.{ratio_is_zero}
@@ -20,15 +20,14 @@ use Rattle.ae_num.specs.Forms.{meaning, factor_of, IsNormal, IsCommonDivisor, Sa
 use Rattle.ae_num.proofs.MeaningLaws.{factor_meaning}
 use Rattle.ae_num.proofs.PairLaws.{factor_head}
 use Rattle.ae_rules.specs.Lines.{IsFloor}
-use Rattle.ae_rows.specs.Rows.{combination, factor_at, IsOver, IsLower, IsUpper, IsCovered}
+use Rattle.ae_rows.specs.Rows.{combination, factor_at, IsLower, IsUpper}
 use Rattle.ae_rows.specs.Rows.IsCovered.{multiple}
 use Rattle.ae_rows.proofs.Choosing.{positive_one}
-use Rattle.ae_journal.specs.Values.{Sum, leaf_factor, settled, scaled, sum_of_lin}
-use Rattle.ae_journal.specs.Sides.{AreWhole, AreDivided, IsRounded}
-use Rattle.ae_journal.specs.TermValues.{IsLargest}
+use Rattle.ae_journal.specs.Values.{Sum, leaf_factor, scaled, sum_of_lin}
+use Rattle.ae_journal.specs.Sides.{AreWhole, IsRounded}
 use Rattle.ae_journal.specs.Standing.{Setting, IsWholeRow}
 use Rattle.ae_journal.specs.Standing.IsWholeRow.{of_inequality, of_combine, of_rounding}
-use Rattle.ae_journal.specs.Rows.{add_sums, IsMultiple, IsRow, AreCombined, MayCombine}
+use Rattle.ae_journal.specs.Rows.{add_sums, IsMultiple, IsRow, MayCombine}
 use Rattle.ae_journal.specs.Rows.IsRow.{of_literal, of_line, of_whole}
 use Rattle.ae_journal.specs.Points.{NoneLeft}
 use Rattle.ae_journal.specs.Licences.{IsLicensed}
@@ -44,14 +43,13 @@ use Rattle.ae_ineq.specs.Widths.{IsPointWide}
 use Rattle.ae_bounds.specs.declared.rows.Row.{Row}
 use Rattle.ae_bounds.specs.declared.rows.Origin.{Origin}
 use Rattle.ae_bounds.specs.declared.rows.Origin.TheVariants.{Assumed, Combined}
-use Rattle.ae_bounds.specs.declared.rows.Unrounded.{Unrounded}
 use Rattle.ae_bounds.specs.Rounding.{HasForm}
 use Rattle.ae_bounds.specs.Rounding.HasForm.{own, assumed}
 use Rattle.ae_bounds.specs.Combinations.{IsExtended, IsDone, IsWideIn}
 use Rattle.ae_bounds.proofs.Zeros.{nothing_times}
 use Rattle.ae_bound_lines.proofs.Legal.{licensed}
 use Rattle.ae_bound_points.specs.Points.{IsNonzeroRow}
-use Rattle.ae_bound_widths.specs.Laws.{IsNamedRow, AreAllKept}
+use Rattle.ae_bound_widths.specs.Laws.{AreAllKept}
 use Rattle.ae_bound_widths.specs.Fractions.{AreInStep, AreOverFractions, AreAssumed, AreFinished}
 use Rattle.ae_bound_widths.proofs.InStep.{name_of_one, plain_form, steps_kept}
 use Rattle.ae_bound_widths.proofs.Kept.{kept_licensed}

@@ -1,5 +1,5 @@
 -- No derivation has a chain that fails under some values of the constants: trees with these values are an interpretation.
-use Rattle.std.specs.Prelude.{ℕ, zero, suc, Bool, true, false, cond, nat_eq, ◌||◌, ◌⊎◌, List, [], ◌∷◌, ◌++◌, ◌≡◌, ◌≢◌, slice_get, Option, Some, None}
+use Rattle.std.specs.Prelude.{ℕ, zero, suc, Bool, true, false, cond, nat_eq, ◌⊎◌, List, [], ◌∷◌, ◌≡◌, ◌≢◌, slice_get, Option, Some}
 use Rattle.std.specs.List.{AllByRecursion, list_any}
 use Rattle.std.proofs.Common.{refl, sym, ap, ◌∙◌, subst, ⊎_elim, inl, inr, true≢false}
 use Rattle.std.proofs.lemmas.Bool.{or_cases, or_left, or_right, eqb-true}
@@ -7,11 +7,9 @@ use Rattle.std.proofs.lemmas.Bool.Decides.{eqb_tells}
 use Rattle.ae_base.specs.Options.{◌>>=◌, or_else}
 use Rattle.ae_base.proofs.Options.{never_some}
 use Rattle.ae_base.proofs.Tests.{nat_eq_itself}
-use Rattle.ae_core.specs.Signatures.{IsLawful}
 use Rattle.ae_core.specs.declared.terms.Sort.{Sort, Int, Named}
 use Rattle.ae_core.specs.declared.terms.Head.TheVariants.{Symbol}
-use Rattle.ae_core.specs.declared.terms.Term.{Term}
-use Rattle.ae_core.specs.declared.formulas.Formula.{Formula, Eq, Not, Or}
+use Rattle.ae_core.specs.declared.formulas.Formula.{Formula, Not}
 use Rattle.ae_core.specs.declared.problems.Item.{Item}
 use Rattle.ae_core.specs.declared.problems.Item.TheVariants.{Axiom, Goal}
 use Rattle.ae_core.specs.declared.problems.Kind.TheVariants.{Abstract}

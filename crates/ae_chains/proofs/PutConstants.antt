@@ -11,7 +11,6 @@ use Rattle.ae_core.specs.declared.problems.Signature.{Signature}
 use Rattle.ae_core.specs.declared.problems.SymbolEntry.{SymbolEntry}
 use Rattle.ae_core.specs.declared.problems.TypeEntry.{TypeEntry}
 use Rattle.ae_core.specs.declared.problems.Kind.TheVariants.{Choices}
-use Rattle.ae_core.specs.declared.problems.Nature.{Nature}
 use Rattle.ae_core.specs.declared.problems.Nature.TheVariants.{Free, Ac, Choice}
 use Rattle.ae_models.specs.Structures.{Value, Structure, Belongs, AllBelong, AreSorts, IsInterpretation}
 use Rattle.ae_models.proofs.Entries.{HasLawfulEntries}

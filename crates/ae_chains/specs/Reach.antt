@@ -1,5 +1,5 @@
 -- Problems of chains alone: no axiom, and each goal a chain of equations between constants of abstract types.
-use Rattle.std.specs.Prelude.{ℕ, List, [], ◌≡◌, slice_get, Some}
+use Rattle.std.specs.Prelude.{ℕ, [], ◌≡◌, slice_get, Some}
 use Rattle.std.specs.List.{AllByRecursion}
 use Rattle.ae_core.specs.declared.terms.Sort.{Named}
 use Rattle.ae_core.specs.declared.terms.Head.TheVariants.{Symbol}

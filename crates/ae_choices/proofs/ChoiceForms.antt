@@ -1,9 +1,9 @@
 -- What stands behind one of a few words: the grammar's arms by word, and the arms of a table.
-use Rattle.std.proofs.Common.{ℕ, Bool, true, false, cond, IsTrue, List, [], ◌∷◌, ◌≡◌, drop, length, refl, sym, ap, ◌∙◌}
-use Rattle.ae_codes.specs.Codes.{Read, got, stops, wide, Code}
+use Rattle.std.proofs.Common.{ℕ, Bool, true, false, cond, IsTrue, List, [], ◌∷◌, ◌≡◌, drop, length, refl, ap, ◌∙◌}
+use Rattle.ae_codes.specs.Codes.{Read, got, Code}
 use Rattle.ae_codes.specs.Names.{Listed}
 use Rattle.ae_codes.specs.Tables.{all_apart, begins, tagged}
-use Rattle.ae_readers.specs.Readers.{AsksNoMemory, FaultIs, after_read, chosen, fixed_or, fixed_read, most}
+use Rattle.ae_readers.specs.Readers.{AsksNoMemory, FaultIs, after_read, chosen, fixed_or, fixed_read}
 use Rattle.ae_readers.specs.declared.fault.Fault.{Fault}
 use Rattle.ae_readers.specs.declared.fault.Fault.TheVariants.{At, WideNumber, Memory}
 use Rattle.std.specs.Prelude.{Err}

@@ -1,5 +1,5 @@
 -- A text that is read from its first byte on: what is read is the whole, or more stands behind it.
-use Rattle.std.proofs.Common.{ℕ, suc, List, [], ◌∷◌, ◌++◌, ◌≡◌, length, drop, refl, sym, ap, ◌∙◌, append_assoc, arith}
+use Rattle.std.proofs.Common.{ℕ, suc, List, [], ◌∷◌, ◌++◌, ◌≡◌, length, drop, sym, ap, ◌∙◌, append_assoc, arith}
 use Rattle.std.specs.Prelude.{Ok, Err}
 use mathlib.Core.List.{append-nil}
 use Rattle.ae_codes.specs.Codes.{Code, prefix_free}

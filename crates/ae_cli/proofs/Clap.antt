@@ -1,5 +1,5 @@
 -- What clap's clauses come to for the program's options.
-use Rattle.std.proofs.Common.{◌≡◌, ◌≢◌, ◌⊎◌, ◌∙◌, ◌&&◌, ◌^◌, ℕ, Bool, true, false, cond, refl, sym, ap, ap₂, subst, List, [], ◌∷◌, map, Option, Some, None, inl, inr, codes}
+use Rattle.std.proofs.Common.{◌≡◌, ◌≢◌, ◌∙◌, ◌&&◌, ◌^◌, ℕ, Bool, true, false, cond, refl, sym, ap, ap₂, subst, List, [], ◌∷◌, Option, Some, None, inl, inr}
 use Rattle.std.specs.Prelude.{Result, Ok, Err, nat_lt}
 use Rattle.std.specs.List.{list_all}
 use Rattle.std.specs.Char.{digit_value}
@@ -11,12 +11,11 @@ use Rattle.clap.specs.Matches.{one_text}
 use Rattle.clap.specs.declared.parser.matches.Found.{Found}
 use Rattle.ae_base.specs.Options.{◌>>=◌, when}
 use Rattle.clap.specs.ValueTests.{is_numeral}
-use Rattle.clap.specs.Words.{App, FailsBy, HasMatchesOf, IsAmong, Kinds, HasKind, Text, TriesOne, app_of, fault_of, first_value, found_of, is_simple, is_simple_and_free, kind_of, matches_of, one_of, rows_of}
+use Rattle.clap.specs.Words.{App, FailsBy, HasMatchesOf, IsAmong, Kinds, HasKind, Text, TriesOne, fault_of, found_of, is_simple, is_simple_and_free, kind_of, matches_of, one_of, rows_of}
 use Rattle.clap.specs.declared.error.Error.{Error}
 use Rattle.clap.specs.declared.error.kind.ErrorKind.TheVariants.{OutOfMemory}
 use Rattle.clap.specs.declared.parser.matches.ArgMatches.{ArgMatches}
 use Rattle.ae_cli.specs.declared.options.Mode.{Mode}
-use Rattle.ae_cli.specs.declared.options.Options.{Options}
 use Rattle.ae_cli.specs.declared.options.Mode.TheVariants.{Prove, Check, Demo}
 use Rattle.ae_cli.specs.Program.{joined_options, mode_of, number_in, number_or, program}
 

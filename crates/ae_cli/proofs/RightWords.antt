@@ -1,5 +1,5 @@
 -- Right words: clap takes them, and its matches state what they say.
-use Rattle.std.proofs.Common.{◌≡◌, ◌≢◌, ◌∙◌, ◌<◌, ◌≤◌, ◌&&◌, ◌||◌, ◌⊎◌, ◌==◌, ◌^◌, ℕ, Bool, true, false, zero, suc, cond, not, refl, sym, ap, ap₂, subst, arith, List, [], ◌∷◌, ◌++◌, map, length, drop, Option, Some, None, codes, inl, inr, append_assoc, append-nil, is_some}
+use Rattle.std.proofs.Common.{◌≡◌, ◌≢◌, ◌∙◌, ◌<◌, ◌&&◌, ◌||◌, ◌==◌, ◌^◌, ℕ, Bool, true, false, zero, suc, cond, refl, sym, ap, ap₂, subst, arith, List, [], ◌∷◌, ◌++◌, map, drop, Option, Some, None, codes, inl, inr, append_assoc, append-nil, is_some}
 use Rattle.std.specs.Prelude.{if◌then◌else◌, fold, find, nat_lt, option_and_then, slice_get, Result, Ok, Err, IfOk, IfErr, MatchResult}
 use Rattle.std.specs.List.{AllByRecursion}
 use Rattle.std.specs.Option.{option_map_or}
@@ -13,10 +13,10 @@ use Rattle.ae_base.specs.Options.{◌>>=◌, when}
 use Rattle.clap.proofs.ValueTestLemmas.{Accepts-accepts}
 use Rattle.clap.specs.ValueTests.{accepts}
 use Rattle.clap.specs.Lexer.{long_of, long_of_rest, short_of, short_of_rest, strip_byte}
-use Rattle.clap.specs.Faults.{bundle_fault, check_fault, default_fault, defaults_fault, entered_fault, fault_of, flag_word_fault, given_default_fault, settle_fault, step_fault, turn_fault, use_fault, values_fault, walk_fault, word_fault}
+use Rattle.clap.specs.Faults.{bundle_fault, check_fault, defaults_fault, entered_fault, fault_of, flag_word_fault, given_default_fault, settle_fault, step_fault, turn_fault, use_fault, values_fault, walk_fault, word_fault}
 use Rattle.clap.specs.Kinds.{Kinds, or_else}
 use Rattle.clap.specs.Simple.{App, Shape, built, entered, filled, help_rule, matches_of}
-use Rattle.clap.specs.Walk.{Held, Row, Rule, Step, Text, Walk, after_step, at_row, default_rows, finished, first_of, has_row, idle, is_empty, long_or_other, more_values, nothing_held, one_of, option, plain_word, reacted, reading_by, row_text, settled, settled_rows, short_or_plain, trailing, used, walk, walk_from, walked, with_default, with_values, word_met}
+use Rattle.clap.specs.Walk.{Held, Row, Rule, Step, Text, Walk, after_step, at_row, default_rows, finished, first_of, has_row, is_empty, long_or_other, more_values, nothing_held, one_of, option, plain_word, reacted, reading_by, row_text, settled, settled_rows, short_or_plain, trailing, used, walk, walk_from, walked, with_default, with_values, word_met}
 use Rattle.clap.specs.declared.builder.value_parser.Reading.{Reading}
 use Rattle.clap.specs.declared.builder.value_parser.Reading.TheVariants.{AsWritten}
 use Rattle.clap.specs.declared.builder.value_parser.ValueParser.TheVariants.{Unsigned}

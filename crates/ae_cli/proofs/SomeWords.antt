@@ -1,7 +1,6 @@
 -- The examples, computed.
-use Rattle.std.proofs.Common.{◌≡◌, ◌≢◌, refl, List, [], ◌∷◌, codes}
+use Rattle.std.proofs.Common.{refl, [], ◌∷◌, codes}
 use Rattle.clap.proofs.OnLiterals.{clap_on_literals}
-use Rattle.clap.specs.Words.{Text, fault_of, matches_of}
 use Rattle.ae_cli.specs.declared.options.Mode.TheVariants.{Prove, Check, Demo}
 use Rattle.ae_cli.specs.Examples.{IsRefusedByClap, SomeWords, StateNothing, some_options}
 use Rattle.ae_cli.specs.Program.{States}

@@ -1,5 +1,5 @@
 -- Some words with what they state.
-use Rattle.std.specs.Prelude.{ℕ, List, [], ◌∷◌, ◌≡◌, ◌≢◌, Some, None, codes}
+use Rattle.std.specs.Prelude.{ℕ, List, [], ◌∷◌, ◌≡◌, ◌≢◌, None, codes}
 use Rattle.clap.specs.Words.{Text, fault_of, matches_of}
 use Rattle.ae_cli.specs.declared.options.Mode.{Mode}
 use Rattle.ae_cli.specs.declared.options.Mode.TheVariants.{Prove, Check, Demo}

@@ -1,5 +1,5 @@
 -- The program's options, as the rules by which clap reads words, and what their values state.
-use Rattle.std.specs.Prelude.{◌≡◌, ◌≢◌, ◌⊎◌, ℕ, ◌^◌, ◌&&◌, Bool, true, false, cond, nat_lt, List, [], ◌∷◌, Option, Some, None, codes}
+use Rattle.std.specs.Prelude.{◌≡◌, ◌≢◌, ◌⊎◌, ℕ, ◌^◌, ◌&&◌, Bool, true, false, cond, nat_lt, List, [], Option, Some, None, codes}
 use Rattle.std.specs.Str.{bytes_eq}
 use Rattle.std.specs.Str.Parse.{digits_value, without_leading_plus}
 use Rattle.ae_base.specs.Options.{◌>>=◌, when}
@@ -7,7 +7,6 @@ use Rattle.clap.specs.ValueTests.{is_numeral}
 use Rattle.clap.specs.Words.{App, Row, Rule, Text, fault_of, first_of, matches_of, new_app, new_rule, one_of, with_rule}
 use Rattle.clap.specs.declared.builder.action.ArgAction.TheVariants.{Set, SetTrue}
 use Rattle.clap.specs.declared.builder.value_parser.ValueParser.TheVariants.{Unsigned}
-use Rattle.ae_search_options.specs.declared.limits.Limits.{Limits}
 use Rattle.ae_cli.specs.declared.options.Mode.{Mode}
 use Rattle.ae_cli.specs.declared.options.Mode.TheVariants.{Prove, Check, Demo}
 use Rattle.ae_cli.specs.declared.options.Options.{Options}

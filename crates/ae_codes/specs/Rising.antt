@@ -1,15 +1,15 @@
 -- Lists of numbers that rise, each with the least number that may stand next: a blank between two, and `]` behind the last. `next` says which
 -- number may follow at least: the next one where each stands once, the same one where a number may stand again.
-use Rattle.std.specs.Prelude.{ℕ, zero, suc, ◌+◌, ◌-◌, ◌^◌, ◌≤◌, ◌<◌, ◌⊎◌, ◌&&◌, ◌||◌, Bool, true, false, IsTrue, nat_eq, nat_le, nat_lt, List, [], ◌∷◌, ◌++◌, ◌≡◌, length, map, decimal}
-use mathlib.Core.Path.{refl, sym, ap, ◌∙◌, subst}
+use Rattle.std.specs.Prelude.{ℕ, suc, ◌-◌, ◌^◌, ◌≤◌, ◌⊎◌, ◌&&◌, ◌||◌, Bool, true, false, IsTrue, nat_eq, nat_le, List, [], ◌∷◌, ◌++◌, ◌≡◌, length, map, decimal}
+use mathlib.Core.Path.{refl, sym, ap, ◌∙◌}
 use mathlib.Core.Logic.{inl, inr}
 use mathlib.Core.List.{append-nil}
 use native.Mathlib.Omega.{arith}
-use Rattle.std.proofs.lemmas.Bool.{eqb-true, eq-eqb, ne_eqb, leb-true, le-leb, ltb-true, lt-ltb}
+use Rattle.std.proofs.lemmas.Bool.{eqb-true, ne_eqb, leb-true, le-leb}
 use Rattle.ae_codes.specs.Codes.{Code, is_digit, limit, Begins, StartsNumeral, both, one, mapped, words}
 use Rattle.ae_codes.specs.Machines.{machine, checked}
-use Rattle.ae_codes.specs.Numbers.{Closed, Numbers, number, number_machine, and_one, and_two, and_both, or_one, digit_low, digit_high, starts}
-use Rattle.ae_codes.specs.Fractions.{or_cases, or_two, passing_by}
+use Rattle.ae_codes.specs.Numbers.{Closed, Numbers, number, number_machine, and_one, and_two, and_both, digit_low, digit_high, starts}
+use Rattle.ae_codes.specs.Fractions.{or_cases, passing_by}
 use Rattle.ae_codes.specs.Nested.{Shaped}
 use Rattle.ae_codes.specs.Rows.{alone, empty}
 use Rattle.ae_codes.specs.Plans.{Inner, Plan, Tight, Layers, fixed, fixed_tight, inside, sequence, sequence_tight, sends, sends_tight, coded, coded_shaped, coded_text}

@@ -1,5 +1,5 @@
 -- What a state knows to be complete, after each of its calls.
-use Rattle.std.specs.Prelude.{ℕ, List, [], ◌∷◌, ◌++◌, ◌≡◌, Option, Some, None, Result, Ok, OnOk, OnErr, IfSome}
+use Rattle.std.specs.Prelude.{ℕ, [], ◌∷◌, ◌++◌, ◌≡◌, Option, Some, None, Result, Ok, OnOk, OnErr, IfSome}
 use Rattle.std.proofs.Common.{sym, subst}
 use Rattle.ae_store.specs.Growing.{IsFront}
 use Rattle.ae_theory.specs.Tagged.{Tagged}

@@ -1,5 +1,5 @@
 -- The combination of two rows that stand is a legal line, and a step whose products and sums a journal may state.
-use Rattle.std.specs.Prelude.{ℕ, ◌<◌, Bool, true, false, ◌||◌, List, ◌≡◌, ◌≢◌, length}
+use Rattle.std.specs.Prelude.{ℕ, Bool, true, ◌||◌, List, ◌≡◌, ◌≢◌}
 use Rattle.std.proofs.Common.{refl, sym, ap, ◌∙◌, arith, inl}
 use Rattle.ae_base.proofs.Tests.{true_false}
 use Rattle.ae_math.specs.Fractions.{ℚ, zero_ℚ, neg_ℚ, is_positive}
@@ -7,8 +7,8 @@ use Rattle.ae_math.proofs.FractionLaws.{neg_zero_q}
 use Rattle.ae_math.proofs.FractionOrder.{positive_zero}
 use Rattle.ae_num.specs.declared.forms.Lin.{Lin}
 use Rattle.ae_num.specs.Forms.{meaning, SameMeaning, IsNormal}
-use Rattle.ae_rows.specs.Rows.{combination, factor_at, IsLower, IsUpper}
-use Rattle.ae_journal.specs.Values.{Sum, sum_of_lin, leaf_factor}
+use Rattle.ae_rows.specs.Rows.{combination, factor_at}
+use Rattle.ae_journal.specs.Values.{Sum, sum_of_lin}
 use Rattle.ae_journal.specs.TermValues.{IsLargest}
 use Rattle.ae_journal.specs.Standing.{Setting}
 use Rattle.ae_journal.specs.Rows.{IsMultiple, AreCombined, MayCombine}

@@ -1,5 +1,5 @@
 -- What stands after a `Combine` line.
-use Rattle.std.specs.Prelude.{Bool, false, List, [], ◌∷◌, ◌++◌, ◌≡◌, ◌≢◌, ◌⊎◌, Some, ℤ}
+use Rattle.std.specs.Prelude.{Bool, List, [], ◌∷◌, ◌++◌, ◌≡◌, ◌≢◌, ◌⊎◌}
 use Rattle.std.specs.List.{Contains}
 use Rattle.std.proofs.Common.{refl, sym, ap, ◌∙◌, subst, inl, inr, append_assoc}
 use Rattle.std.proofs.lemmas.List.{append-nil}
@@ -9,8 +9,7 @@ use Rattle.ae_core.specs.declared.formulas.Lit.{Lit}
 use Rattle.ae_rules.specs.Clauses.{Clause, opposite}
 use Rattle.ae_num.specs.declared.forms.Lin.{Lin}
 use Rattle.ae_journal.specs.Values.{Sum, sum_of_lin, sum_in, minus_val}
-use Rattle.ae_journal.specs.States.{inequality}
-use Rattle.ae_journal.specs.Journals.{IsDecided, OnlyCombines, IsBack, live, decisions}
+use Rattle.ae_journal.specs.Journals.{IsDecided, OnlyCombines, live, decisions}
 use Rattle.ae_journal.specs.Laws.{NoBack}
 use Rattle.ae_journal.specs.Standing.{Setting, IsBrought, IsGiven, MayStand, SurelyStands, IsWholeRow, value_now}
 use Rattle.ae_journal.specs.Standing.IsBrought.{by_hypothesis, by_goal, by_type_instance, by_term_instance}

@@ -1,15 +1,15 @@
 -- Combinations and multiples of the sums that forms have in a journal.
-use Rattle.std.specs.Prelude.{ℕ, ◌<◌, ℤ, pos, ◌<ℤ◌, Bool, true, ◌||◌, List, [], ◌∷◌, ◌++◌, ◌≡◌, ◌≢◌}
-use Rattle.std.proofs.Common.{refl, sym, ap, ◌∙◌, subst, inl, inr}
+use Rattle.std.specs.Prelude.{ℕ, true, ◌++◌, ◌≡◌}
+use Rattle.std.proofs.Common.{sym, ap, ◌∙◌}
 use native.Mathlib.Decide.{ℕ_discrete}
-use Rattle.ae_math.specs.Fractions.{ℚ, zero_ℚ, one_ℚ, neg_ℚ, ◌+ℚ◌, ◌*ℚ◌, ratio, is_positive}
-use Rattle.ae_math.specs.Forms.{Form, SameForm, factor, scale, plus}
+use Rattle.ae_math.specs.Fractions.{ℚ, zero_ℚ, neg_ℚ, ◌+ℚ◌, ◌*ℚ◌, is_positive}
+use Rattle.ae_math.specs.Forms.{Form, SameForm, scale, plus}
 use Rattle.ae_math.proofs.FractionLaws.{zero_mul_q, add_zero_q}
 use Rattle.ae_math.proofs.FormLaws.{factor_in-append, factor_in-scale}
 use Rattle.ae_num.specs.declared.forms.Lin.{Lin}
 use Rattle.ae_num.specs.Forms.{meaning, SameMeaning}
 use Rattle.ae_rows.specs.Rows.{combination, factor_at}
-use Rattle.ae_journal.specs.Values.{Sum, leaf_factor, settled, scaled, sum_of_lin}
+use Rattle.ae_journal.specs.Values.{Sum, leaf_factor, scaled, sum_of_lin}
 use Rattle.ae_journal.specs.Rows.{add_sums, IsMultiple}
 use Rattle.ae_evaluation.proofs.Sums.{factor-settled, factor-append, factor-scaled, settles, one_sum}
 

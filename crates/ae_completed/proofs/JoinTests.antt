@@ -1,7 +1,5 @@
 -- The test of the names of AC symbols says `true` exactly where the ninth clause holds.
-use Rattle.std.specs.Prelude.{ℕ, zero, suc, ◌+◌, ◌-◌, ◌<◌, ◌≤◌, Bool, true, false, cond, not, ◌&&◌, ◌||◌, ◌≡◌, ◌↔◌, List, [], ◌∷◌, length, slice_get, Option, Some, None}
-use Rattle.std.specs.List.{list_all}
-use Rattle.std.specs.List.Sorted.{IsNonDecreasing}
+use Rattle.std.specs.Prelude.{ℕ, zero, suc, ◌+◌, ◌-◌, ◌<◌, ◌≤◌, Bool, true, false, cond, not, ◌≡◌, ◌↔◌, List, [], ◌∷◌, length, slice_get, Option, Some, None}
 use Rattle.std.proofs.Common.{inl, inr}
 use Rattle.std.proofs.lemmas.Bool.{and_parts, and_from, cases_eq, not-true}
 use Rattle.std.proofs.lemmas.List.Sorted.{IsNonDecreasingBy-short}
@@ -11,7 +9,6 @@ use mathlib.Core.List.{List-discrete}
 use mathlib.Core.Path.{refl, sym, ap, subst, ◌∙◌}
 use native.Mathlib.Decide.{ℕ_discrete}
 use native.Mathlib.Omega.{arith}
-use Rattle.ae_base.specs.Options.{known, ◌>>=◌}
 use Rattle.ae_base.proofs.AllOf.{test_of_all, all_from_places}
 use Rattle.ae_base.proofs.Decided.{decided_of, decided_yes}
 use Rattle.ae_base.proofs.ListFacts.{list_all_at}
@@ -32,20 +29,19 @@ use Rattle.ae_multiset.specs.Multisets.{IsPart}
 use Rattle.ae_multiset.specs.Rewriting.{Decreases, ReducesTo}
 use Rattle.ae_multiset.proofs.NormalForms.{linked_from, nf_only}
 use Rattle.ae_num.specs.declared.forms.Value.{Value}
-use Rattle.ae_journal.specs.Values.{Val, meaning}
-use Rattle.ae_journal.specs.Systems.{Has, IsJoin, IsName, IsRule, Represents, StandsFor, ValueOf}
-use Rattle.ae_journal.specs.declared.systems.RuleEntry.{RuleEntry}
+use Rattle.ae_journal.specs.Values.{meaning}
+use Rattle.ae_journal.specs.Systems.{IsJoin, IsName, IsRule, Represents, StandsFor}
 use Rattle.ae_journal.specs.declared.systems.System.{System}
 use Rattle.ae_evaluation.proofs.Names.{two_parts}
 use Rattle.ae_decide.specs.Clauses.{HasTerms, HasLeaves, RulesFit, AllOverlapsJoin, AllNamesJoin}
-use Rattle.ae_decide.specs.Overlaps.{AllFall, nf, same_names}
-use Rattle.ae_decide.specs.Rules.{is_ac, has}
+use Rattle.ae_decide.specs.Overlaps.{AllFall, nf}
+use Rattle.ae_decide.specs.Rules.{has}
 use Rattle.ae_decide.specs.Values.{place_from, value_of}
 use Rattle.ae_decide.proofs.NameTests.{is_application}
 use Rattle.ae_decide.proofs.NormalForms.{normal_forms}
 use Rattle.ae_decide.proofs.RuleTests.{ac_by, by_ac, has_told, by_has}
 use Rattle.ae_decide.proofs.ValueTests.{implied, by_implied, of_written, written_of}
-use Rattle.ae_completed.specs.Joins.{least_from, representative_at, representative_of, is_product, is_join, reduces_to, joins_by, name_joins, all_names_join}
+use Rattle.ae_completed.specs.Joins.{least_from, representative_at, representative_of, is_join, reduces_to, joins_by, name_joins, all_names_join}
 
 -- ---- numbers
 pub is_known : (b : Bool) (x y : ℚ) → Some y ≡ cond b (Some x) None → true ≡ b

@@ -1,7 +1,7 @@
 -- The nine clauses, together.
-use Rattle.std.specs.Prelude.{ℕ, Bool, true, false, ◌≡◌, ◌↔◌, slice_get, Some}
+use Rattle.std.specs.Prelude.{Bool, true, false, ◌≡◌, ◌↔◌}
 use Rattle.ae_base.proofs.Tests.{false_true}
-use mathlib.Core.Path.{refl, sym, ◌∙◌}
+use mathlib.Core.Path.{sym, ◌∙◌}
 use Rattle.ae_core.specs.declared.problems.Signature.{Signature}
 use Rattle.ae_journal.specs.Systems.{IsCompleted}
 use Rattle.ae_journal.specs.declared.systems.System.{System}

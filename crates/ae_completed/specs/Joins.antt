@@ -1,5 +1,5 @@
 -- A test of the names of AC symbols: representatives, and the normal form of two of them.
-use Rattle.std.specs.Prelude.{ℕ, zero, suc, ◌+◌, Bool, true, false, cond, not, ◌&&◌, ◌||◌, List, [], ◌∷◌, length, Option, Some, None}
+use Rattle.std.specs.Prelude.{ℕ, zero, suc, ◌+◌, Bool, true, false, cond, not, ◌&&◌, ◌||◌, [], ◌∷◌, length, Option, Some, None}
 use Rattle.std.specs.List.{list_all}
 use Rattle.ae_core.specs.Sorts.{sort_of}
 use Rattle.ae_core.specs.declared.problems.AcSymbol.{AcSymbol}

@@ -1,5 +1,5 @@
 -- The hypotheses of what a step rests on, and their tags.
-use Rattle.std.specs.Prelude.{ℕ, suc, ◌+◌, ◌<◌, true, List, [], ◌∷◌, ◌++◌, ◌≡◌, length, slice_get, Option, Some, None}
+use Rattle.std.specs.Prelude.{ℕ, suc, ◌<◌, true, List, [], ◌∷◌, ◌++◌, ◌≡◌, length, slice_get, Option, Some, None}
 use Rattle.std.specs.List.{Contains}
 use Rattle.std.proofs.Common.{refl, sym, ap, ◌∙◌, subst, arith, length-append}
 use Rattle.std.proofs.lemmas.Bool.{and_from}
@@ -22,7 +22,7 @@ use Rattle.ae_just.specs.declared.steps.Rule.{Rule}
 use Rattle.ae_just.specs.declared.steps.Rule.TheVariants as rule
 use Rattle.ae_just.specs.Sides.{side_term}
 use Rattle.ae_just.specs.Steps.{fact_of, literal, assumed, tag_of, Fits}
-use Rattle.ae_just.specs.Needed.{RestsOn, literals, tags, AreTags, Derives}
+use Rattle.ae_just.specs.Needed.{literals, tags, AreTags, Derives}
 use Rattle.ae_just.proofs.OneNeeded.{needed_same}
 use Rattle.ae_theory.specs.Tagged.{Tagged}
 use Rattle.ae_theory.specs.Noting.{IsBlockOf}

@@ -1,5 +1,5 @@
 -- What is computed at each form of sort, term and formula.
-use Rattle.std.specs.Prelude.{ℕ, ℤ, Bool, true, false, ◌&&◌, List, [], ◌∷◌, ◌++◌, ◌≡◌, map}
+use Rattle.std.specs.Prelude.{ℕ, ℤ, Bool, true, ◌&&◌, List, [], ◌∷◌, ◌++◌, ◌≡◌, map}
 use Rattle.std.specs.List.{flat_map, list_all}
 use Rattle.std.proofs.Common.{refl, ap, ◌∙◌}
 use Rattle.std.proofs.Math.Bool.{and-true}
@@ -11,7 +11,7 @@ use Rattle.ae_core.specs.declared.terms.Head.{Head}
 use Rattle.ae_core.specs.declared.terms.Term.{Term, Bound, Num, Fresh, Apply}
 use Rattle.ae_core.specs.declared.formulas.Formula.{Formula, True, False, Eq, Lt, Le, Pred, Not, And, Or, Xor, Iff, All, Ex}
 use Rattle.ae_core.specs.declared.formulas.Quant.{Quant}
-use Rattle.ae_legal_texts.specs.Numbers.{Number, count, numeral, sort_numbers, sort_numbers_step, term_numbers, term_numbers_step, formula_numbers, formula_numbers_step, quant_numbers, quant_numbers_step}
+use Rattle.ae_legal_texts.specs.Numbers.{Number, count, sort_numbers, sort_numbers_step, term_numbers, term_numbers_step, formula_numbers, formula_numbers_step, quant_numbers, quant_numbers_step}
 use Rattle.ae_counts.specs.Inner.Counted.{count_within, number_counts, numbers_count, sort_counts, term_counts, formula_counts, quant_counts}
 
 -- ---- numbers of lists

@@ -1,15 +1,13 @@
 -- What is writable and whose counts have 64 bits is within the limits of its text.
-use Rattle.std.specs.Prelude.{ℕ, ◌<◌, ◌≤◌, ◌^◌, ◌&&◌, true, List, [], ◌∷◌, ◌++◌, ◌≡◌, length, map, Option, Some, None}
+use Rattle.std.specs.Prelude.{ℕ, ◌<◌, ◌≤◌, ◌^◌, ◌&&◌, true, List, [], ◌∷◌, ◌++◌, ◌≡◌, length, Option, Some, None}
 use Rattle.std.specs.List.{AllByRecursion, flat_map, list_all}
 use Rattle.std.specs.List.Sorted.{IsStrictlyIncreasing}
-use Rattle.std.proofs.Common.{refl, sym, ap, ◌∙◌, subst}
+use Rattle.std.proofs.Common.{sym, ◌∙◌}
 use Rattle.std.proofs.lemmas.Bool.{and_parts, and_from, ltb-true}
 use Rattle.ae_base.specs.Options.{or_else}
-use Rattle.ae_base.proofs.AllOf.{all_append, all_both, all_of_map, all_of_test}
-use Rattle.ae_core.specs.declared.formulas.Formula.{Formula}
+use Rattle.ae_base.proofs.AllOf.{all_append, all_of_map, all_of_test}
 use Rattle.ae_core.specs.declared.formulas.Lit.{Lit}
 use Rattle.ae_core.specs.declared.problems.Signature.{Signature}
-use Rattle.ae_core.specs.declared.proofs.ClauseLine.{ClauseLine}
 use Rattle.ae_core.specs.declared.terms.Sort.{Sort}
 use Rattle.ae_core.specs.declared.terms.Term.{Term}
 use Rattle.ae_journal.specs.declared.answers.WideAt.{WideAt}
@@ -22,7 +20,7 @@ use Rattle.ae_journal.specs.declared.systems.RuleEntry.{RuleEntry}
 use Rattle.ae_journal.specs.declared.systems.Saturated.{Saturated}
 use Rattle.ae_legal_states.specs.Writable as states
 use Rattle.ae_legal_stories.specs.Writable.{AreFormNames, IsKeyWithin, IsLineWithin, IsOrientedWithin, IsStoryWithin, IsWidthWithin}
-use Rattle.ae_legal_texts.specs.Numbers.{count, counts, IsWithin, AreWithin, sort_numbers, term_numbers, formula_numbers, literal_numbers, line_numbers}
+use Rattle.ae_legal_texts.specs.Numbers.{counts, AreWithin, sort_numbers, term_numbers, formula_numbers, literal_numbers, line_numbers}
 use Rattle.ae_legal_texts.specs.Writable as texts
 use Rattle.ae_num.specs.declared.forms.Lin.{Lin}
 use Rattle.ae_num.specs.declared.forms.Part.{Part}
@@ -32,8 +30,8 @@ use Rattle.ae_stategrammar.specs.Fitting.{names_in}
 use Rattle.ae_valuetext.specs.Texts.{AreNames}
 use Rattle.ae_writable.specs.Numbers.{IsValueWithin, AreValuesWithin}
 use Rattle.ae_writable.specs.Writable.{IsWritableProof, IsWritableRule, IsWritableState, IsWritableOriented, IsWritableLine, IsWritableStory}
-use Rattle.ae_counts.specs.Inner.Counted.{count_within, counts_within, numbers_count, sort_counts, term_counts, formula_counts, literal_counts, line_counts, places_count, name_counts, form_counts, value_counts, key_counts, rule_counts, oriented_counts, story_line_counts}
-use Rattle.ae_counts.proofs.LineCounts.{joined, formula_is, literals_are, one_count, text_is}
+use Rattle.ae_counts.specs.Inner.Counted.{count_within, counts_within, sort_counts, term_counts, formula_counts, literal_counts, line_counts, places_count, name_counts, form_counts, value_counts, key_counts, rule_counts, oriented_counts, story_line_counts}
+use Rattle.ae_counts.proofs.LineCounts.{joined, formula_is, literals_are, text_is}
 use Rattle.ae_counts.proofs.Merged.{names, rises, sorts_values, within}
 use Rattle.ae_counts.proofs.TreeRules.{sorts_numbers, terms_numbers}
 use Rattle.ae_counts.proofs.ValueRules.{names_are}

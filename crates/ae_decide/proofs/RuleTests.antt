@@ -1,5 +1,5 @@
 -- The test of rules says `true` exactly where the sixth clause holds.
-use Rattle.std.specs.Prelude.{ℕ, zero, suc, ◌<◌, ◌≤◌, Bool, true, false, not, ◌&&◌, nat_lt, nat_le, ◌≡◌, ◌↔◌, List, length, slice_get, Option, Some, None}
+use Rattle.std.specs.Prelude.{ℕ, zero, suc, ◌<◌, Bool, true, false, not, ◌&&◌, nat_lt, nat_le, ◌≡◌, ◌↔◌, List, length, slice_get, Option, Some, None}
 use Rattle.std.specs.List.{list_all}
 use Rattle.std.proofs.Common.{inl, inr}
 use Rattle.std.proofs.lemmas.Bool.{and_parts, and_from, cases_eq, ltb-true, lt-ltb, leb-true, le-leb}
@@ -12,7 +12,7 @@ use Rattle.ae_base.proofs.AllOf.{all_of_test, test_of_all, all_from_places}
 use Rattle.ae_base.proofs.Decided.{decided_of, decided_yes, decided_not}
 use Rattle.ae_base.proofs.ListFacts.{list_all_at}
 use Rattle.ae_base.proofs.Options.{bind_some}
-use Rattle.ae_base.proofs.Tests.{false_true, not_where}
+use Rattle.ae_base.proofs.Tests.{not_where}
 use Rattle.ae_core.specs.declared.problems.Nature.{Nature}
 use Rattle.ae_core.specs.declared.problems.Nature.TheVariants.{Free, Ac, Choice}
 use Rattle.ae_core.specs.declared.problems.Signature.{Signature}

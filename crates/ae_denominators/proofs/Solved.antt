@@ -1,6 +1,6 @@
 -- The value at which a form is 0 has whole factors over the factor of its name.
-use Rattle.std.specs.Prelude.{ℕ, ℤ, neg_ℤ, zero, suc, pos, negsuc, [], ◌∷◌, ◌≡◌, ◌≢◌, ◌*ℤ◌, ◌<ℤ◌, unsigned_abs}
-use Rattle.std.proofs.Common.{arith, refl, sym, ap, ◌∙◌, subst}
+use Rattle.std.specs.Prelude.{ℕ, ℤ, neg_ℤ, suc, pos, negsuc, [], ◌∷◌, ◌≡◌, ◌≢◌, ◌*ℤ◌, ◌<ℤ◌, unsigned_abs}
+use Rattle.std.proofs.Common.{arith, refl, sym, ap, ◌∙◌}
 use native.Mathlib.Decide.{ℕ_discrete}
 use borrow.Author.Differences.{ints}
 use Rattle.ae_base.proofs.Decided.{pick_yes, pick_no}

@@ -34,7 +34,8 @@ use Rattle.ae_driver.specs.declared.program.Status.{Status}
 use Rattle.ae_driver.specs.declared.program.Status.TheVariants as status
 use Rattle.ae_driver.specs.Checking.{ReadsParts, goals_from, goals_of, names_of}
 use Rattle.ae_driver.specs.Demo.{AreJudged, IsLegalDemo, counts_line, counts_of, how_many, is_accepted, is_number, is_steps, is_unknown, is_valid, writes_demo, writes_demo_parts}
-use Rattle.ae_driver.specs.Inner.Counting.{AreCounted, AreOnePart, CountedEnds, CountingEnds, DemoEnds, HasCounted, HasRoom, IsCountedGoal, IsCountedIn, IsCountedPart, IsOnePart, IsPassedOver, LineEnds, PutEnds, no_counts, with_kind, with_verdict}
+use Rattle.ae_driver.specs.Inner.Counting.{AreCounted, AreOnePart, CountedEnds, CountingEnds, DemoEnds, HasCounted, HasRoom, IsCountedGoal, IsCountedIn, IsCountedPart, IsOnePart}
+use Rattle.ae_driver.specs.Inner.Counting.{IsPassedOver, LineEnds, PutEnds, no_counts, with_kind, with_verdict}
 use Rattle.ae_driver.specs.Inner.Endings.{IsPrinted}
 use Rattle.ae_driver.specs.Output.{AreParts, IsBegun}
 use Rattle.ae_driver.specs.Problems.{IsProblemOf}

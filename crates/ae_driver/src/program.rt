@@ -101,10 +101,13 @@ pub fn run<S: Source, K: Sink>(
     ensures done_demo { (n : ℕ) (ask : AskForDemo n (map string_bytes words.now)) → result ≡ Done → IsDoneDemo ask.options.limits n (K.written sink.old) (K.written sink.new) }
     ensures end { AskToProve (map string_bytes words.now) ⊎ AskToCheck (map string_bytes words.now) → result ≡ Done → IsAtEnd (S.left source.new) }
     ensures complete { AskToProve (map string_bytes words.now) → IsOffered (S.left source.old) → ¬ (Rose (S.faults source.old) (S.faults source.new)) → ¬ (Rose (K.faults sink.old) (K.faults sink.new)) → (result ≡ Done) ⊎ (result ≡ Memory) }
-    ensures complete_checking { AskToCheck (map string_bytes words.now) → IsOfferedChecking (S.left source.old) → ¬ (Rose (S.faults source.old) (S.faults source.new)) → ¬ (Rose (K.faults sink.old) (K.faults sink.new)) → (result ≡ Done) ⊎ (result ≡ Memory) }
+    ensures complete_checking { AskToCheck (map string_bytes words.now) → IsOfferedChecking (S.left source.old) → ¬ (Rose (S.faults source.old) (S.faults source.new)) →
+        ¬ (Rose (K.faults sink.old) (K.faults sink.new)) → (result ≡ Done) ⊎ (result ≡ Memory) }
     ensures complete_demo { (n : ℕ) → AskForDemo n (map string_bytes words.now) → (result ≡ Done) ⊎ ((result ≡ WriteFault) ⊎ (result ≡ Memory)) }
-    ensures refused { AskToProve (map string_bytes words.now) → result ≡ Refused → IsRefusedText (S.left source.old) (K.written sink.old) (K.written sink.new) ⊎ IsRefusedByLength (S.left source.old) (K.written sink.old) (K.written sink.new) }
-    ensures refused_checking { AskToCheck (map string_bytes words.now) → result ≡ Refused → IsRefusedChecking (S.left source.old) (K.written sink.old) (K.written sink.new) ⊎ IsRefusedByLength (S.left source.old) (K.written sink.old) (K.written sink.new) }
+    ensures refused { AskToProve (map string_bytes words.now) → result ≡ Refused →
+        IsRefusedText (S.left source.old) (K.written sink.old) (K.written sink.new) ⊎ IsRefusedByLength (S.left source.old) (K.written sink.old) (K.written sink.new) }
+    ensures refused_checking { AskToCheck (map string_bytes words.now) → result ≡ Refused →
+        IsRefusedChecking (S.left source.old) (K.written sink.old) (K.written sink.new) ⊎ IsRefusedByLength (S.left source.old) (K.written sink.old) (K.written sink.new) }
     ensures usage { result ≡ Usage → AskForNothing (map string_bytes words.now) }
     ensures usage_line { result ≡ Usage → Gets (K.written sink.old) (K.written sink.new) usage_line }
     ensures words { AskForNothing (map string_bytes words.now) → (result ≡ Usage) ⊎ ((result ≡ WriteFault) ⊎ (result ≡ Memory)) }

@@ -1,5 +1,5 @@
 -- The step of two records whose fields steps equate, and steps that are added place by place.
-use Rattle.std.specs.Prelude.{ℕ, ◌<◌, ◌+◌, ◌≡◌, zero, suc, List, [], ◌∷◌, ◌++◌, map, length, get_or, slice_get, Some}
+use Rattle.std.specs.Prelude.{ℕ, ◌<◌, ◌≡◌, zero, suc, List, [], ◌∷◌, ◌++◌, map, length, get_or, slice_get, Some}
 use Rattle.std.proofs.Common.{refl, sym, ap, ◌∙◌, subst, arith}
 use Rattle.std.proofs.lemmas.List.{length-map}
 use Rattle.std.proofs.lemmas.Option.{same_Some, slice_get_within}

@@ -1,11 +1,9 @@
 -- In a saturated state each term of an enumeration has a constructor's value, and different constructors have different values.
-use Rattle.std.specs.Prelude.{ℕ, zero, suc, true, List, [], ◌∷◌, ◌≡◌, slice_get, Some}
+use Rattle.std.specs.Prelude.{ℕ, true, List, [], ◌≡◌, Some}
 use Rattle.std.specs.List.{AllByRecursion, Contains}
 use mathlib.Core.Path.{sym, ◌∙◌}
-use native.Mathlib.Omega.{arith}
 use Rattle.ae_core.specs.Signatures.{IsLawful}
 use Rattle.ae_core.specs.Sorts.{sort_of}
-use Rattle.ae_core.specs.declared.formulas.Lit.{Lit}
 use Rattle.ae_core.specs.declared.problems.Problem.{Problem}
 use Rattle.ae_core.specs.declared.terms.Head.{Head}
 use Rattle.ae_core.specs.declared.terms.Sort.{Sort, out-Sort}

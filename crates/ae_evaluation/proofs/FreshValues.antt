@@ -1,6 +1,6 @@
 -- The fresh constants of the lines of a ground proof, with the values of the terms that a saturated state has for the goal's variables.
 use Rattle.std.specs.Prelude.{ℕ, zero, suc, ◌≤◌, Bool, true, false, List, [], ◌∷◌, ◌≡◌, map, length, reverse, slice_get, Option, Some, None}
-use Rattle.std.specs.List.{AllByRecursion, Contains, list_all}
+use Rattle.std.specs.List.{Contains, list_all}
 use Rattle.std.specs.Option.{option_map}
 use Rattle.std.proofs.lemmas.Option.{same_Some, slice_get-map}
 use mathlib.Core.Path.{refl, sym, ap, ◌∙◌, subst}

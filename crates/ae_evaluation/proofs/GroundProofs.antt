@@ -3,7 +3,6 @@ use Rattle.std.specs.Prelude.{ℕ, zero, suc, ◌<◌, Bool, true, false, ◌&&�
 use Rattle.std.specs.List.{AllByRecursion, Contains, list_all, flat_map}
 use Rattle.std.proofs.Common.{inl, inr, append_assoc, append-nil}
 use Rattle.std.proofs.lemmas.Bool.Decides.{nat_tests}
-use Rattle.std.proofs.lemmas.List.{reverse-append}
 use mathlib.Core.Path.{refl, sym, ap, ◌∙◌, subst}
 use native.Mathlib.Omega.{arith}
 use Rattle.ae_core.specs.Sorts.{sort_of, is_closed_sort, sorts_of, variable_sort, formula_ok, formula_in, same_sorts, trigger_ok}

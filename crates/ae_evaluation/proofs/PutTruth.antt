@@ -1,8 +1,7 @@
 -- The truth of a formula of the ground fragment, with terms put for its variables or constants of their values.
-use Rattle.std.specs.Prelude.{ℕ, zero, suc, ◌-◌, Bool, true, false, cond, not, ◌&&◌, ◌||◌, nat_eq, nat_lt, List, [], ◌∷◌, ◌++◌, ◌≡◌, map, length, reverse, slice_get, Option, Some, None}
+use Rattle.std.specs.Prelude.{ℕ, zero, suc, ◌-◌, Bool, true, cond, not, ◌&&◌, ◌||◌, nat_eq, nat_lt, List, [], ◌∷◌, ◌++◌, ◌≡◌, map, length, reverse, slice_get, Option, Some, None}
 use Rattle.ae_base.proofs.ListFacts.{empty_parts}
 use Rattle.std.specs.List.{AllByRecursion, flat_map}
-use Rattle.std.proofs.lemmas.Bool.Decides.{nat_tests}
 use mathlib.Core.Path.{refl, sym, ap, ◌∙◌, subst}
 use native.Mathlib.Omega.{arith}
 use Rattle.ae_base.specs.Decided.{decided}

@@ -1,5 +1,5 @@
 -- Terms put for a block's variables, or constants with the values of these terms: the values, and the truth of formulas, are the same.
-use Rattle.std.specs.Prelude.{ℤ, Bool, ℕ, ◌-◌, true, false, cond, nat_lt, List, [], ◌∷◌, ◌++◌, ◌≡◌, ◌⊎◌, map, length, reverse, slice_get, Option, Some}
+use Rattle.std.specs.Prelude.{ℤ, Bool, ℕ, ◌-◌, true, false, cond, nat_lt, List, [], ◌∷◌, ◌≡◌, ◌⊎◌, map, length, reverse, slice_get, Option, Some}
 use Rattle.ae_base.proofs.ListFacts.{empty_parts}
 use Rattle.std.specs.List.{AllByRecursion, list_all, flat_map}
 use Rattle.std.proofs.Common.{inl, inr}

@@ -1,5 +1,5 @@
 -- Applications of symbols, as functions follow their rules: each exit of a function is one of these lemmas.
-use Rattle.std.proofs.Common.{◌≡◌, ◌∙◌, ℕ, Bool, true, nat_eq, List, [], ◌∷◌, Option, Some, slice_get, map, length, sym, ap, subst}
+use Rattle.std.proofs.Common.{◌≡◌, ◌∙◌, ℕ, Bool, true, nat_eq, List, Some, slice_get, map, length, sym, ap, subst}
 use Rattle.std.proofs.lemmas.Option.{same_Some}
 use Rattle.std.proofs.lemmas.Bool.{eq-eqb, eqb-true}
 use Rattle.std.proofs.lemmas.List.{length-map}
@@ -20,7 +20,7 @@ use Rattle.ae_elab.specs.Expressions.{part_of}
 use Rattle.ae_elab.specs.Formulas.{predicate_rule}
 use Rattle.ae_expression_typing.specs.Inner.OperandsAnswers.{TypesApplied}
 use Rattle.ae_elab.specs.Nodes.{a_claim, trees_at}
-use Rattle.ae_elab.specs.Rules.{Passed, Rule, Typed, typed, Part, give, ◌>>◌, ◌⇒◌, unknowns, all_wanted}
+use Rattle.ae_elab.specs.Rules.{Passed, Rule, typed, Part, give, ◌>>◌, unknowns, all_wanted}
 use Rattle.ae_elab.specs.Scope.{Scope}
 use Rattle.ae_elab.specs.Steps.{IsTaken}
 use Rattle.ae_elab.specs.Terms.{Applied, application_rule, function_rule}

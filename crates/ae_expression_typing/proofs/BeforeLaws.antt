@@ -1,6 +1,6 @@
 -- Once the class of an expression was looked at, the bound names and the nodes are as they were: what a part comes to from then
 -- on, it comes to from before.
-use Rattle.std.proofs.Common.{◌≡◌, ◌∙◌, ℕ, List, [], ◌∷◌, Result, Ok, Err, sym, ap, subst}
+use Rattle.std.proofs.Common.{◌≡◌, ◌∙◌, ℕ, List, [], ◌∷◌, Result, Ok, Err, ap, subst}
 use Rattle.ae_types.specs.Bound.{bound}
 use Rattle.ae_syntax.specs.declared.spans.Span.{Span}
 use Rattle.ae_elab.specs.declared.faults.TypeFault.{TypeFault}
@@ -13,8 +13,8 @@ use Rattle.ae_elab.specs.Rules.{Part, Rule}
 use Rattle.ae_elab.specs.Scope.{Scope, Class, formula, either, term, Local, named, name_in, scope_with, with_locals}
 use Rattle.ae_elab.specs.Steps.{IsWalked, IsStopped}
 use Rattle.ae_elab.specs.Trees.{Tree}
-use Rattle.ae_elab.specs.Typings.{scope_at, Begins, Walks, Stops, TreeAnswer, nodes_of, locals_of}
-use Rattle.ae_expressions.specs.Inner.Bindings.{Binds, BindsAnswer}
+use Rattle.ae_elab.specs.Typings.{Begins, Walks, Stops, TreeAnswer, nodes_of, locals_of}
+use Rattle.ae_expressions.specs.Inner.Bindings.{BindsAnswer}
 
 abbrev IsNoFormula : Class → Type 0
 IsNoFormula formula = ⊥

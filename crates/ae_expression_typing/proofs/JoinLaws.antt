@@ -1,7 +1,6 @@
 -- The rules that put parts together, as functions follow them: each exit of the function is one of these lemmas.
-use Rattle.std.proofs.Common.{◌≡◌, ◌∙◌, ℕ, List, [], ◌∷◌, sym, ap, subst}
+use Rattle.std.proofs.Common.{ℕ, List, subst}
 use Rattle.ae_core.specs.declared.terms.Sort.{Sort}
-use Rattle.ae_syntax.specs.declared.spans.Span.{Span}
 use Rattle.ae_syntax.specs.declared.exprs.Expr.{Expr}
 use Rattle.ae_elab.specs.declared.faults.TypeFault.{TypeFault}
 use Rattle.ae_elab.specs.declared.numbers.Numbers.TheVariants.{IntOrReal}
@@ -11,11 +10,11 @@ use Rattle.ae_elab.specs.Expressions.{part_of}
 use Rattle.ae_elab.specs.Formulas.{equation_rule, inequality_rule, connective_rule, conditional_rule}
 use Rattle.ae_elab.specs.AfterParts.{negation_rule}
 use Rattle.ae_elab.specs.Nodes.{Entry, a_tree, a_claim, tree_at, claim_at, IsTree, IsClaim}
-use Rattle.ae_elab.specs.Rules.{Rule, Typed, typed, Part, give, ◌>>◌, as_term, as_formula, wanted}
+use Rattle.ae_elab.specs.Rules.{Rule, Typed, typed, give, ◌>>◌, as_term, as_formula, wanted}
 use Rattle.ae_elab.specs.Scope.{Scope}
 use Rattle.ae_elab.specs.Terms.{operands, choice_rule}
 use Rattle.ae_elab.specs.Trees.{Tree, Claim, Relation, relation, negation, conditional, choice}
-use Rattle.ae_elab.specs.Typings.{Walks, Stops, TypesTerm, TypesClaim, Begins, Puts, nodes_of}
+use Rattle.ae_elab.specs.Typings.{Walks, Stops, TypesTerm, TypesClaim, Puts, nodes_of}
 use Rattle.ae_elab.proofs.NodeLaws.{tree_is, claim_is, later_tree, later_claim, begins_on}
 use Rattle.ae_elab.proofs.TypingLaws.{walks_then, stops_first, stops_later, walks_push, stands_put}
 

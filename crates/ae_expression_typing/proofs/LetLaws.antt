@@ -1,5 +1,5 @@
 -- `let`: its value is typed, its name is bound, its body is typed, and the name is left.
-use Rattle.std.proofs.Common.{◌≡◌, ◌∙◌, ℕ, List, [], ◌∷◌, refl, sym, ap, subst}
+use Rattle.std.proofs.Common.{◌≡◌, ◌∙◌, ℕ, [], ◌∷◌, refl, sym, ap, subst}
 use Rattle.ae_core.specs.declared.terms.Sort.{Sort}
 use Rattle.ae_types.specs.Bound.{bound}
 use Rattle.ae_syntax.specs.declared.spans.Span.{Span}
@@ -11,7 +11,7 @@ use Rattle.ae_elab.specs.Expressions.{bind}
 use Rattle.ae_expressions.specs.Inner.Bindings.{Binds, Enters, Leaves, value_rule}
 use Rattle.ae_elab.specs.Nodes.{IsTree, IsClaim}
 use Rattle.ae_elab.specs.Rules.{Rule, Part, Typed, typed, give, ◌>>◌, as_term, as_formula}
-use Rattle.ae_elab.specs.Scope.{Scope, Local, Class, Meaning, formula, either, term, a_term, a_formula, named, name_in, with_locals, scope_with}
+use Rattle.ae_elab.specs.Scope.{Scope, Class, Meaning, formula, either, term, a_term, a_formula, named, name_in, with_locals, scope_with}
 use Rattle.ae_elab.specs.Steps.{IsWalked, IsStopped}
 use Rattle.ae_elab.specs.Trees.{Tree, Claim}
 use Rattle.ae_elab.specs.Typings.{scope_at, Begins, Walks, Stops, TypesTerm, TypesClaim, nodes_of, locals_of}

@@ -1,5 +1,5 @@
 -- The rules of operators, as functions follow them: each exit of the function is one of these lemmas.
-use Rattle.std.proofs.Common.{◌≡◌, ◌∙◌, ℕ, List, [], ◌∷◌, Result, Ok, Err, refl, sym, ap, subst}
+use Rattle.std.proofs.Common.{List, [], ◌∷◌, sym, subst}
 use Rattle.ae_core.specs.declared.terms.Sort.{Sort}
 use Rattle.ae_types.specs.Bound.{bound}
 use Rattle.ae_types.specs.Inner.Enters.{Sheet}
@@ -12,12 +12,12 @@ use Rattle.ae_elab.specs.declared.typings.Context.{Context}
 use Rattle.ae_elab.specs.declared.typings.Typing.{Typing}
 use Rattle.ae_elab.specs.Conditions.{Condition, may_be, has_operand_sort, becomes, has_sort}
 use Rattle.ae_elab.specs.Expressions.{part_of}
-use Rattle.ae_elab.specs.Rules.{Rule, Typed, typed, Part, give, ◌>>◌, ◌⇒◌, all_of, as_term, wanted}
+use Rattle.ae_elab.specs.Rules.{Rule, Typed, Part, give, ◌>>◌, ◌⇒◌, all_of, as_term, wanted}
 use Rattle.ae_elab.specs.Scope.{Scope}
 use Rattle.ae_elab.specs.Steps.{IsMet, IsNotMet, AreMet, AreNotMet}
 use Rattle.ae_elab.specs.Terms.{operands}
 use Rattle.ae_elab.specs.Trees.{Tree}
-use Rattle.ae_elab.specs.Typings.{scope_at, Walks, Stops, TypesTree, TreeAnswer}
+use Rattle.ae_elab.specs.Typings.{Walks, Stops}
 use Rattle.ae_expressions.proofs.PartForms.{place_is}
 use Rattle.ae_elab.proofs.TypingLaws.{with_bindings, walks_give, walks_then, stops_first, stops_later, walks_demand, stops_demand, stops_after, walks_all, stops_all}
 

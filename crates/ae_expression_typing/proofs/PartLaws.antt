@@ -1,5 +1,5 @@
 -- The rules of one part, as functions follow them: each exit of the function is one of these lemmas.
-use Rattle.std.proofs.Common.{◌≡◌, ◌∙◌, ℕ, [], ◌∷◌, Result, sym, ap, subst}
+use Rattle.std.proofs.Common.{ℕ, Result, sym, subst}
 use Rattle.ae_core.specs.declared.terms.Op.{Op}
 use Rattle.ae_core.specs.declared.terms.Sort.{Sort}
 use Rattle.ae_syntax.specs.declared.exprs.Expr.{Expr}

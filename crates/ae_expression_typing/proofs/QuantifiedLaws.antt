@@ -1,5 +1,5 @@
 -- Blocks: their variables, their triggers, their body, and the way out of them.
-use Rattle.std.proofs.Common.{◌≡◌, ◌∙◌, ℕ, ◌++◌, List, [], ◌∷◌, map, length, reverse, zero, suc, ◌<◌, Some, None, Option, refl, sym, ap, subst, arith}
+use Rattle.std.proofs.Common.{◌≡◌, ◌∙◌, ℕ, ◌++◌, List, [], ◌∷◌, map, length, reverse, ◌<◌, Some, None, refl, sym, ap, subst, arith}
 use Rattle.std.proofs.lemmas.List.{length-map, length-reverse}
 use Rattle.ae_core.specs.declared.terms.Sort.{Sort}
 use Rattle.ae_types.specs.Bound.{bound}
@@ -15,7 +15,7 @@ use Rattle.ae_elab.specs.declared.typings.Typing.{Typing}
 use Rattle.ae_elab.specs.Environments.{Bench, entries, locals}
 use Rattle.ae_elab.specs.Expressions.{part_of, trigger_of}
 use Rattle.ae_elab.specs.Formulas.{Bound, local_of, with_block, groups_rule, triggers_rule, merged_with, around_body, block_rule}
-use Rattle.ae_elab.specs.Nodes.{Entry, a_claim, claim_at, patterns_at}
+use Rattle.ae_elab.specs.Nodes.{a_claim, claim_at, patterns_at}
 use Rattle.ae_elab.specs.Rules.{Passed, Rule, Around, give, ◌>>◌}
 use Rattle.ae_elab.specs.Scope.{Scope, scope_with}
 use Rattle.ae_elab.specs.Steps.{IsTaken, IsHalted, IsWalked, IsStopped}

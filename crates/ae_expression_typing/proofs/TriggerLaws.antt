@@ -1,7 +1,6 @@
 -- Triggers: their terms one by one, the triggers one by one, and blocks.
-use Rattle.std.proofs.Common.{arith, ◌≡◌, ◌∙◌, ℕ, ◌+◌, ◌<◌, ◌≤◌, ◌&&◌, not, Bool, List, [], ◌∷◌, ◌++◌, map, length, drop, get_or, Option, Some, None, Result, Ok, Err, refl, sym, ap, subst}
+use Rattle.std.proofs.Common.{◌≡◌, ◌∙◌, ℕ, ◌+◌, ◌<◌, ◌≤◌, ◌&&◌, not, List, [], ◌∷◌, ◌++◌, map, length, drop, get_or, refl, sym, ap, subst}
 use Rattle.std.proofs.lemmas.List.{drop_more, drop_all}
-use Rattle.ae_core.specs.declared.terms.Sort.{Sort}
 use Rattle.ae_types.specs.Bound.{bound}
 use Rattle.ae_syntax.specs.declared.exprs.Expr.{Expr}
 use Rattle.ae_syntax.specs.declared.exprs.Trigger.{Trigger}
@@ -15,16 +14,15 @@ use Rattle.ae_elab.specs.declared.typings.Typing.{Typing}
 use Rattle.ae_elab.specs.Conditions.{test}
 use Rattle.ae_elab.specs.Expressions.{part_of, trigger_of}
 use Rattle.ae_elab.specs.Formulas.{untested, pattern_rule, patterns_rule, covering, first_place_of, triggers_rule}
-use Rattle.ae_elab.specs.Nodes.{Entry, AreTrees, IsTree, IsClaim, a_tree, claim_at, patterns_at, trees_at}
-use Rattle.ae_elab.specs.Rules.{Passed, Rule, Typed, typed, give, ◌>>◌, ◌⇒◌, as_term, as_formula}
+use Rattle.ae_elab.specs.Nodes.{Entry, AreTrees, IsTree, a_tree, claim_at, patterns_at, trees_at}
+use Rattle.ae_elab.specs.Rules.{Rule, typed, give, ◌>>◌, ◌⇒◌, as_term, as_formula}
 use Rattle.ae_elab.specs.Scope as scope
 use Rattle.ae_elab.specs.Scope.{Scope, Class}
 use Rattle.ae_elab.specs.Steps.{AreHeld, AreFailed}
 use Rattle.ae_elab.specs.Trees as tree
 use Rattle.ae_elab.specs.Trees.{Tree, Trees, Claim, Patterns, more, no_pattern, and_pattern, has_choice, is_application, pattern_of}
-use Rattle.ae_elab.specs.Typings.{scope_at, Begins, Walks, Stops, TypesTerm, TypesTree, TypesClaim, TypesTrees, Puts, nodes_of, locals_of}
-use Rattle.ae_elab.proofs.NodeLaws.{claim_is, later_trees, trees_are, tree_is}
-use Rattle.ae_elab.proofs.PartRules.{trigger}
+use Rattle.ae_elab.specs.Typings.{Begins, Walks, Stops, TypesTerm, TypesTree, TypesClaim, TypesTrees, Puts, nodes_of}
+use Rattle.ae_elab.proofs.NodeLaws.{claim_is, later_trees, trees_are}
 use Rattle.ae_elab.proofs.TypingLaws.{walks_give, walks_then, walks_all, walks_push, stands_put, stops_first, stops_later, stops_all, stops_after_all}
 use Rattle.ae_typing.specs.Triggers.{trigger_term, trigger_covers}
 use Rattle.ae_expression_typing.specs.Inner.PatternsAnswers.{ArePatterns, TypesPatterns}

@@ -1,5 +1,5 @@
 -- Records: the values of their fields, one by one, and the whole.
-use Rattle.std.proofs.Common.{arith, ◌≡◌, ◌∙◌, ℕ, ◌+◌, ◌<◌, ◌≤◌, List, [], ◌∷◌, ◌++◌, map, length, drop, get_or, reverse, Option, Some, None, Result, Ok, Err, refl, sym, ap, subst}
+use Rattle.std.proofs.Common.{◌≡◌, ◌∙◌, ℕ, ◌+◌, ◌<◌, ◌≤◌, List, [], ◌∷◌, ◌++◌, map, length, drop, get_or, reverse, Option, Some, None, Result, Ok, Err, sym, ap, subst}
 use Rattle.std.proofs.lemmas.List.{drop_more, drop_all, append_assoc, append-nil, reverse-append}
 use Rattle.ae_core.specs.declared.terms.Sort.{Sort, Named}
 use Rattle.ae_types.specs.Bound.{bound}
@@ -18,14 +18,14 @@ use Rattle.ae_elab.specs.Expressions.{part_of, set_of}
 use Rattle.ae_elab.specs.Nodes.{AreTrees, IsTree}
 use Rattle.ae_elab.specs.Rules.{Passed, Rule, Typed, typed, no_term, give, ◌>>◌, ◌⇒◌, all_of, refuse, unknowns, as_term, wanted, Set}
 use Rattle.ae_elab.specs.Scope.{Scope, field_place, name_in}
-use Rattle.ae_elab.specs.Steps.{IsMet, IsNotMet, AreHeld, AreFailed, IsTaken, IsWalked, IsStopped}
+use Rattle.ae_elab.specs.Steps.{IsMet, IsNotMet, AreHeld, AreFailed, IsTaken, IsStopped}
 use Rattle.ae_elab.specs.Terms.{Values, no_values, values_rule, with_field, with_type, field_sort, arity_at, record_rule, update_rule}
 use Rattle.ae_elab.specs.Trees as tree
 use Rattle.ae_elab.specs.Trees.{Tree, Trees, more}
-use Rattle.ae_elab.specs.Typings.{scope_at, Walks, Stops, TypesTerm, TermAnswer, nodes_of}
+use Rattle.ae_elab.specs.Typings.{scope_at, Walks, Stops, TermAnswer, nodes_of}
 use Rattle.ae_elab.proofs.NodeLaws.{later_trees}
 use Rattle.ae_elab.proofs.PartRules.{setting}
-use Rattle.ae_elab.proofs.TypingLaws.{with_bindings, with_passing, walks_give, walks_then, walks_taken, walks_all, walks_demand, stops_first, stops_later, stops_all, stops_after_all, stops_demand, stops_after}
+use Rattle.ae_elab.proofs.TypingLaws.{with_bindings, with_passing, walks_give, walks_then, walks_taken, walks_all, stops_first, stops_later, stops_all, stops_after_all, stops_demand}
 use Rattle.ae_expressions.specs.FieldParts.{no_field, new_field, then_built, then_updated}
 use Rattle.ae_expression_typing.specs.Inner.ValuesAnswers.{TypesValues}
 use Rattle.ae_typing.specs.declared.record_steps.Values as code

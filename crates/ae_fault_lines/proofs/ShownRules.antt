@@ -1,5 +1,5 @@
 -- The texts of sorts as a fault's line shows them, variant by variant.
-use Rattle.std.proofs.Common.{arith, ℕ, List, [], ◌∷◌, ◌++◌, ◌≡◌, map, decimal, length, sym, ap, ◌∙◌, append_assoc, append-nil, refl, codes}
+use Rattle.std.proofs.Common.{arith, ℕ, List, [], ◌∷◌, ◌++◌, ◌≡◌, map, decimal, length, sym, ap, ◌∙◌, append_assoc, append-nil, codes}
 use Rattle.ae_codes.specs.Listings.{joined}
 use Rattle.ae_core.specs.declared.terms.Sort.{Sort, Var, Rigid, Int, Real, Bool as BoolSort, Unit as UnitSort, Named, fold-roll-Sort}
 use Rattle.ae_core.specs.declared.terms.Sort.TheOpen as sort_layer

@@ -1,5 +1,5 @@
 -- What stands at the end of a search: clauses, names, equations, predicates, enumerations and integers.
-use Rattle.std.specs.Prelude.{ℕ, ◌<◌, ◌≡◌, ◌⊎◌, true, List, [], ◌∷◌, map, length, slice_get, take, None, Some}
+use Rattle.std.specs.Prelude.{ℕ, ◌<◌, ◌≡◌, ◌⊎◌, true, List, [], ◌∷◌, map, length, slice_get, take, Some}
 use Rattle.std.specs.List.{AllByRecursion, Contains}
 use Rattle.std.proofs.Common.{refl, sym, ap, ◌∙◌, subst, arith, inl, inr}
 use Rattle.std.proofs.Math.Seq.{take-length}
@@ -46,7 +46,6 @@ use Rattle.ae_settled.specs.Met.{Satisfies}
 use Rattle.ae_state.specs.Fitting.{FitsStore}
 use Rattle.ae_state.specs.Names.{assumed_in, system_now}
 use Rattle.ae_state.specs.Stepping.{IsInStep}
-use Rattle.ae_store.specs.Stores.{Stored}
 use Rattle.ae_theory.specs.Names.{is_atom, terms_in}
 use Rattle.ae_theory.specs.Noting.{literals}
 use Rattle.ae_theory.specs.Tagged.{Tagged}

@@ -1,10 +1,10 @@
 -- A literal has the terms of its formula; and which terms a formula has.
 use Rattle.std.specs.Prelude.{ℕ, Bool, not, List, [], ◌∷◌, ◌++◌, ◌≡◌}
-use Rattle.std.proofs.Common.{refl, sym, ap, ◌∙◌}
+use Rattle.std.proofs.Common.{sym, ap, ◌∙◌}
 use Rattle.ae_core.specs.Inner.Induction.{by_formulas}
 use Rattle.ae_core.specs.declared.terms.Sort.{Sort}
 use Rattle.ae_core.specs.declared.terms.Term.{Term}
-use Rattle.ae_core.specs.declared.formulas.Formula.{Formula, True, False, Eq, Lt, Le, Pred, Not, And, Or, Xor, Iff, All, Ex}
+use Rattle.ae_core.specs.declared.formulas.Formula.{Formula, Eq, Lt, Le, Pred, Not, And, Or, Xor, Iff}
 use Rattle.ae_core.specs.declared.formulas.Lit.{Lit}
 use Rattle.ae_core.proofs.Recursion.{fold_eq, fold_lt, fold_le, fold_pred, fold_not, fold_and, fold_or, fold_xor, fold_iff}
 use Rattle.ae_journal.specs.Ground.{atom_terms, atom_terms_step}

@@ -1,6 +1,6 @@
 -- Counting up to a ceiling: what is counted of counted numbers is what is counted of the numbers themselves.
 use Rattle.std.specs.Prelude.{ℕ, suc, ◌+◌, ◌<◌, ◌≡◌, max, List, [], ◌∷◌, ◌++◌, length, take, get_or, map}
-use Rattle.std.proofs.Common.{refl, sym, ap, ◌∙◌, arith}
+use Rattle.std.proofs.Common.{sym, ap, ◌∙◌, arith}
 use Rattle.std.proofs.lemmas.List.{take_more, map-append}
 use Rattle.ae_journal.specs.Sizes.{joined}
 use Rattle.ae_formula_sizes.specs.declared.counting.Size.{Size}

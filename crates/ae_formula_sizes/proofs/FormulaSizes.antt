@@ -1,5 +1,5 @@
 -- The size of each formula, and the limits.
-use Rattle.std.specs.Prelude.{ℕ, suc, ◌+◌, ◌≤◌, ◌≡◌, ◌↔◌, max, List, map}
+use Rattle.std.specs.Prelude.{ℕ, suc, ◌+◌, ◌≤◌, ◌≡◌, max, List, map}
 use Rattle.std.proofs.Common.{ap, sym, ◌∙◌, arith}
 use Rattle.ae_core.specs.declared.formulas.Formula.{Formula, True, False, Eq, Lt, Le, Pred, Not, And, Or, Xor, Iff, All, Ex}
 use Rattle.ae_core.specs.declared.formulas.Quant.{Quant}
@@ -9,7 +9,7 @@ use Rattle.ae_core.proofs.Recursion.{fold_true, fold_false, fold_eq, fold_lt, fo
 use Rattle.ae_journal.specs.Sizes.{joined, sort_size, term_size, formula_size, formula_size_step, quant_size_step, nodes, levels, IsSmall}
 use Rattle.ae_formula_sizes.specs.declared.counting.Size.{Size}
 use Rattle.ae_formula_sizes.specs.Inner.Counted.{both, counted, leaf, list_size, quant_size, round, size_of_sorts, size_of_term, size_of_terms, size_of_triggers, size_of_quant, size_of_formula, sum}
-use Rattle.ae_formula_sizes.proofs.Ceilings.{is_leaf, is_round, is_both, is_round_both, both_counted, counted_same}
+use Rattle.ae_formula_sizes.proofs.Ceilings.{is_leaf, is_round, is_both, is_round_both, both_counted}
 
 -- ---- the sizes of the journal
 module _ (join : ℕ → ℕ → ℕ) where

@@ -7,7 +7,6 @@ use Rattle.ae_core.specs.declared.problems.Problem.{Problem}
 use Rattle.ae_core.specs.declared.proofs.Proof.{Proof}
 use Rattle.ae_ground_laws.proofs.Trims.{trimmed_ground}
 use Rattle.ae_journal.specs.Answers.{IsAnswer}
-use Rattle.ae_journal.specs.Journals.{counted_in}
 use Rattle.ae_journal.specs.declared.answers.Answer.{Answer}
 use Rattle.ae_journal.specs.declared.answers.Answer.TheVariants.{Valid, Unknown, Steps, Number}
 use Rattle.ae_legal_states.proofs.Systems.{states_fit}

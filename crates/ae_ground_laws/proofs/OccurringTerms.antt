@@ -19,7 +19,7 @@ use Rattle.ae_core.specs.declared.terms.Sort.TheVariants.{outs-Real, outs-Rigid,
 use Rattle.ae_core.specs.declared.terms.Head.{Head}
 use Rattle.ae_core.specs.declared.terms.Head.TheVariants as head
 use Rattle.ae_core.specs.declared.terms.Term.{Term, Apply}
-use Rattle.ae_core.specs.declared.formulas.Formula.{Formula, Pred, Not, And, Or, Xor, Iff, All}
+use Rattle.ae_core.specs.declared.formulas.Formula.{Formula, Pred, And, Or, Xor, Iff, All}
 use Rattle.ae_core.specs.declared.formulas.Quant.{Quant}
 use Rattle.ae_core.specs.declared.problems.Signature.{Signature}
 use Rattle.ae_core.specs.declared.problems.Problem.{Problem}

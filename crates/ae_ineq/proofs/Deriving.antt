@@ -1,27 +1,23 @@
 -- Sums of inequalities: of one alone, of two sums, and what a combination of rows comes to.
-use Rattle.std.specs.Prelude.{ℕ, ℤ, pos, ◌≡◌, ◌⊎◌, ◌<◌, ◌<ℤ◌, Bool, true, false, ◌||◌, List, [], ◌∷◌, ◌++◌, map, Contains}
+use Rattle.std.specs.Prelude.{ℕ, ◌≡◌, Bool, true, false, ◌||◌, List, [], ◌∷◌, ◌++◌, map, Contains}
 use Rattle.std.proofs.Common.{refl, sym, ap, ◌∙◌, subst, inl, inr}
 use Rattle.std.specs.List.{AllByRecursion}
-use Rattle.std.proofs.lemmas.List.{map-append}
 use Rattle.std.proofs.Math.Bool.{or-false, or_assoc}
 use native.Mathlib.Decide.{ℕ_discrete}
 use Rattle.ae_base.proofs.AllOf.{all_append, all_of_map, all_weaker}
 use Rattle.ae_math.specs.Fractions.{ℚ, one_ℚ, zero_ℚ, neg_ℚ, ◌*ℚ◌, is_positive}
 use Rattle.ae_math.specs.Forms.{Form, SameForm, number, plus, scale}
-use Rattle.ae_math.proofs.FormLaws.{same_refl, same_sym, same_trans, plus-same, scale-same, scale_one, plus_comm, zero_plus}
-use Rattle.ae_num.specs.declared.forms.Lin.{Lin}
-use Rattle.ae_num.specs.Forms.{meaning, SameMeaning, IsNormal}
+use Rattle.ae_math.proofs.FormLaws.{same_trans, plus-same, scale-same, scale_one, plus_comm, zero_plus}
+use Rattle.ae_num.specs.Forms.{meaning}
 use Rattle.ae_rows.specs.Rows.{mixture, combination, factor_at}
 use Rattle.ae_rows.proofs.Choosing.{positive_one}
 use Rattle.ae_rows.proofs.Elimination.{both_positive}
 use Rattle.ae_rows.proofs.Mixtures.{multiplied, mixture-append, mixture-multiplied}
 use Rattle.ae_ineq.specs.declared.solving.Inequality.{Inequality}
 use Rattle.ae_ineq.specs.declared.rows.Row.{Row}
-use Rattle.ae_ineq.specs.declared.elimination.Verdict.{Verdict}
-use Rattle.ae_ineq.specs.declared.elimination.Verdict.TheVariants.{Open, Tight, Contradiction}
 use Rattle.ae_ineq.specs.Sums.{Share, IsSum, IsZero, IsRefuted, SomeNonzero, HasTightSum, HasRefutedSum, forms_of, some_strict}
 use Rattle.ae_ineq.specs.Inner.Sets.{IsLowerRow, IsUpperRow}
-use Rattle.ae_ineq.specs.Inner.Derived.{IsNonzeroSum, IsDerived, IsJudged}
+use Rattle.ae_ineq.specs.Inner.Derived.{IsNonzeroSum, IsDerived}
 use Rattle.ae_ineq.proofs.LastLaws.{lower_means, upper_means}
 
 abbrev times : ℚ → Share → Share

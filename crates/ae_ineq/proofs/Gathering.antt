@@ -1,11 +1,10 @@
 -- The rows of inequalities.
-use Rattle.std.specs.Prelude.{ℕ, zero, suc, pos, ◌≡◌, ◌⊎◌, ◌<◌, ◌<ℤ◌, Bool, true, false, List, [], ◌∷◌, ◌++◌, length, take, Option, Some, None, Contains}
+use Rattle.std.specs.Prelude.{ℕ, zero, suc, pos, ◌≡◌, ◌⊎◌, ◌<◌, ◌<ℤ◌, true, false, List, [], ◌∷◌, ◌++◌, length, take, Option, Some, None, Contains}
 use Rattle.std.proofs.Common.{arith, refl, sym, ap, ◌∙◌, subst, get_or, inl, inr}
 use Rattle.std.specs.List.{AllByRecursion}
 use native.Mathlib.Decide.{ℕ_discrete}
 use Rattle.ae_base.proofs.AllOf.{all_push, all_weaker}
 use Rattle.ae_math.specs.Fractions.{ratio}
-use Rattle.ae_math.specs.Forms.{Form}
 use Rattle.ae_math.proofs.FormLaws.{same_refl}
 use Rattle.ae_num.specs.declared.forms.Part.{Part}
 use Rattle.ae_num.specs.declared.forms.Lin.{Lin}
@@ -14,7 +13,7 @@ use Rattle.ae_rows.proofs.Elimination.{positive_nonzero}
 use Rattle.ae_ineq.specs.declared.solving.Inequality.{Inequality}
 use Rattle.ae_ineq.specs.declared.rows.Row.{Row}
 use Rattle.ae_ineq.specs.Sums.{IsZero, HasRefutedSum}
-use Rattle.ae_ineq.specs.Inner.Sets.{last_part, HasForm, IsRow, IsGoodRow}
+use Rattle.ae_ineq.specs.Inner.Sets.{last_part, IsRow, IsGoodRow}
 use Rattle.ae_ineq.specs.Inner.Derived.{IsNonzeroSum, IsDerived, IsTaken, AreRowsOf}
 use Rattle.ae_ineq.proofs.LastLaws.{ratio_positive, last_below, no_last_parts}
 use Rattle.ae_ineq.proofs.RowSets.{all_at, has_left, has_right}

@@ -1,12 +1,11 @@
 -- The sum that a form has in a journal, at a point, and what an answer says of the inequalities.
-use Rattle.std.specs.Prelude.{ℕ, ◌≡◌, Bool, true, false, nat_lt, List, [], ◌∷◌, ◌++◌, map, cond, nat_eq}
-use Rattle.std.proofs.Common.{arith, refl, sym, ap, ◌∙◌, subst, inl, inr}
-use Rattle.std.specs.List.{AllByRecursion}
+use Rattle.std.specs.Prelude.{ℕ, ◌≡◌, nat_lt, List, [], ◌∷◌, map, cond, nat_eq}
+use Rattle.std.proofs.Common.{arith, refl, sym, ap, ◌∙◌, inl, inr}
 use Rattle.std.proofs.lemmas.Bool.Decides.{nat_tests}
 use Rattle.ae_base.proofs.AllOf.{all_weaker}
 use Rattle.ae_base.proofs.Tests.{by_bool}
 use Rattle.ae_math.specs.Fractions.{ℚ, zero_ℚ, one_ℚ, ◌+ℚ◌, ◌*ℚ◌, ratio, is_positive}
-use Rattle.ae_math.specs.Forms.{Form, is_zero, sum_of, value}
+use Rattle.ae_math.specs.Forms.{is_zero, sum_of, value}
 use Rattle.ae_math.proofs.FractionLaws.{field, add_mul_q, add_assoc_q, zero_add_q, zero_mul_q}
 use Rattle.ae_math.proofs.FormLaws.{zero_is}
 use Rattle.ae_num.specs.declared.forms.Part.{Part}

@@ -1,8 +1,7 @@
 -- What the last part of a normal form says of its meaning; directions.
-use Rattle.std.specs.Prelude.{ℕ, zero, suc, ℤ, pos, negsuc, neg_ℤ, ◌≡◌, ◌≢◌, ◌*ℤ◌, ◌<ℤ◌, ◌<◌, ◌^◌, List, [], ◌∷◌, map, Option, Some, None, true, false, unsigned_abs, nat_eq}
+use Rattle.std.specs.Prelude.{ℕ, zero, suc, ℤ, pos, negsuc, neg_ℤ, ◌≡◌, ◌≢◌, ◌*ℤ◌, ◌<ℤ◌, ◌<◌, ◌^◌, List, [], ◌∷◌, map, Option, Some, None, true, unsigned_abs}
 use Rattle.std.proofs.Common.{arith, refl, sym, ap, ◌∙◌, subst}
 use Rattle.std.specs.List.{AllByRecursion}
-use Rattle.std.proofs.lemmas.Bool.Decides.{nat_tests}
 use native.Mathlib.Decide.{ℕ_discrete, dec_lt}
 use Rattle.ae_math.proofs.FractionOrder.{positive_zero}
 use Rattle.ae_math.proofs.FractionLaws.{neg_zero_q}

@@ -17,7 +17,8 @@ legal_both : (x : Setting) (bound : ℕ) (before a b : List Line) → AreLegal x
 legal_both x bound before [] b l h = subst (λ (w : List Line). AreLegal x bound w b) (append-nil before) h
 legal_both x bound before (k ∷ a) b l h = (l.0, legal_both x bound (before ++ k ∷ []) a b l.1 (subst (λ (w : List Line). AreLegal x bound w b) (sym (append_assoc before (k ∷ []) a)) h))
 
-pub all_legal : (x : Setting) (bound : ℕ) (rows rs : List Row) (before js ks : List Line) → AreAgreed x before rows → IsExtended rows before rs js → AreNotedOrNone rs js ks → (added : List Line) × (ks ≡ before ++ added) × AreLegal x bound before added
+pub all_legal : (x : Setting) (bound : ℕ) (rows rs : List Row) (before js ks : List Line) → AreAgreed x before rows → IsExtended rows before rs js → AreNotedOrNone rs js ks
+    → (added : List Line) × (ks ≡ before ++ added) × AreLegal x bound before added
 all_legal x bound rows rs before js ks a e n = by_noted n
   where
     first : (added : List Line) × (js ≡ before ++ added) × AreLegal x bound before added

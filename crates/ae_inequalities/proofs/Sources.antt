@@ -95,7 +95,8 @@ module _ (s : Stored) (old : Held) (r : Row) (fits : Fits s old) (right : IsRigh
   }
 
 -- ---- tags
-pub pushed_tags : (assumed : List Tagged) (given : List Given) (tags : List (List ℕ)) (g : Given) (own : List ℕ) → length tags ≡ length given → ((k : ℕ) → IsBlockOf assumed (hyps_of given k) (tags_at tags k)) → IsBlockOf assumed g.deriv.hyps own
+pub pushed_tags : (assumed : List Tagged) (given : List Given) (tags : List (List ℕ)) (g : Given) (own : List ℕ) → length tags ≡ length given → ((k : ℕ) → IsBlockOf assumed (hyps_of given k) (tags_at tags k))
+    → IsBlockOf assumed g.deriv.hyps own
     → (k : ℕ) → IsBlockOf assumed (hyps_of (given ++ g ∷ []) k) (tags_at (tags ++ own ∷ []) k)
 pushed_tags assumed [] [] g own e all one zero = one
 pushed_tags assumed [] [] g own e all one (suc k) = tt
@@ -129,6 +130,7 @@ block_append assumed [] b (t ∷ c) d h k = absurd h
 block_append assumed (l ∷ a) b [] d h k = absurd h
 block_append assumed (l ∷ a) b (t ∷ c) d h k = (h.0, block_append assumed a b c d h.1 k)
 
-pub joined_tags : (assumed : List Tagged) (given : List Given) (tags : List (List ℕ)) → ((k : ℕ) → IsBlockOf assumed (hyps_of given k) (tags_at tags k)) → (used : List ℕ) → IsBlockOf assumed (flat_map (hyps_of given) used) (flat_map (tags_at tags) used)
+pub joined_tags : (assumed : List Tagged) (given : List Given) (tags : List (List ℕ)) → ((k : ℕ) → IsBlockOf assumed (hyps_of given k) (tags_at tags k))
+    → (used : List ℕ) → IsBlockOf assumed (flat_map (hyps_of given) used) (flat_map (tags_at tags) used)
 joined_tags assumed given tags all [] = tt
 joined_tags assumed given tags all (k ∷ used) = block_append assumed (hyps_of given k) (flat_map (hyps_of given) used) (tags_at tags k) (flat_map (tags_at tags) used) (all k) (joined_tags assumed given tags all used)

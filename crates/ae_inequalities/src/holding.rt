@@ -93,7 +93,8 @@ pub fn assume_row(
     requires same { length tags.old ≡ length given.old }
     ensures added { OnOk result (IsAdded (record { rows = rows.old; given = given.old; tags = tags.old }) row counts (record { rows = rows.new; given = given.new; tags = tags.new })) }
     ensures kept { OnErr result ((rows.new ≡ rows.old) × (given.new ≡ given.old) × (tags.new ≡ tags.old)) }
-    ensures of_tags { (assumed : List Tagged) → AreOfTags assumed (record { rows = rows.old; given = given.old; tags = tags.old }) → IsBlockOf assumed row.from.deriv.hyps row.from.tags → AreOfTags assumed (record { rows = rows.new; given = given.new; tags = tags.new }) }
+    ensures of_tags { (assumed : List Tagged) → AreOfTags assumed (record { rows = rows.old; given = given.old; tags = tags.old }) → IsBlockOf assumed row.from.deriv.hyps row.from.tags →
+        AreOfTags assumed (record { rows = rows.new; given = given.new; tags = tags.new }) }
     ensures fits { Fits store.now (record { rows = rows.new; given = given.new; tags = tags.new }) }
     ensures same { length tags.new ≡ length given.new }
 {

@@ -11,7 +11,7 @@ use Rattle.ae_core.specs.declared.terms.Head.TheVariants as head
 use Rattle.ae_core.specs.declared.terms.Op.{Op}
 use Rattle.ae_core.specs.declared.terms.Op.TheVariants as op
 use Rattle.ae_core.specs.declared.formulas.Lit.{Lit}
-use Rattle.ae_num.specs.Forms.{IsNormal, Step, first_wide, factor_of, plus_steps, scale_steps, subst_steps, combine_steps, multiple_of}
+use Rattle.ae_num.specs.Forms.{IsNormal, Step, first_wide, plus_steps, scale_steps, subst_steps, combine_steps}
 use Rattle.ae_num.specs.declared.forms.Lin.{Lin}
 use Rattle.ae_num.specs.declared.forms.Value.{Value}
 use Rattle.ae_journal.specs.Values.{Sum, leaf_factor, minus_val, scale_val, sum_in, sum_of_lin, meaning}

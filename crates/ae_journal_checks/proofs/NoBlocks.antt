@@ -2,7 +2,6 @@
 use Rattle.std.proofs.Common.{◌≡◌, ℕ, List, [], ◌∷◌, map, nat_lt, false, Bool, Option, Some, sym, ◌∙◌, ap, subst, arith, inl, inr, length, slice_get}
 use Rattle.std.specs.List.{Contains}
 use Rattle.std.proofs.lemmas.Option.{same_Some}
-use Rattle.std.proofs.lemmas.Bool.Decides.{nat_tests}
 use Rattle.ae_base.proofs.Tests.{below_zero}
 use Rattle.ae_base.specs.Options.{only, ◌>>=◌}
 use Rattle.ae_base.proofs.Options.{when_some, bind_some, never_some}

@@ -1,5 +1,5 @@
 -- What an index of names says of nodes it says of their shapes, and a term tells its shape.
-use Rattle.std.specs.Prelude.{ℕ, suc, ◌<◌, ◌≤◌, Bool, true, false, List, [], ◌∷◌, ◌++◌, ◌≡◌, length, map, filter, take, slice_get, Option, Some, None}
+use Rattle.std.specs.Prelude.{ℕ, suc, ◌≤◌, Bool, true, false, List, [], ◌∷◌, ◌++◌, ◌≡◌, length, filter, take, slice_get, Option, Some, None}
 use Rattle.std.specs.Option.{option_map}
 use Rattle.std.proofs.Common.{refl, sym, ap, ◌∙◌, subst, arith}
 use Rattle.std.proofs.lemmas.List.{length-map, take-append-le, take-map}
@@ -9,14 +9,13 @@ use Rattle.ae_base.specs.Options.{or_else, ◌>>=◌}
 use Rattle.ae_base.proofs.ListFacts.{value_at}
 use Rattle.ae_base.proofs.Options.{mapped_some, never_some}
 use Rattle.ae_core.specs.declared.problems.Signature.{Signature}
-use Rattle.ae_core.specs.declared.terms.Term.{Term}
 use Rattle.ae_journal.specs.Triggers.{numbers_below}
-use Rattle.ae_known.specs.Index.{HasHeads, NodeHead_discrete, has_head, is_listed, names_where, passes_at, with_argument, with_head}
+use Rattle.ae_known.specs.Index.{HasHeads, NodeHead_discrete, has_head, is_listed, names_where, passes_at, with_argument}
 use Rattle.ae_known.specs.declared.known.Known.{Known}
 use Rattle.ae_store.proofs.TermLaws.{length_terms, placed, same_terms_same_shapes, term_kept, term_placed, widened}
 use Rattle.ae_store.specs.Shapes.{shape_of, shapes}
 use Rattle.ae_store.specs.Stores.{IsStore, Stored}
-use Rattle.ae_store.specs.Terms.{IsShapeAt, IsSound, Keeps, term_of, terms}
+use Rattle.ae_store.specs.Terms.{IsShapeAt, Keeps, term_of, terms}
 use Rattle.ae_store.specs.declared.nodes.Node.{Node}
 use Rattle.ae_store.specs.declared.nodes.NodeHead.{NodeHead}
 use Rattle.ae_store.specs.declared.nodes.Shape.{Shape}

@@ -71,7 +71,8 @@ fn all_rows(
     ensures fits { IfOk result (λ b. Fits store.now b) }
     ensures tags { IfOk result (λ b. AreOfTags (assumed_in state.now) b) }
     ensures even { IfOk result (λ b. length b.tags ≡ length b.given) }
-    ensures agreed { IfOk result (λ b. (x : Setting) (js : List Line) → length js ≡ lines → StandBeside x js store.now state.now trail.now marks.now kept → AreRowsOf x js (literals_from trail.now 0) b.rows × AreAgreed x js b.rows × AllByRecursion (λ r. IsNormal r.lin) b.rows) }
+    ensures agreed { IfOk result (λ b. (x : Setting) (js : List Line) → length js ≡ lines → StandBeside x js store.now state.now trail.now marks.now kept →
+        AreRowsOf x js (literals_from trail.now 0) b.rows × AreAgreed x js b.rows × AllByRecursion (λ r. IsNormal r.lin) b.rows) }
     ensures number { (wide : WideAt) → result ≡ Err (Number wide) → (x : Setting) (js : List Line) → IsBeside x js store.now state.now → AreStandingLiterals x js (literals_from trail.now 0) → IsLicensed x js wide }
     ensures steps { ¬ (result ≡ Err Steps) }
 {

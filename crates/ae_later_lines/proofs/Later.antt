@@ -1,5 +1,5 @@
 -- Generations and instances after more lines.
-use Rattle.std.specs.Prelude.{ℕ, List, ◌++◌, ◌⊎◌}
+use Rattle.std.specs.Prelude.{List, ◌++◌}
 use Rattle.std.specs.List.{Contains}
 use Rattle.std.proofs.Common.{sym, subst, inl, inr}
 use Rattle.std.proofs.lemmas.List.Elements.{Contains-append_cases}
@@ -11,7 +11,7 @@ use Rattle.ae_journal.specs.declared.lines.Line.TheVariants as line
 use Rattle.ae_owed.proofs.Recording.{records_grow}
 use Rattle.ae_owed.proofs.Rising.{term_wider}
 use Rattle.ae_owed.specs.Instances.{Instance}
-use Rattle.ae_owed.specs.Recorded.{AreRecorded, IsOfInstance, IsRecorded}
+use Rattle.ae_owed.specs.Recorded.{IsOfInstance, IsRecorded}
 use Rattle.ae_owed.specs.Recorded.IsOfInstance.{of_sorts, of_terms, of_axiom_terms}
 use Rattle.ae_searching.specs.Steps.{IsInstanceLine, NotesNoInstance}
 use Rattle.ae_later_lines.specs.Laws.{JustifiedStay, JustifiedAgesStay, RecordsStay}

@@ -11,7 +11,7 @@ use Rattle.ae_core.specs.declared.terms.Sort.{Int}
 use Rattle.ae_core.specs.declared.terms.Term.{Term}
 use Rattle.ae_evaluation.proofs.Sums.{factor_same, factor_other, factor-append, factor-scaled, factor-settled}
 use Rattle.ae_journal.specs.Rows.{add_sums, MayCombine}
-use Rattle.ae_journal.specs.Sides.{AreDivided, AreWhole}
+use Rattle.ae_journal.specs.Sides.{AreDivided}
 use Rattle.ae_journal.specs.Standing.{Setting}
 use Rattle.ae_journal.specs.Values.{Sum, leaf_factor, scaled, sum_of_lin}
 use Rattle.ae_journal.specs.declared.lines.Line.{Line}

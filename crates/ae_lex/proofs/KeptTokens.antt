@@ -1,6 +1,6 @@
 -- Kept tokens where the numerals become more.
-use Rattle.std.specs.Prelude.{ℕ, ◌+◌, ◌<◌, List, [], ◌∷◌, ◌++◌, ◌≡◌, map, length, get_or}
-use Rattle.std.proofs.Common.{refl, sym, ap, ◌∙◌, subst, arith}
+use Rattle.std.specs.Prelude.{ℕ, List, [], ◌∷◌, ◌++◌, ◌≡◌, length, get_or}
+use Rattle.std.proofs.Common.{refl, ap, ◌∙◌, arith}
 use Rattle.std.proofs.lemmas.List.{get_or_append_left, length-append, map-append}
 use Rattle.ae_base.proofs.AllOf.{all_weaker, all_push, map_same}
 use Rattle.ae_lex.specs.declared.kinds.Token.{Token}

@@ -1,7 +1,7 @@
 -- What stands at a place of the text.
 use Rattle.std.proofs.Common.{ℕ, ◌+◌, ◌-◌, ◌^◌, ◌≤◌, ◌<◌, true, List, [], ◌∷◌, ◌++◌, ◌≡◌, inl, inr, length, drop, take, refl, sym, ap, ◌∙◌, subst, arith, length-append, Option, Some, None}
 use Rattle.std.proofs.lemmas.Bool.{both_ways}
-use Rattle.std.proofs.Math.Seq.{take-append_seam, take-length, drop-append_seam}
+use Rattle.std.proofs.Math.Seq.{take-append_seam, drop-append_seam}
 use Rattle.std.proofs.lemmas.List.{length-drop, drop-drop}
 use Rattle.ae_lex.specs.declared.kinds.TokenKind.{TokenKind}
 use Rattle.ae_lex.specs.declared.kinds.TokenKind.TheVariants as kind

@@ -1,5 +1,5 @@
 -- What it means that an equation between two forms is solved.
-use Rattle.std.specs.Prelude.{◌≡◌, ◌≢◌, ◌⊎◌, ℕ, ◌<◌, ◌≤◌, ℤ, pos, negsuc, List, [], ◌++◌, Some, None, cond, int_lt, neg_ℤ}
+use Rattle.std.specs.Prelude.{◌≡◌, ◌≢◌, ◌⊎◌, ℕ, ◌<◌, ◌≤◌, ℤ, pos, List, [], Some, None, cond, int_lt, neg_ℤ}
 use native.Mathlib.Decide.{ℕ_discrete}
 use Rattle.ae_math.specs.Fractions.{ℚ, zero_ℚ}
 use Rattle.ae_math.specs.Forms.{Form, number, single, minus, scale, factor, substitute}

@@ -1,5 +1,5 @@
 -- A reading that goes on with its own value.
-use Rattle.std.proofs.Common.{ℕ, List, ◌≡◌, refl}
+use Rattle.std.proofs.Common.{◌≡◌, refl}
 use Rattle.ae_codes.specs.Codes.{Read, got, stops, wide}
 use Rattle.ae_readers.specs.Readers.{after_read}
 

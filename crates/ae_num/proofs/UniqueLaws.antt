@@ -4,7 +4,6 @@ use Rattle.std.specs.List.{AllByRecursion}
 use Rattle.std.specs.Int.{◌∣◌, IsGcd}
 use Rattle.std.proofs.Common.{arith, refl, sym, ap, ◌∙◌, subst, zero, suc}
 use native.Mathlib.Nat.{dvd-zero, dvd_antisymm, dvd-mul_left, dvd-mul_right, dvd-one, one-mul, mul_comm, mul_assoc}
-use Rattle.std.proofs.lemmas.Bool.Decides.{nat_tests}
 use borrow.Author.Differences.{ints}
 use Rattle.ae_math.specs.Fractions.{ratio}
 use Rattle.ae_math.specs.Inner.Respected.{cancel}

@@ -1,8 +1,7 @@
 -- The products and sums of a form that a rule makes of two.
-use Rattle.std.specs.Prelude.{ℕ, ℤ, pos, ◌≡◌, ◌<◌, ◌^◌, ◌*ℤ◌, Bool, true, false, cond, nat_le, List, [], ◌∷◌, ◌++◌, map, Some, None, unsigned_abs}
+use Rattle.std.specs.Prelude.{ℕ, ℤ, pos, ◌≡◌, ◌<◌, ◌^◌, ◌*ℤ◌, Bool, true, false, cond, List, [], ◌∷◌, ◌++◌, map, Some, None, unsigned_abs}
 use Rattle.std.specs.List.{flat_map, AllByRecursion}
-use Rattle.std.proofs.Common.{arith, refl, sym, ap, ◌∙◌, subst, ◌<ℤ◌}
-use Rattle.std.proofs.lemmas.Bool.Decides.{nat_tests}
+use Rattle.std.proofs.Common.{refl, sym, ap, ◌∙◌, subst, ◌<ℤ◌}
 use Rattle.std.proofs.lemmas.Bool.{leb-false}
 use Rattle.ae_num.specs.declared.numbers.Wide.{Wide}
 use Rattle.ae_num.specs.declared.forms.Lin.{Lin}

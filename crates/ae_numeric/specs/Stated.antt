@@ -1,6 +1,6 @@
 -- The products and sums of whole numbers that the checker states for a derived line and for an ending, of any size, in their order.
 -- The keys of its forms are the numbers of opaque terms, in the order in which these first become keys.
-use Rattle.std.specs.Prelude.{ℕ, zero, suc, ℤ, pos, neg_ℤ, Bool, true, false, cond, ◌&&◌, int_lt, unsigned_abs, List, [], ◌∷◌, ◌++◌, map, slice_get, Option, Some, None}
+use Rattle.std.specs.Prelude.{ℕ, zero, suc, ℤ, pos, neg_ℤ, Bool, true, false, cond, ◌&&◌, int_lt, unsigned_abs, List, [], ◌∷◌, ◌++◌, map, slice_get, Option, Some}
 use Rattle.std.specs.List.{list_all}
 use Rattle.std.specs.Ordering.{int_eq}
 use Rattle.ae_base.specs.Decided.{pick}

@@ -1,5 +1,5 @@
 -- The lines of a legal journal solve names by values over leaves of opaque terms, so numbers that are their own values are opaque.
-use Rattle.std.specs.Prelude.{ℕ, ℤ, pos, ◌<ℤ◌, zero, suc, ◌+◌, ◌≡◌, ◌≢◌, List, [], ◌∷◌, ◌++◌, map, length, slice_get, Option, Some}
+use Rattle.std.specs.Prelude.{ℕ, pos, ◌<ℤ◌, zero, suc, ◌+◌, ◌≡◌, ◌≢◌, List, [], ◌∷◌, ◌++◌, map, length, slice_get, Option, Some}
 use Rattle.std.specs.List.{AllByRecursion}
 use Rattle.std.proofs.Common.{arith, refl, sym, ap, ◌∙◌, subst, append_assoc}
 use Rattle.std.proofs.lemmas.Int.{ints}
@@ -13,15 +13,15 @@ use Rattle.ae_core.specs.declared.terms.Sort.{Sort}
 use Rattle.ae_core.specs.declared.terms.Term.{Term}
 use Rattle.ae_decide.proofs.NormalValues.{meaning-roll}
 use Rattle.ae_evaluation.proofs.Sums.{factor-settled, factor_same, one_sum, settles}
-use Rattle.ae_journal.proofs.LegalFronts.{front, line_at}
+use Rattle.ae_journal.proofs.LegalFronts.{line_at}
 use Rattle.ae_journal.proofs.Representatives.{one_leaf}
 use Rattle.ae_journal.specs.Inner.Numbering.{term_number}
 use Rattle.ae_journal.specs.Legal.{IsLegalLine, AreLegal}
 use Rattle.ae_journal.specs.Journals.{before_decision, live, live_after}
-use Rattle.ae_journal.specs.SolverLines.{Solves, MayOrientName}
+use Rattle.ae_journal.specs.SolverLines.{Solves}
 use Rattle.ae_journal.specs.SolverLines.Solves.{a_number, a_leaf, other_leaf}
 use Rattle.ae_journal.specs.Standing.{Setting, value_now}
-use Rattle.ae_journal.specs.TermValues.{number_from, leaf_of, put_leaf, IsLargest, value_by}
+use Rattle.ae_journal.specs.TermValues.{number_from, leaf_of, put_leaf, IsLargest}
 use Rattle.ae_journal.specs.Values.{Val, Sum, IsSettled, number, leaf, fields, vals, leaf_factor, minus_val, scale_val, sum_in, meaning, settled, sum_of_lin, constant_val}
 use Rattle.ae_journal.specs.declared.lines.Line.{Line}
 use Rattle.ae_journal.specs.declared.lines.Line.TheVariants as line
@@ -30,13 +30,12 @@ use Rattle.ae_journal.specs.declared.systems.System.{System}
 use Rattle.ae_math.proofs.FractionLaws.{add_zero_q}
 use Rattle.ae_math.proofs.Wholes.{one_whole, ratio_is_zero}
 use Rattle.ae_math.specs.Forms.{Form, single, substitute}
-use Rattle.ae_math.specs.Fractions.{ℚ, zero_ℚ, one_ℚ, neg_ℚ, ◌+ℚ◌}
+use Rattle.ae_math.specs.Fractions.{zero_ℚ, one_ℚ, neg_ℚ, ◌+ℚ◌}
 use Rattle.ae_name_lines.proofs.Spelled.{val_of, put_val}
 use Rattle.ae_name_lines.proofs.Written.{number_means}
 use Rattle.ae_num.specs.Forms.{meaning as form_of}
 use Rattle.ae_num.specs.declared.forms.Value.{Value, Value-F, out-Value, roll-Value, roll-out-Value, Number}
 use Rattle.ae_num.specs.declared.forms.Value.TheOpen as layer
-use Rattle.ae_rules.specs.Linear.{form}
 use Rattle.ae_settled.specs.Valued.{IsOwnNumber}
 use Rattle.ae_store.specs.Terms.{HasOneName}
 use Rattle.ae_opaque_numbers.specs.Opaque.{AreNow, OpaqueNumbersAreLeaves}

@@ -1,19 +1,18 @@
 -- Terms that nothing computes are opaque.
-use Rattle.std.specs.Prelude.{ℕ, zero, suc, Bool, true, false, cond, List, [], ◌∷◌, ◌≡◌, map, Option, Some, None}
+use Rattle.std.specs.Prelude.{ℕ, zero, suc, Bool, true, false, cond, List, [], ◌∷◌, ◌≡◌, map, Some, None}
 use Rattle.std.specs.List.{AllByRecursion}
-use Rattle.std.proofs.Common.{refl, sym, ap, ◌∙◌}
+use Rattle.std.proofs.Common.{refl, sym, ◌∙◌}
 use Rattle.std.proofs.lemmas.Option.{none-some}
 use Rattle.ae_core.specs.declared.terms.Head.{Head}
 use Rattle.ae_core.specs.declared.terms.Head.TheVariants as head
-use Rattle.ae_core.specs.declared.terms.Op.{Op}
 use Rattle.ae_core.specs.declared.terms.Op.TheVariants as op
 use Rattle.ae_core.specs.declared.terms.Sort.{Sort, Sort-F, out-Sort}
 use Rattle.ae_core.specs.declared.terms.Sort.TheOpen as layer
 use Rattle.ae_core.specs.declared.terms.Term.{Term, Bound, Num, Fresh, Apply, Apply'}
 use Rattle.ae_journal.specs.Systems.{linear, product, quotient, field_terms, field_terms_of}
-use Rattle.ae_journal.specs.Values.{Val, plus_val, minus_val, scale_val}
+use Rattle.ae_journal.specs.Values.{Val, scale_val}
 use Rattle.ae_math.specs.Forms.{single, scale, is_zero}
-use Rattle.ae_math.specs.Fractions.{ratio, inverse_ℚ, neg_ℚ, one_ℚ}
+use Rattle.ae_math.specs.Fractions.{ratio, inverse_ℚ}
 use Rattle.ae_rules.proofs.LinearLaws.{form-Apply}
 use Rattle.ae_rules.specs.Linear.{Linear, form, is_number, times, over}
 use Rattle.ae_rules.specs.Lines.{fields_from}

@@ -1,5 +1,5 @@
 -- The literals of a trail stand in clauses, and have what these have.
-use Rattle.std.specs.Prelude.{ℕ, ◌<◌, ◌≡◌, true, List, length, None}
+use Rattle.std.specs.Prelude.{ℕ, ◌<◌, ◌≡◌, List, length, None}
 use Rattle.std.specs.List.{Contains}
 use Rattle.std.proofs.Common.{refl}
 use Rattle.ae_block_counts.proofs.Blocks.{block_in}

@@ -1,5 +1,5 @@
 -- The patterns of owners.
-use Rattle.std.specs.Prelude.{ℕ, ◌<◌, Bool, true, false, cond, nat_eq, nat_lt, List, [], ◌≡◌, slice_get, Option, Some, None}
+use Rattle.std.specs.Prelude.{ℕ, ◌<◌, Bool, true, false, cond, nat_lt, List, ◌≡◌, slice_get, Option, Some, None}
 use Rattle.std.proofs.Common.{refl, sym, ap, ◌∙◌, lt-ltb, ne_eqb, arith}
 use Rattle.std.proofs.lemmas.Bool.{le-ltb}
 use Rattle.ae_base.specs.Options.{only, ◌>>=◌}

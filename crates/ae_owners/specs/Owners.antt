@@ -1,5 +1,5 @@
 -- Owners with their patterns.
-use Rattle.std.specs.Prelude.{ℕ, List, ◌++◌, ◌≡◌, slice_get, Option, Some, None}
+use Rattle.std.specs.Prelude.{ℕ, List, ◌++◌, ◌≡◌, slice_get, Some, None}
 use Rattle.std.specs.List.{AllByRecursion}
 use Rattle.ae_core.specs.declared.problems.Problem.{Problem}
 use Rattle.ae_journal.specs.States as states

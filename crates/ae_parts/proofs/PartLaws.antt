@@ -1,5 +1,5 @@
 -- The laws that the clauses of laws.rt name.
-use Rattle.std.proofs.Common.{ℕ, ◌≤◌, List, [], ◌∷◌, ◌++◌, ◌≡◌, refl, sym, ap, ◌∙◌, append_assoc, subst}
+use Rattle.std.proofs.Common.{ℕ, List, [], ◌∷◌, ◌++◌, ◌≡◌, refl, sym, ap, ◌∙◌, append_assoc, subst}
 use Rattle.std.specs.Prelude.{codes, decimal}
 use mathlib.Core.Logic.{inl, inr}
 use Rattle.ae_codes.specs.Closers.{by_line}
@@ -11,14 +11,13 @@ use Rattle.ae_codes.specs.Tables.{table, tagged}
 use Rattle.ae_core.specs.declared.problems.Signature.{Signature}
 use Rattle.ae_journal.specs.declared.answers.Answer.{Answer}
 use Rattle.ae_journal.specs.declared.answers.Answer.TheVariants as answer
-use Rattle.ae_journal.specs.declared.lines.Story.{Story}
 use Rattle.ae_parts.specs.Codes.{answer_code, goal_word, part_code, part_word, parts_code, steps_word}
 use Rattle.ae_parts.specs.Parts.{PartStands, PartsStand, answer_words, found_text, part_of, part_text, parts_text}
 use Rattle.ae_parts.specs.declared.parts.Part.{Part}
 use Rattle.ae_parts.specs.declared.parts.Part.TheVariants as part
 use Rattle.ae_prooftext.specs.ProofTexts.{proof_spelled}
-use Rattle.ae_prooftext.specs.Grammar.{is_real, proof_code}
-use Rattle.ae_stategrammar.specs.Journals.{story, story_spelled}
+use Rattle.ae_prooftext.specs.Grammar.{is_real}
+use Rattle.ae_stategrammar.specs.Journals.{story_spelled}
 use Rattle.ae_stategrammar.specs.States.{state_spelled}
 use Rattle.ae_stategrammar.specs.Widths.{number_spelled}
 use Rattle.ae_statetext.specs.AnswerTexts.{answer_text}

@@ -1,5 +1,5 @@
 -- Parts as the grammar reads them.
-use Rattle.std.proofs.Common.{ℕ, zero, suc, ◌+◌, ◌*◌, ◌-◌, ◌/◌, ◌≤◌, ◌<◌, Bool, true, false, ◌&&◌, ◌||◌, IsTrue, nat_eq, nat_le, nat_lt, List, [], ◌∷◌, ◌++◌, ◌≡◌, drop, length, refl, sym, ap, ◌∙◌, append-nil, append_assoc, arith}
+use Rattle.std.proofs.Common.{ℕ, zero, suc, ◌+◌, ◌*◌, ◌-◌, ◌/◌, ◌≤◌, Bool, true, ◌&&◌, IsTrue, nat_eq, nat_le, nat_lt, List, [], ◌∷◌, ◌++◌, ◌≡◌, drop, length, refl, sym, ap, ◌∙◌, append-nil, append_assoc, arith}
 use mathlib.Core.Logic.{inl, inr}
 use Rattle.std.proofs.lemmas.Bool.{eq-eqb, leb-true, ltb-true}
 use Rattle.ae_choices.specs.Choices.{picked}
@@ -29,7 +29,7 @@ use Rattle.ae_statereader.proofs.NumberedReading.{word_then}
 use Rattle.ae_termreader.proofs.SortReading.{both_then, mapped_then}
 use Rattle.ae_valuereader.proofs.FormReading.{number_is}
 use Rattle.ae_valuereader.proofs.Spanning.{both_ways, is_between, lies_between}
-use Rattle.ae_valuereader.specs.Spans.{goes, may_close, span_digits, span_read, spans}
+use Rattle.ae_valuereader.specs.Spans.{goes, may_close, span_read, spans}
 
 -- ---- the number of steps
 spans_below : (k low high n : ℕ) → IsTrue (spans k low high n) → n ≤ high

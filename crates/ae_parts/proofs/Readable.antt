@@ -1,5 +1,5 @@
 -- A text that is read has no fault.
-use Rattle.std.proofs.Common.{◌≡◌, ◌≢◌, ℕ, List, [], drop, refl, sym, ap, ◌∙◌, subst}
+use Rattle.std.proofs.Common.{◌≡◌, ◌≢◌, ℕ, List, [], refl, sym, ap, ◌∙◌, subst}
 use Rattle.std.specs.Prelude.{Ok, Err}
 use Rattle.ae_choices.specs.Whole.{ReadsWhole}
 use Rattle.ae_codes.specs.Codes.{Code, NotGot, got, reads_text}

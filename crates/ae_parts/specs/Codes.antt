@@ -11,7 +11,6 @@ use Rattle.ae_codes.specs.Numbers.{Closed, Numbers, from_to, number, number_mach
 use Rattle.ae_codes.specs.Rows.{alone, empty}
 use Rattle.ae_codes.specs.Tables.{all_apart, tagged}
 use Rattle.ae_core.specs.declared.problems.Signature.{Signature}
-use Rattle.ae_journal.specs.declared.answers.WideAt.{WideAt}
 use Rattle.ae_journal.specs.declared.lines.Story.{Story}
 use Rattle.ae_journal.specs.declared.systems.Saturated.{Saturated}
 use Rattle.ae_parts.specs.declared.parts.Part.{Part}

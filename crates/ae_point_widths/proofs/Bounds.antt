@@ -1,27 +1,26 @@
 -- The bounds of a name that the rows of a journal give are those of the forms.
-use Rattle.std.specs.Prelude.{ℕ, suc, ◌<◌, ◌≤◌, ◌≡◌, ◌≢◌, ◌⊎◌, Bool, true, false, cond, List, [], ◌∷◌, length}
+use Rattle.std.specs.Prelude.{ℕ, suc, ◌<◌, ◌≡◌, ◌≢◌, Bool, true, false, cond, List, [], ◌∷◌, length}
 use Rattle.std.proofs.Common.{arith, refl, sym, ap, ◌∙◌, subst, inl, inr}
 use native.Mathlib.Decide.{ℕ_discrete, dec_lt}
 use Rattle.ae_base.specs.Decided.{pick}
 use Rattle.ae_base.proofs.Tests.{true_false, by_bool}
-use Rattle.ae_math.specs.Fractions.{ℚ, zero_ℚ, one_ℚ, neg_ℚ, inverse_ℚ, ◌+ℚ◌, ◌*ℚ◌, ratio, is_positive, is_below}
+use Rattle.ae_math.specs.Fractions.{ℚ, zero_ℚ, one_ℚ, neg_ℚ, inverse_ℚ, ◌+ℚ◌, ◌*ℚ◌, is_positive, is_below}
 use Rattle.ae_math.specs.Forms.{Form, SameForm, number, plus, scale, value}
-use Rattle.ae_math.proofs.FractionLaws.{field, add_zero_q, zero_add_q, one_mul_q, one_mul_q', mul_comm_q, mul_assoc_q, mul_zero_q, zero_mul_q, neg_mul_q, mul_neg_q, neg_zero_q, add_neg_cancel_q, times_inverse}
+use Rattle.ae_math.proofs.FractionLaws.{field, add_zero_q, one_mul_q, one_mul_q', mul_comm_q, mul_assoc_q, mul_zero_q, zero_mul_q, neg_mul_q, mul_neg_q, neg_zero_q, add_neg_cancel_q, times_inverse}
 use Rattle.ae_math.proofs.FractionOrder.{positive_zero, positive_product}
 use Rattle.ae_math.proofs.FormLaws.{value-same, value-plus, value-scale, value-number, factor_in-append, factor_in-scale}
-use Rattle.ae_rows.specs.Rows.{factor_at, rest_at, bound_at, IsOver, IsLower, IsUpper, IsCovered, multiple, weaker, number as covered_number, LowerBound, UpperBound, IsGreatest, IsLeast, IsChoice, free, above, beneath, between}
+use Rattle.ae_rows.specs.Rows.{factor_at, rest_at, bound_at, IsOver, IsCovered, multiple, weaker, number as covered_number, LowerBound, UpperBound, IsGreatest, IsLeast, IsChoice, free, above, beneath, between}
 use Rattle.ae_rows.proofs.Elimination.{split, positive_nonzero, both_positive}
-use Rattle.ae_rows.proofs.Choosing.{below_after, below_before}
-use Rattle.ae_journal.specs.Values.{Sum, leaf_factor, settled}
+use Rattle.ae_rows.proofs.Choosing.{below_after}
+use Rattle.ae_journal.specs.Values.{Sum, leaf_factor}
 use Rattle.ae_journal.specs.TermValues.{IsLargest}
 use Rattle.ae_journal.specs.Standing.{Setting}
-use Rattle.ae_journal.specs.Rows.{IsRow}
-use Rattle.ae_journal.specs.Points.{IsPut, IsAtMost, IsRemaining, IsBound, IsBest, IsConstantFor, NoneLeft, AreConstants}
+use Rattle.ae_journal.specs.Points.{IsRemaining, IsBound, IsBest, IsConstantFor}
 use Rattle.ae_journal.specs.Points.IsConstantFor.{mean, above as constant_above, below as constant_below, free as constant_free}
 use Rattle.ae_journal.specs.declared.lines.Line.{Line}
 use Rattle.ae_evaluation.proofs.Sums.{factor-settled}
 use Rattle.ae_point_widths.specs.Laws.{spelled, AreRowsOf}
-use Rattle.ae_point_widths.proofs.Putting.{puts_value, puts_factor, IsAlone, alone}
+use Rattle.ae_point_widths.proofs.Putting.{puts_value, puts_factor, alone}
 
 -- ---- signs
 pub negative_some : (c : ℚ) → is_positive (neg_ℚ c) ≡ true → c ≢ zero_ℚ

@@ -1,19 +1,18 @@
 -- Constants put for names of a sum.
-use Rattle.std.specs.Prelude.{ℕ, ◌≡◌, ◌≢◌, ◌⊎◌, true, false, cond, nat_eq, List, [], ◌∷◌, ◌++◌}
+use Rattle.std.specs.Prelude.{ℕ, ◌≡◌, ◌≢◌, ◌⊎◌, cond, List, [], ◌∷◌, ◌++◌}
 use Rattle.std.specs.List.{AllByRecursion}
 use Rattle.std.proofs.Common.{refl, sym, ap, ◌∙◌, subst, inl, inr}
 use Rattle.std.proofs.lemmas.Bool.{eq-eqb, ne_eqb}
 use native.Mathlib.Decide.{ℕ_discrete}
-use Rattle.ae_base.proofs.Decided.{pick_yes, pick_no}
 use Rattle.ae_math.specs.Fractions.{ℚ, zero_ℚ, one_ℚ, ◌+ℚ◌, ◌*ℚ◌}
-use Rattle.ae_math.specs.Forms.{Form, SameForm, number, substitute, value}
+use Rattle.ae_math.specs.Forms.{SameForm, number, substitute, value}
 use Rattle.ae_math.proofs.FractionLaws.{add_comm_q, mul_zero_q, add_zero_q}
-use Rattle.ae_math.proofs.FormLaws.{value-same, value-substitute, value-number, substitute_gone, substitute_elsewhere, same_sym}
+use Rattle.ae_math.proofs.FormLaws.{value-same, value-substitute, value-number, substitute_gone, substitute_elsewhere}
 use Rattle.ae_math.proofs.FractionLaws.{one_mul_q}
 use Rattle.ae_num.specs.declared.forms.Lin.{Lin}
 use Rattle.ae_num.specs.Forms.{meaning, SameMeaning}
 use Rattle.ae_rows.specs.Rows.{factor_at}
-use Rattle.ae_journal.specs.Values.{Sum, leaf_factor, settled, scaled, sum_of_lin}
+use Rattle.ae_journal.specs.Values.{Sum, leaf_factor, scaled, sum_of_lin}
 use Rattle.ae_journal.specs.TermValues.{put_in, put_sum}
 use Rattle.ae_journal.specs.Points.{constant_sum, IsPut}
 use Rattle.ae_journal.specs.Points.IsPut.{as_it_is, one_more}

@@ -1,14 +1,14 @@
 -- The steps of the making of a point are licensed.
-use Rattle.std.specs.Prelude.{ℕ, ◌<◌, ◌≡◌, ◌≢◌, ◌⊎◌, Bool, true, false, List, [], Option, Some, None, map}
-use Rattle.std.proofs.Common.{refl, sym, ap, ◌∙◌, subst, inl, inr}
+use Rattle.std.specs.Prelude.{ℕ, ◌<◌, ◌≡◌, ◌⊎◌, true, false, List, Option, Some, None, map}
+use Rattle.std.proofs.Common.{refl, sym, ◌∙◌, subst, inl, inr}
 use Rattle.ae_math.specs.Fractions.{ℚ, one_ℚ, neg_ℚ, inverse_ℚ, ◌+ℚ◌, ratio}
 use Rattle.ae_math.specs.Forms.{Form}
 use Rattle.ae_num.specs.declared.forms.Part.{Part}
 use Rattle.ae_num.specs.declared.forms.Lin.{Lin}
 use Rattle.ae_num.specs.Forms.{meaning}
-use Rattle.ae_rows.specs.Rows.{factor_at, IsOver, IsLower, IsUpper, LowerBound, UpperBound, IsChoice}
+use Rattle.ae_rows.specs.Rows.{factor_at, IsLower, IsUpper, LowerBound, UpperBound, IsChoice}
 use Rattle.ae_rows.proofs.Elimination.{positive_nonzero}
-use Rattle.ae_journal.specs.Values.{Sum, leaf_factor, settled, sum_of_lin}
+use Rattle.ae_journal.specs.Values.{Sum, settled, sum_of_lin}
 use Rattle.ae_journal.specs.TermValues.{IsLargest}
 use Rattle.ae_journal.specs.Standing.{Setting}
 use Rattle.ae_journal.specs.Points.{constant_sum, half, NoneLeft, AreConstants}

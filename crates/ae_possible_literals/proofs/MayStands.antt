@@ -16,7 +16,7 @@ use Rattle.ae_core.specs.declared.problems.Signature.{Signature}
 use Rattle.ae_core.specs.declared.terms.Sort.{out-Sort}
 use Rattle.ae_core.specs.declared.terms.Term.{Term, Apply}
 use Rattle.ae_explain.proofs.Places.{found}
-use Rattle.ae_explain.specs.Trail.{at, place_in, clause}
+use Rattle.ae_explain.specs.Trail.{at, place_in}
 use Rattle.ae_explain.specs.declared.trail.Assigned.{Assigned}
 use Rattle.ae_journal.proofs.Splits.{all_contained, contains_cases, contains_here, contains_later, contains_one}
 use Rattle.ae_journal.specs.Sizes.{nodes}

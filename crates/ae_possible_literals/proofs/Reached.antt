@@ -1,5 +1,5 @@
 -- Literals that possible clauses can make true beside those of an open trail, and that they don't contradict each other.
-use Rattle.std.specs.Prelude.{Bool, true, false, not, List, [], ◌∷◌, ◌≡◌, None}
+use Rattle.std.specs.Prelude.{Bool, true, false, not, List, ◌≡◌, None}
 use Rattle.std.specs.List.{Contains}
 use Rattle.std.proofs.Common.{refl, sym, ap, ◌∙◌, subst, arith}
 use Rattle.ae_core.specs.declared.formulas.Formula.{Formula, Formula-F, Eq, out-Formula}
@@ -14,7 +14,7 @@ use Rattle.ae_journal.specs.States.{is_universal_by, is_universal}
 use Rattle.ae_possible_literals.proofs.Rests.{own, rests, clash, back_again}
 use Rattle.ae_propagation.proofs.Trails.{consistent, no_place}
 use Rattle.ae_propagation.specs.Settled.{Holds}
-use Rattle.ae_rules.specs.Clauses.{Clause, is_true, is_false, opposite}
+use Rattle.ae_rules.specs.Clauses.{Clause, is_true, opposite}
 
 -- a literal of the trail; an equation that isn't denied; a universal literal whose opposite isn't there; or what a defining clause makes of a formula that has no place
 pub data IsReached (t : List Assigned) : Lit → Type 0 where

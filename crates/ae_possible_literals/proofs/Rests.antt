@@ -1,5 +1,5 @@
 -- The defining clauses of a formula, each as the formula's own literal and the rest, which is of its parts.
-use Rattle.std.specs.Prelude.{ℕ, suc, ◌+◌, ◌<◌, ◌≤◌, Bool, true, false, not, nat_eq, cond, List, [], ◌∷◌, ◌≡◌, Option, Some, None}
+use Rattle.std.specs.Prelude.{ℕ, suc, ◌+◌, ◌<◌, ◌≤◌, Bool, true, false, not, nat_eq, cond, List, [], ◌∷◌, ◌≡◌, Option, Some}
 use Rattle.std.specs.List.{AllByRecursion, Contains}
 use Rattle.std.proofs.Common.{refl, sym, ap, ◌∙◌, subst, arith, inl, inr}
 use Rattle.std.proofs.lemmas.Option.{same_Some}
@@ -12,7 +12,7 @@ use Rattle.ae_core.specs.declared.formulas.Formula.TheOpen as layer
 use Rattle.ae_core.specs.declared.formulas.Formula.TheVariants.{outs-True, outs-False, outs-Eq, outs-Lt, outs-Le, outs-Pred, outs-Not, outs-And, outs-Or, outs-Xor, outs-Iff, outs-All, outs-Ex}
 use Rattle.ae_core.specs.declared.formulas.Lit.{Lit}
 use Rattle.ae_core.specs.declared.formulas.Quant.{Quant}
-use Rattle.ae_journal.proofs.Splits.{all_contained, contains_cases, contains_here, contains_later, contains_one}
+use Rattle.ae_journal.proofs.Splits.{contains_cases, contains_here, contains_later, contains_one}
 use Rattle.ae_journal.specs.Sizes.{formula_size, formula_size_step, quant_size_step, nodes}
 use Rattle.ae_rules.proofs.ClauseLaws.{literal_true, literal_false, literal_eq, literal_lt, literal_le, literal_pred, literal_not, literal_and, literal_or, literal_xor, literal_iff, literal_all, literal_ex}
 use Rattle.ae_rules.specs.Clauses.{Clause, literal, yes_of, no_of, is_true, is_false, opposite, row, row_of, row_at}

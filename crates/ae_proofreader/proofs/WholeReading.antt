@@ -1,5 +1,5 @@
 -- A whole text: what is read at its first byte, and what stands behind it.
-use Rattle.std.proofs.Common.{ℕ, suc, ◌≤◌, ◌<◌, Bool, true, false, nat_le, List, [], ◌∷◌, ◌++◌, ◌≡◌, length, drop, refl, sym, ap, ◌∙◌, append_assoc, append-nil, arith}
+use Rattle.std.proofs.Common.{ℕ, ◌≤◌, ◌<◌, Bool, true, false, nat_le, List, [], ◌∷◌, ◌++◌, ◌≡◌, length, drop, refl, sym, ap, ◌∙◌, append_assoc, append-nil, arith}
 use Rattle.std.specs.Prelude.{Ok, Err, IsTrue}
 use mathlib.Core.List.{cons≢nil}
 use Rattle.std.proofs.lemmas.Bool.{leb-true, le-leb}

@@ -1,5 +1,5 @@
 -- The texts of values, variant by variant.
-use Rattle.std.proofs.Common.{ℕ, ℤ, List, [], ◌∷◌, ◌++◌, ◌≡◌, Bool, true, false, map, decimal, length, pos, sym, ap, ◌∙◌, append_assoc, append-nil, refl, codes, slice_get, suc, zero, arith}
+use Rattle.std.proofs.Common.{ℕ, ℤ, List, [], ◌∷◌, ◌++◌, ◌≡◌, Bool, map, decimal, length, pos, sym, ap, ◌∙◌, append_assoc, append-nil, refl, codes, slice_get, suc, zero, arith}
 use Rattle.std.specs.Prelude.{Some}
 use lib.IntN.{negsuc}
 use Rattle.ae_base.specs.Options.{or_else, ◌>>=◌}

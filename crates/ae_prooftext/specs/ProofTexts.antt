@@ -1,5 +1,5 @@
 -- Proof texts of both versions: the lines alone, or behind the places of the axioms that the proof rests on.
-use Rattle.std.specs.Prelude.{ℕ, ◌⊎◌, Bool, cond, IsTrue, List, [], ◌∷◌, ◌++◌, ◌≡◌, map, decimal, Option, Some, None, codes, suc}
+use Rattle.std.specs.Prelude.{ℕ, Bool, cond, IsTrue, List, [], ◌∷◌, ◌++◌, ◌≡◌, map, decimal, Option, Some, None, codes, suc}
 use mathlib.Core.Path.{refl, sym, ap, ◌∙◌, subst}
 use mathlib.Core.Logic.{inl, inr}
 use mathlib.Core.List.{append_assoc}
@@ -8,7 +8,6 @@ use Rattle.ae_core.specs.declared.problems.Signature.{Signature}
 use Rattle.ae_core.specs.declared.terms.Sort.{Sort}
 use Rattle.ae_core.specs.declared.terms.Term.{Term}
 use Rattle.ae_core.specs.declared.proofs.ClauseLine.{ClauseLine}
-use Rattle.ae_core.specs.declared.proofs.Proof.{Proof}
 use Rattle.ae_codes.specs.Codes.{Code, both, mapped, words}
 use Rattle.ae_codes.specs.Listings.{listed_text}
 use Rattle.ae_codes.specs.Names.{Listed}
@@ -18,7 +17,7 @@ use Rattle.ae_codes.specs.Tables.{all_apart, table, tagged}
 use Rattle.ae_prooftext.specs.declared.proofs.ProofText.{ProofText}
 use Rattle.ae_prooftext.specs.FormulaTexts.{same}
 use Rattle.ae_prooftext.specs.Proofs.{proof_lines, proof_lines_spelled}
-use Rattle.ae_prooftext.specs.Texts.{heading_text, proof_lines_text, proof_text}
+use Rattle.ae_prooftext.specs.Texts.{proof_lines_text, proof_text}
 
 abbrev pub first_word : List ℕ
 first_word = codes "proof 1\n"

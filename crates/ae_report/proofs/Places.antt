@@ -1,6 +1,6 @@
 -- Lines and columns, a byte at a time.
-use Rattle.std.proofs.Common.{ℕ, suc, ◌+◌, ◌≤◌, ◌<◌, min, get_or, List, [], ◌∷◌, ◌++◌, ◌≡◌, ◌≢◌, length, take, nat_eq, refl, sym, ap, ◌∙◌, subst, arith, append_assoc}
-use Rattle.std.specs.Prelude.{cond, true, false}
+use Rattle.std.proofs.Common.{ℕ, ◌+◌, ◌≤◌, ◌<◌, get_or, List, [], ◌∷◌, ◌++◌, ◌≡◌, ◌≢◌, length, take, nat_eq, refl, sym, ap, ◌∙◌, subst, arith, append_assoc}
+use Rattle.std.specs.Prelude.{cond}
 use Rattle.std.proofs.lemmas.List.{append-nil, length-append, length-take, take_more}
 use Rattle.ae_report.specs.Lines.{line_ends, AreLines, none, ended, Precede}
 

@@ -1,5 +1,5 @@
 -- Formulas and clauses whose terms have names.
-use Rattle.std.proofs.Common.{◌≡◌, ◌∙◌, ℕ, ◌<◌, get_or, List, [], ◌∷◌, ◌++◌, Bool, true, false, true≢false, Option, Some, None, length, slice_get, sym, subst, arith, inl, inr}
+use Rattle.std.proofs.Common.{◌≡◌, ◌∙◌, ℕ, ◌<◌, get_or, List, [], ◌∷◌, ◌++◌, true, true≢false, Option, Some, None, length, slice_get, sym, subst, arith, inl, inr}
 use Rattle.std.specs.Option.{IfSome, is_some}
 use Rattle.std.specs.List.{Contains}
 use Rattle.std.proofs.lemmas.List.Elements.{Contains-append_cases}

@@ -1,9 +1,9 @@
 -- Tests of the elements of a list, and literals that stand.
-use Rattle.std.specs.Prelude.{ℕ, zero, suc, ◌<◌, Bool, true, false, not, ◌&&◌, ◌||◌, ◌≡◌, List, [], ◌∷◌}
+use Rattle.std.specs.Prelude.{Bool, true, ◌||◌, ◌≡◌, List, [], ◌∷◌}
 use Rattle.std.specs.List.{Contains, list_all, list_any}
 use Rattle.std.proofs.Common.{inl, inr}
 use Rattle.std.proofs.lemmas.Bool.{and_parts, and_from, or_cases, or_left, or_right}
-use mathlib.Core.Path.{refl, sym, ap, subst, ◌∙◌}
+use mathlib.Core.Path.{refl, ap, subst, ◌∙◌}
 use native.Mathlib.Omega.{arith}
 use Rattle.ae_base.specs.Decided.{decided}
 use Rattle.ae_base.proofs.Decided.{decided_of, decided_yes}

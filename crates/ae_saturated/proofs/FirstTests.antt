@@ -1,32 +1,32 @@
 -- The tests of a problem say `true` exactly where its hypotheses and the goal's negation stand, and where nothing is open.
 use Rattle.std.proofs.Common.{inl, inr}
-use Rattle.std.specs.Prelude.{ℕ, zero, suc, ◌<◌, Bool, true, false, not, ◌&&◌, ◌||◌, nat_lt, ◌≡◌, ◌≢◌, List, [], ◌∷◌, length, slice_get, Option, Some, None}
+use Rattle.std.specs.Prelude.{ℕ, zero, suc, ◌<◌, Bool, true, false, not, ◌&&◌, nat_lt, ◌≡◌, List, [], ◌∷◌, length, slice_get, Option, Some, None}
 use Rattle.std.specs.List.{Contains, list_all}
 use Rattle.std.proofs.lemmas.Bool.{and_parts, and_from, cases_eq, false_from_ne_true}
 use Rattle.std.proofs.lemmas.Option.{slice_get_within}
-use mathlib.Core.Path.{refl, sym, ap, subst, ◌∙◌}
+use mathlib.Core.Path.{refl, sym, ap, ◌∙◌}
 use native.Mathlib.Omega.{arith}
 use Rattle.ae_base.specs.Options.{known, only}
-use Rattle.ae_base.proofs.Options.{bind_some, only_some, never_some}
+use Rattle.ae_base.proofs.Options.{bind_some, only_some}
 use Rattle.ae_core.specs.declared.formulas.Formula.{Formula, Formula-F, out-Formula}
 use Rattle.ae_core.specs.declared.formulas.Formula.TheOpen as layer
 use Rattle.ae_core.specs.declared.formulas.Lit.{Lit}
 use Rattle.ae_core.specs.declared.formulas.Quant.{Quant}
 use Rattle.ae_core.specs.declared.problems.Problem.{Problem}
-use Rattle.ae_rules.specs.Clauses.{yes_of, no_of, stands}
+use Rattle.ae_rules.specs.Clauses.{yes_of, no_of}
 use Rattle.ae_rules.specs.Derivations.{goal_body}
 use Rattle.ae_rules.specs.Instances.{hypothesis}
 use Rattle.ae_journal.specs.States.{Pattern, of_axiom, pattern_of, quant_of, IsFirst}
 use Rattle.ae_journal.specs.States.IsFirst.{of_hypothesis, of_goal}
 use Rattle.ae_journal.specs.declared.systems.Saturated.{Saturated}
 use Rattle.ae_journal.proofs.Splits.{contains_here, contains_later}
-use Rattle.ae_saturated.specs.Firsts.{yes_stands, no_stands, hypotheses_stand, firsts_stand, none_generic, is_closed_state}
+use Rattle.ae_saturated.specs.Firsts.{yes_stands, no_stands, hypotheses_stand, firsts_stand, none_generic}
 use Rattle.ae_saturated.specs.Literals.{is_closed_by, is_closed}
 use Rattle.ae_saturated.specs.Open.{IsOpen}
 use Rattle.ae_saturated.specs.Open.IsOpen.{quantified, generic}
 use Rattle.ae_decide.proofs.NameTests.{denied}
-use Rattle.ae_base.proofs.Tests.{false_true, not_where}
-use Rattle.ae_saturated.proofs.Elements.{all_tells, by_all, stands_tells, by_stands}
+use Rattle.ae_base.proofs.Tests.{false_true}
+use Rattle.ae_saturated.proofs.Elements.{all_tells, stands_tells, by_stands}
 
 -- ---- hypotheses
 hypothesis_tells : (p : Problem) (g : ℕ) (ls : List Lit) (n k : ℕ) → hypotheses_stand p g ls n ≡ true → k < n → yes_stands ls (hypothesis p g k []) ≡ true

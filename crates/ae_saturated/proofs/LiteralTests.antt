@@ -1,8 +1,8 @@
 -- The tests of literals say `true` exactly where the clauses of a saturated state on literals hold.
 use Rattle.std.proofs.Common.{drop, get_or, inl, inr}
 use Rattle.std.proofs.lemmas.List.{drop_more}
-use Rattle.std.specs.Prelude.{ℕ, zero, suc, ◌+◌, ◌<◌, Bool, true, false, cond, not, ◌&&◌, ◌||◌, nat_eq, ◌≡◌, ◌≢◌, ◌⊎◌, List, [], ◌∷◌, length, Option, Some, None}
-use Rattle.std.specs.List.{AllByRecursion, Contains, list_all, list_any}
+use Rattle.std.specs.Prelude.{ℕ, zero, suc, ◌+◌, ◌<◌, Bool, true, false, cond, not, ◌&&◌, nat_eq, ◌≡◌, ◌≢◌, List, [], ◌∷◌, length, Option, Some, None}
+use Rattle.std.specs.List.{AllByRecursion, Contains, list_any}
 use Rattle.std.proofs.lemmas.Bool.{and_parts, and_from, or_cases, or_left, eqb-true, eq-eqb, cases_eq, false_from_ne_true, and_right, or_right}
 use mathlib.Core.Path.{refl, sym, ap, subst, ◌∙◌}
 use native.Mathlib.Omega.{arith}
@@ -24,7 +24,7 @@ use Rattle.ae_rules.specs.Clauses.{Clause, opposite, is_true, is_false, row, row
 use Rattle.ae_rules.specs.declared.rows.TheConstants.{AND_TO_LEFT, AND_TO_RIGHT, AND_FROM_BOTH, OR_FROM_LEFT, OR_FROM_RIGHT, OR_TO_EITHER, IFF_TO_RIGHT, IFF_TO_LEFT}
 use Rattle.ae_rules.specs.declared.rows.TheConstants.{IFF_FROM_NEITHER, IFF_FROM_BOTH, XOR_TO_EITHER, XOR_TO_NOT_BOTH, XOR_FROM_LEFT, XOR_FROM_RIGHT, TRUE_STANDS, FALSE_FAILS}
 use Rattle.ae_journal.specs.Values.{Val}
-use Rattle.ae_journal.specs.Systems.{IsName, IsNamed, ValueOf}
+use Rattle.ae_journal.specs.Systems.{IsNamed, ValueOf}
 use Rattle.ae_journal.specs.States.{AllSame, AreSame, outside}
 use Rattle.ae_journal.specs.States.AreSame.{itself, by_value}
 use Rattle.ae_journal.specs.declared.systems.System.{System}
@@ -32,11 +32,11 @@ use Rattle.ae_decide.specs.Clauses.{HasTerms, HasLeaves}
 use Rattle.ae_decide.specs.Names.{stands_in}
 use Rattle.ae_decide.specs.Values.{are_alike}
 use Rattle.ae_decide.proofs.NameTests.{named_of, of_named}
-use Rattle.ae_decide.proofs.ValueTests.{alike_of, of_alike, implied, by_implied}
+use Rattle.ae_decide.proofs.ValueTests.{alike_of, of_alike, implied}
 use Rattle.ae_saturated.specs.Literals.{is_consistent, are_named, some_stands, rows_stand, equation_by, equation_holds, are_same, all_same, denies_by, denies, predicate_by, predicate_holds}
 use Rattle.ae_decide.proofs.NameTests.{denied as untrue}
 use Rattle.ae_base.proofs.Tests.{not_where, false_true}
-use Rattle.ae_saturated.proofs.Elements.{all_tells, by_all, any_tells, by_any, stands_tells, by_stands}
+use Rattle.ae_saturated.proofs.Elements.{any_tells, by_any, stands_tells, by_stands}
 
 -- ---- the steps of the loops
 pub no_rows : (ls : List Lit) (f : Formula) → rows_stand ls f 0 ≡ true

@@ -1,8 +1,7 @@
 -- The tests of names say `true` exactly where the clauses of a saturated state on constructors, enumerations and integers hold.
-use Rattle.std.proofs.Common.{inl, inr}
-use Rattle.std.specs.Prelude.{ℕ, Bool, true, false, not, ◌&&◌, ◌||◌, ◌≡◌, ◌↔◌, List, [], ◌∷◌, slice_get, Option, Some, None}
-use Rattle.std.specs.List.{AllByRecursion, Contains, list_all, list_any}
-use Rattle.std.proofs.lemmas.Bool.{and_parts, and_from, or_cases, or_left, or_right}
+use Rattle.std.specs.Prelude.{ℕ, Bool, true, false, not, ◌||◌, ◌≡◌, ◌↔◌, List, [], ◌∷◌, slice_get, Option, Some, None}
+use Rattle.std.specs.List.{AllByRecursion, Contains}
+use Rattle.std.proofs.lemmas.Bool.{or_left, or_right}
 use Rattle.std.proofs.lemmas.Option.{same_Some}
 use mathlib.Core.Path.{refl, sym, ap, subst, ◌∙◌}
 use Rattle.ae_base.specs.Decided.{decided}
@@ -31,7 +30,6 @@ use Rattle.ae_num.specs.declared.forms.Value.TheVariants.{outs-Number, rolls-Num
 use Rattle.ae_journal.specs.Values.{Val, meaning}
 use Rattle.ae_journal.specs.Systems.{Has, IsName, IsNormalValue, ValueOf, forms_in}
 use Rattle.ae_journal.specs.declared.systems.System.{System}
-use Rattle.ae_journal.proofs.Splits.{contains_at}
 use Rattle.ae_decide.specs.Clauses.{HasTerms, HasLeaves}
 use Rattle.ae_decide.specs.Values.{are_alike, place_from, value_of}
 use Rattle.ae_decide.proofs.NameTests.{is_application}

@@ -2,7 +2,7 @@
 use Rattle.std.proofs.Common.{drop, get_or, inl, inr}
 use Rattle.std.proofs.lemmas.List.{drop_more, drop_all}
 use Rattle.std.proofs.lemmas.Bool.{and_parts, and_from, or_cases, or_left, false_from_ne_true, or_right}
-use Rattle.std.specs.Prelude.{ℕ, ℤ, pos, ◌+◌, ◌<◌, ◌≤◌, Bool, true, false, cond, not, ◌&&◌, ◌||◌, nat_eq, ◌≡◌, ◌↔◌, ◌⊎◌, List, [], ◌∷◌, map, length, Option, Some, None}
+use Rattle.std.specs.Prelude.{ℕ, ℤ, pos, ◌+◌, ◌<◌, ◌≤◌, Bool, true, cond, not, ◌&&◌, nat_eq, ◌≡◌, ◌↔◌, List, [], ◌∷◌, length, Option, Some, None}
 use mathlib.Core.Path.{refl, sym, ap, subst, ◌∙◌}
 use native.Mathlib.Decide.{ℕ_discrete}
 use Rattle.ae_math.specs.Fractions.{ℚ, zero_ℚ, one_ℚ, neg_ℚ, ◌+ℚ◌, ◌*ℚ◌, is_positive, ratio}
@@ -20,7 +20,7 @@ use Rattle.ae_num.specs.declared.forms.Value.TheOpen as layer
 use Rattle.ae_num.specs.declared.forms.Value.TheVariants.{outs-Number}
 use Rattle.ae_journal.specs.States.{at_point, inequality, IsZeroSum, HoldsAt}
 use Rattle.ae_journal.specs.Systems.{ValueOf}
-use Rattle.ae_journal.specs.Values.{Val, Sum, number, constant_val, minus_val, scale_val, sum_in, meaning, meaning_step}
+use Rattle.ae_journal.specs.Values.{Val, number, constant_val, minus_val, scale_val, sum_in, meaning, meaning_step}
 use Rattle.ae_journal.specs.declared.systems.PointAt.{PointAt}
 use Rattle.ae_journal.specs.declared.systems.System.{System}
 use Rattle.ae_decide.specs.Values.{value_of}
@@ -31,7 +31,6 @@ use Rattle.ae_computing.proofs.TotalLaws.{parts_over}
 use Rattle.ae_computing.proofs.TotalTests.{at_meaning, at_plus, at_scale, is_meaning, two_summands, total_tested}
 use Rattle.ae_saturated.specs.Order.{nothing, are_even, number_by, number_of, is_above, holds_at, holds_if, sides_hold, inequality_holds}
 use Rattle.ae_decide.proofs.NameTests.{denied}
-use Rattle.ae_base.proofs.Tests.{false_true, not_where}
 
 -- ---- the steps of the loops
 pub point_step : (ps : List PointAt) (i : ℕ) (d : PointAt) (n : ℕ) → i < length ps

@@ -1,9 +1,9 @@
 -- The test of a state says `true` exactly where the state is saturated, if its system is completed and nothing is open.
-use Rattle.std.specs.Prelude.{ℕ, Bool, true, false, not, ◌&&◌, ◌≡◌, ◌↔◌, List, [], length, slice_get, Some}
+use Rattle.std.specs.Prelude.{ℕ, true, false, ◌&&◌, ◌≡◌, [], length}
 use Rattle.std.specs.List.{Contains, list_all}
 use Rattle.std.proofs.lemmas.Bool.{and_parts, and_from}
 use Rattle.ae_base.proofs.Tests.{false_true}
-use mathlib.Core.Path.{refl, sym, ap, ◌∙◌}
+use mathlib.Core.Path.{sym, ◌∙◌}
 use Rattle.ae_base.proofs.AllOf.{test_of_all, all_from_places}
 use Rattle.ae_base.proofs.ListFacts.{list_all_at}
 use Rattle.ae_core.specs.declared.formulas.Formula.{Eq, Pred}

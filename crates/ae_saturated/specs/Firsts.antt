@@ -1,5 +1,5 @@
 -- Tests of a problem: its hypotheses, and the goal's negation.
-use Rattle.std.specs.Prelude.{ℕ, zero, suc, Bool, true, false, not, ◌&&◌, List, [], length, Option, Some, None}
+use Rattle.std.specs.Prelude.{ℕ, zero, suc, Bool, true, not, ◌&&◌, List, [], length, Option, Some, None}
 use Rattle.std.specs.List.{list_all}
 use Rattle.ae_base.specs.Options.{known}
 use Rattle.ae_core.specs.declared.formulas.Formula.{Formula}

@@ -1,5 +1,5 @@
 -- Tests of the names of a state, one by one: constructors, enumerations and integers.
-use Rattle.std.specs.Prelude.{ℕ, Bool, true, false, not, ◌&&◌, ◌||◌, List, [], ◌∷◌, slice_get, Option, Some, None}
+use Rattle.std.specs.Prelude.{Bool, true, false, not, ◌&&◌, ◌||◌, List, [], slice_get, Option, Some, None}
 use Rattle.std.specs.List.{list_all, list_any}
 use Rattle.ae_base.specs.Decided.{decided}
 use Rattle.ae_base.specs.Options.{◌>>=◌, only, or_else}
@@ -14,7 +14,6 @@ use Rattle.ae_core.specs.declared.terms.Sort.{Sort, Int, out-Sort}
 use Rattle.ae_core.specs.declared.terms.Term.{Term, Term-F, Apply, out-Term}
 use Rattle.ae_core.specs.declared.terms.Term.TheOpen as layer
 use Rattle.ae_rules.specs.Instances.{choices_of}
-use Rattle.ae_num.specs.declared.forms.Lin.{Lin}
 use Rattle.ae_num.specs.declared.forms.Value.{Value, Value-F, out-Value}
 use Rattle.ae_num.specs.declared.forms.Value.TheOpen as value_layer
 use Rattle.ae_journal.specs.declared.systems.System.{System}

@@ -1,5 +1,5 @@
 -- What the answer to a goal is worth.
-use Rattle.std.specs.Prelude.{ℕ, ◌<◌, ◌≤◌, List, ◌≡◌, length}
+use Rattle.std.specs.Prelude.{ℕ, ◌<◌, ◌≤◌, List, length}
 use Rattle.ae_core.specs.declared.terms.Term.{Term}
 use Rattle.ae_core.specs.declared.problems.Problem.{Problem}
 use Rattle.ae_core.specs.declared.proofs.Proof.{Proof}
@@ -8,8 +8,6 @@ use Rattle.ae_journal.specs.Ground.{IsGround, IsGroundProof}
 use Rattle.ae_journal.specs.Journals.{counted_in}
 use Rattle.ae_journal.specs.declared.answers.Answer.{Answer}
 use Rattle.ae_journal.specs.declared.answers.Answer.TheVariants.{Valid, Unknown, Steps, Number}
-use Rattle.ae_journal.specs.declared.answers.WideAt.{WideAt}
-use Rattle.ae_journal.specs.declared.lines.Story.{Story}
 use Rattle.ae_reach.specs.Budget.{IsConjunctive, HasNoSymbols, HasNoEnumerations, HoldsTerms}
 use Rattle.ae_search_options.specs.declared.limits.Limits.{Limits}
 

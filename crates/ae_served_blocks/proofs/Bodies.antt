@@ -1,5 +1,5 @@
 -- The clause of a block for a literal that asks for its terms, and the sorts of its constants.
-use Rattle.std.specs.Prelude.{ℕ, Bool, true, false, not, List, [], ◌∷◌, ◌≡◌, Some}
+use Rattle.std.specs.Prelude.{ℕ, Bool, true, false, not, [], ◌∷◌, ◌≡◌, Some}
 use Rattle.std.proofs.Common.{refl, sym, ap, ◌∙◌}
 use Rattle.std.proofs.lemmas.Option.{same_Some}
 use Rattle.ae_base.proofs.Options.{never_some, when_some}
@@ -13,7 +13,6 @@ use Rattle.ae_core.specs.declared.formulas.Formula.TheVariants.{rolls-All, rolls
 use Rattle.ae_core.specs.declared.formulas.Lit.{Lit}
 use Rattle.ae_core.specs.declared.formulas.Quant.{Quant}
 use Rattle.ae_core.specs.declared.problems.Signature.{Signature}
-use Rattle.ae_core.specs.declared.terms.Sort.{Sort}
 use Rattle.ae_journal.specs.States.{is_universal, is_universal_by, quant_of}
 use Rattle.ae_rules.specs.Clauses.{Clause, literal, opposite, yes_of, no_of, is_true, is_false}
 use Rattle.ae_rules.specs.Instances.{fresh_clause, count_from, are_numbered, block_sorts}

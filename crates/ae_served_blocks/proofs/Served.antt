@@ -1,7 +1,7 @@
 -- With a literal that asks for terms that of its body stands.
-use Rattle.std.specs.Prelude.{ℕ, ◌<◌, ◌≡◌, true, false, List, [], ◌∷◌, Option, Some}
+use Rattle.std.specs.Prelude.{ℕ, ◌≡◌, true, false, List, [], ◌∷◌, Option, Some}
 use Rattle.std.specs.List.{Contains}
-use Rattle.std.proofs.Common.{refl, sym, ap, ◌∙◌, subst, inl, inr}
+use Rattle.std.proofs.Common.{sym, ap, ◌∙◌, subst, inl, inr}
 use Rattle.ae_base.specs.Options.{◌>>=◌, or_else}
 use Rattle.ae_block_constants.specs.Blocks.{Agrees}
 use Rattle.ae_block_constants.specs.declared.opened.Opened.{Opened}
@@ -13,7 +13,7 @@ use Rattle.ae_core.specs.declared.formulas.Quant.{Quant}
 use Rattle.ae_core.specs.declared.problems.Problem.{Problem}
 use Rattle.ae_core.specs.declared.terms.Sort.{Sort}
 use Rattle.ae_core.specs.declared.terms.Term.{Term}
-use Rattle.ae_explain.specs.Trail.{Apart, clause}
+use Rattle.ae_explain.specs.Trail.{Apart}
 use Rattle.ae_explain.specs.declared.trail.Assigned.{Assigned}
 use Rattle.ae_journal.proofs.Splits.{contains_cases, contains_one}
 use Rattle.ae_journal.specs.States.{body_literal, is_universal, quant_of}
@@ -23,9 +23,9 @@ use Rattle.ae_open_states.specs.Shown.{trail_literals}
 use Rattle.ae_opening.proofs.Asked.{asking}
 use Rattle.ae_opening.specs.Asking.{asks_for_terms, AllServed, IsOpened}
 use Rattle.ae_propagation.proofs.Trails.{consistent}
-use Rattle.ae_propagation.specs.Settled.{Holds, HasTrue}
+use Rattle.ae_propagation.specs.Settled.{Holds}
 use Rattle.ae_rules.specs.Clauses.{Clause, literal, opposite}
-use Rattle.ae_rules.specs.Instances.{fresh_clause, fresh_terms, count_from, block_sorts, have_sorts}
+use Rattle.ae_rules.specs.Instances.{fresh_clause, count_from, have_sorts}
 use Rattle.ae_sat.specs.Search.{IsOpen}
 use Rattle.ae_sat.specs.Standing.{IsOneOf}
 use Rattle.ae_served_blocks.specs.Served.{opened_body, HaveClauses, AreServed}

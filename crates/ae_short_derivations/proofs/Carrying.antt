@@ -1,16 +1,15 @@
 -- A step stays allowed behind steps that say what its premises say.
-use Rattle.std.specs.Prelude.{ℕ, true, List, [], ◌∷◌, ◌++◌, ◌≡◌, map, length, slice_get, Option, Some}
+use Rattle.std.specs.Prelude.{ℕ, true, List, [], ◌≡◌, map, slice_get, Option, Some}
 use Rattle.std.specs.List.{AllByRecursion}
-use Rattle.std.proofs.Common.{refl, sym, ap, ◌∙◌, subst, inl, inr}
+use Rattle.std.proofs.Common.{sym, ap, ◌∙◌, subst, inl, inr}
 use Rattle.std.proofs.lemmas.Option.{same_Some}
 use Rattle.ae_base.specs.Options.{◌>>=◌}
 use Rattle.ae_base.proofs.ListFacts.{get_map}
 use Rattle.ae_core.specs.declared.terms.Term.{Term}
 use Rattle.ae_core.specs.declared.formulas.Formula.{Eq}
-use Rattle.ae_core.specs.declared.formulas.Lit.{Lit}
 use Rattle.ae_core.specs.declared.problems.Signature.{Signature}
 use Rattle.ae_core.specs.declared.proofs.EqLine.{EqLine}
-use Rattle.ae_rules.specs.Lines.{Fact, equal, states, Stated}
+use Rattle.ae_rules.specs.Lines.{equal, states, Stated}
 use Rattle.ae_just.specs.declared.steps.Step.{Step}
 use Rattle.ae_just.specs.declared.steps.Side.{Side}
 use Rattle.ae_just.specs.declared.steps.Rule.{Rule}

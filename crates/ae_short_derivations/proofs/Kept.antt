@@ -1,9 +1,8 @@
 -- Steps that are kept for those that a step rests on.
-use Rattle.std.specs.Prelude.{ℕ, zero, suc, ◌+◌, ◌<◌, ◌⊎◌, List, [], ◌∷◌, ◌++◌, ◌≡◌, map, take, length, slice_get, get_or, Option, Some, None, Result, Ok, Err, IfOk, OnOk}
-use Rattle.std.specs.List.{AllByRecursion}
+use Rattle.std.specs.Prelude.{ℕ, ◌+◌, ◌<◌, ◌⊎◌, List, [], ◌∷◌, ◌++◌, ◌≡◌, map, take, length, slice_get, get_or, Option, Some, None, Result, Ok, Err, IfOk, OnOk}
 use Rattle.std.proofs.Common.{refl, sym, ap, ◌∙◌, subst, arith, inl, inr, length-append}
 use Rattle.std.proofs.lemmas.Bool.{cases_lt}
-use Rattle.std.proofs.lemmas.Option.{same_Some, slice_get_within, slice_get-get_or, slice_get_read}
+use Rattle.std.proofs.lemmas.Option.{same_Some, slice_get_within, slice_get_read}
 use Rattle.ae_base.specs.Options.{or_else}
 use Rattle.ae_base.proofs.AllOf.{all_from_places}
 use Rattle.ae_base.proofs.ListFacts.{get_append, get_front, value_at}

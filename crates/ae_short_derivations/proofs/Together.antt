@@ -1,16 +1,14 @@
 -- Sides that are the same term.
 use Rattle.std.specs.Prelude.{ℕ, zero, suc, ◌+◌, ◌-◌, ◌<◌, List, [], ◌∷◌, ◌++◌, ◌≡◌, map, take, length, slice_get, get_or, Some}
-use Rattle.std.proofs.Common.{refl, sym, ap, ◌∙◌, subst, arith}
+use Rattle.std.proofs.Common.{refl, sym, ap, ◌∙◌, arith}
 use Rattle.std.proofs.lemmas.List.{take_more}
 use Rattle.std.proofs.Math.Seq.{take-length}
 use Rattle.ae_core.specs.declared.terms.Sort.{Sort}
 use Rattle.ae_core.specs.declared.terms.Head.{Head}
-use Rattle.ae_core.specs.declared.terms.Term.{Term, Apply}
-use Rattle.ae_core.specs.declared.problems.Signature.{Signature}
+use Rattle.ae_core.specs.declared.terms.Term.{Term}
 use Rattle.ae_store.specs.declared.nodes.Node.{Node}
 use Rattle.ae_store.specs.declared.nodes.NodeHead.TheVariants as node
 use Rattle.ae_store.specs.Shapes.{shapes}
-use Rattle.ae_store.specs.Stores.{IsStore}
 use Rattle.ae_store.specs.Terms.{terms, named, IsPlaced}
 use Rattle.ae_store.proofs.StoreLaws.{applied_term_at, arg_below, name_term}
 use Rattle.ae_just.specs.Sides.{joined, many_from, many_of}

@@ -1,5 +1,5 @@
 -- The step of each change of a value is allowed.
-use Rattle.std.specs.Prelude.{ℕ, ℤ, pos, negsuc, unsigned_abs, suc, neg_ℤ, ◌*ℤ◌, ◌<ℤ◌, ◌≡◌, ◌≢◌, Bool, true, false, List, [], ◌∷◌, map}
+use Rattle.std.specs.Prelude.{ℕ, ℤ, pos, negsuc, unsigned_abs, suc, neg_ℤ, ◌*ℤ◌, ◌<ℤ◌, ◌≡◌, Bool, true, false, List, [], ◌∷◌, map}
 use Rattle.std.specs.List.{AllByRecursion}
 use Rattle.std.proofs.Common.{arith, refl, sym, ap, ◌∙◌, subst, inl, inr}
 use Rattle.ae_base.proofs.Integers.{positive_nonzero}

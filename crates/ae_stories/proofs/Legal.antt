@@ -1,5 +1,5 @@
 -- The story of a search for a goal of the reach is a legal journal.
-use Rattle.std.specs.Prelude.{ℕ, ◌≤◌, List, [], ◌≡◌}
+use Rattle.std.specs.Prelude.{ℕ, ◌≤◌, List, []}
 use Rattle.std.proofs.Common.{refl}
 use Rattle.ae_core.specs.declared.formulas.Formula.{Formula}
 use Rattle.ae_core.specs.declared.problems.Problem.{Problem}

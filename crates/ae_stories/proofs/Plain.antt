@@ -1,10 +1,10 @@
 -- In a journal of a goal of the reach no formula but the goal has a quantifier.
-use Rattle.std.specs.Prelude.{ℕ, ◌<◌, Bool, true, false, nat_lt, List, [], ◌∷◌, ◌≡◌, ◌⊎◌, map, length, slice_get, Option, Some, None}
+use Rattle.std.specs.Prelude.{ℕ, ◌<◌, Bool, true, false, nat_lt, List, [], ◌∷◌, ◌≡◌, map, length, slice_get, Option, Some, None}
 use Rattle.std.specs.List.{Contains}
 use Rattle.std.proofs.Common.{refl, sym, ap, ◌∙◌, subst, arith, inl, inr}
 use Rattle.std.proofs.lemmas.Bool.{ltb-true, eqb-true}
 use Rattle.std.proofs.lemmas.Option.{same_Some}
-use Rattle.ae_base.specs.Options.{◌>>=◌, only, when}
+use Rattle.ae_base.specs.Options.{◌>>=◌, only}
 use Rattle.ae_base.proofs.Options.{never_some, bind_some, only_some, when_some}
 use Rattle.ae_core.specs.Putting.{put_formula, instance}
 use Rattle.ae_core.specs.Sorts.{sort_of}
@@ -13,7 +13,7 @@ use Rattle.ae_core.specs.declared.terms.Term.{Term, Apply}
 use Rattle.ae_core.specs.declared.terms.Head.{Head}
 use Rattle.ae_core.specs.declared.formulas.Formula.{Formula, Formula-F, Eq, Lt, All, out-Formula}
 use Rattle.ae_core.specs.declared.formulas.Formula.TheOpen as layer
-use Rattle.ae_core.specs.declared.formulas.Formula.TheVariants.{outs-Eq, outs-Lt, outs-All}
+use Rattle.ae_core.specs.declared.formulas.Formula.TheVariants.{outs-Lt, outs-All}
 use Rattle.ae_core.specs.declared.formulas.Lit.{Lit}
 use Rattle.ae_core.specs.declared.formulas.Quant.{Quant}
 use Rattle.ae_core.specs.declared.problems.Problem.{Problem}
@@ -22,8 +22,7 @@ use Rattle.ae_core.specs.declared.problems.Item.TheVariants.{Axiom, Goal}
 use Rattle.ae_core.specs.declared.proofs.ClauseLine.TheVariants as clause_line
 use Rattle.ae_rules.specs.Clauses.{Clause, literal, yes_of, no_of, is_true, is_false}
 use Rattle.ae_rules.specs.Instances.{hypothesis, axiom_with, instance_clause, fresh_clause, have_sorts, are_numbered, count_from, block_sorts, choices_of, exhaustion, trichotomy}
-use Rattle.ae_rules.specs.Derivations.{goal_body, conclusion, clause_of, line_ok}
-use Rattle.ae_rules.proofs.ClauseLaws.{literal_all}
+use Rattle.ae_rules.specs.Derivations.{goal_body, clause_of}
 use Rattle.ae_journal.specs.Ground.{is_simple}
 use Rattle.ae_journal.specs.Standing.{Setting, IsBrought, IsFormula, parts_of, parts_by}
 use Rattle.ae_journal.specs.Standing.IsBrought.{by_hypothesis, by_goal, by_type_instance, by_term_instance}

@@ -1,6 +1,6 @@
 -- Lines of journals as the grammar reads them.
-use Rattle.std.proofs.Common.{ℕ, ◌⊎◌, true, false, List, [], ◌∷◌, ◌≡◌, refl, sym, ap, ◌∙◌}
-use Rattle.std.specs.Prelude.{Option, Some, None}
+use Rattle.std.proofs.Common.{ℕ, ◌⊎◌, List, [], ◌∷◌, ◌≡◌, refl, sym, ap, ◌∙◌}
+use Rattle.std.specs.Prelude.{Some, None}
 use mathlib.Core.Logic.{inl, inr}
 use Rattle.ae_choices.proofs.ChoiceForms.{tagged_picked}
 use Rattle.ae_codes.specs.Closers.{by_blank, by_line, sizes}

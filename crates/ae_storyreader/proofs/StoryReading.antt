@@ -1,6 +1,6 @@
 -- Journals as the grammar reads them.
-use Rattle.std.proofs.Common.{ℕ, ◌+◌, ◌⊎◌, true, false, nat_eq, List, [], ◌∷◌, ◌++◌, ◌≡◌, drop, refl, sym, ap, ◌∙◌}
-use Rattle.std.specs.Prelude.{Option, Some, None}
+use Rattle.std.proofs.Common.{ℕ, ◌+◌, ◌⊎◌, true, false, List, [], ◌∷◌, ◌++◌, ◌≡◌, drop, refl, sym, ap, ◌∙◌}
+use Rattle.std.specs.Prelude.{Some, None}
 use mathlib.Core.Logic.{inl, inr}
 use Rattle.ae_codes.specs.Codes.{Read, got, stops, wide}
 use Rattle.ae_codes.specs.Rows.{alone}

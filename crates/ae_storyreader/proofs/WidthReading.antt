@@ -1,6 +1,6 @@
 -- Widths with their journals as the grammar reads them.
-use Rattle.std.proofs.Common.{ℕ, ℤ, List, [], ◌∷◌, ◌≡◌, refl, sym, ap, ◌∙◌}
-use Rattle.std.specs.Prelude.{Option, Some, None, codes}
+use Rattle.std.proofs.Common.{ℕ, List, [], ◌∷◌, ◌≡◌, refl, sym, ap, ◌∙◌}
+use Rattle.std.specs.Prelude.{Option, Some, None}
 use Rattle.ae_choices.specs.Choices.{picked}
 use Rattle.ae_choices.proofs.ChoiceForms.{tagged_picked}
 use Rattle.ae_codes.specs.Closers.{by_blank, by_line, sizes}

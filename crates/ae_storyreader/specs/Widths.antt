@@ -1,5 +1,5 @@
 -- How a width with its journal is read, word by word, and what its reader answers.
-use Rattle.std.specs.Prelude.{ℕ, ℤ, List, [], ◌∷◌, Option, Some, None, Result, Ok, Err, codes}
+use Rattle.std.specs.Prelude.{ℕ, List, [], ◌∷◌, Option, Some, None, Result, Ok, Err, codes}
 use Rattle.ae_choices.specs.Choices.{Arms, picked}
 use Rattle.ae_codes.specs.Closers.{by_blank, by_line, sizes}
 use Rattle.ae_codes.specs.Codes.{Read, got}

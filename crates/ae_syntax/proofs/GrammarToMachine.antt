@@ -1,5 +1,5 @@
 -- What the grammar relates to tokens, the machine reads: its part, whatever follows, with the depth of each token.
-use Rattle.std.proofs.Common.{ℕ, suc, ◌<◌, true, List, [], ◌∷◌, ◌++◌, ◌≡◌, Option, Some, refl, sym, ap, ◌∙◌, arith, append_assoc}
+use Rattle.std.proofs.Common.{ℕ, suc, ◌<◌, true, List, [], ◌∷◌, ◌++◌, ◌≡◌, Some, refl, sym, ap, ◌∙◌, arith, append_assoc}
 use Rattle.std.proofs.lemmas.Option.{same_Some}
 use Rattle.ae_base.proofs.Options.{never_some}
 use Rattle.ae_lex.specs.declared.kinds.Token.{Token}

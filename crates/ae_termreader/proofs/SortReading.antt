@@ -1,19 +1,19 @@
 -- Sorts as the grammar reads them.
-use Rattle.std.proofs.Common.{ℕ, zero, suc, ◌⊎◌, ◌<◌, Bool, true, false, ◌&&◌, ◌||◌, IsTrue, cond, nat_eq, List, [], ◌∷◌, ◌++◌, ◌≡◌, ◌≢◌, length, drop, refl, sym, ap, ◌∙◌, subst, arith}
+use Rattle.std.proofs.Common.{ℕ, zero, suc, Bool, true, false, ◌&&◌, ◌||◌, IsTrue, cond, nat_eq, List, [], ◌∷◌, ◌++◌, ◌≡◌, ◌≢◌, drop, refl, sym, ap, ◌∙◌, subst, arith}
 use mathlib.Core.Logic.{inl, inr}
 use Rattle.std.specs.List.{list_any}
 use Rattle.std.specs.Str.{bytes_eq}
 use Rattle.std.proofs.lemmas.Bool.{eqb-true, eq-eqb, ne_eqb, false_from_ne_true}
 use Rattle.std.proofs.lemmas.Slice.Eq.{bytes_eq-Decides}
-use Rattle.ae_codes.specs.Codes.{Read, got, stops, wide, Code, both, one, mapped, words, is_bracket}
-use Rattle.ae_codes.specs.Closers.{Close, by_blank, closers, close_end, sizes, round, square}
+use Rattle.ae_codes.specs.Codes.{Read, got, stops, Code, both, one, mapped, words, is_bracket}
+use Rattle.ae_codes.specs.Closers.{Close, by_blank, closers, close_end, sizes, square}
 use Rattle.ae_codes.specs.Fractions.{or_two}
 use Rattle.ae_codes.specs.Names.{WordEnd, In, Proper, names, closing}
-use Rattle.ae_codes.specs.Numbers.{Closed, number, and_both, and_one, and_two}
+use Rattle.ae_codes.specs.Numbers.{number, and_both, and_one, and_two}
 use Rattle.ae_codes.specs.Nested.{Shaped}
 use Rattle.ae_codes.specs.Rows.{Row, rows, row_list, alone, ItemShape}
 use Rattle.ae_core.specs.declared.problems.Signature.{Signature}
-use Rattle.ae_core.specs.declared.terms.Sort.{Sort, Sort-F, Int, roll-Sort}
+use Rattle.ae_core.specs.declared.terms.Sort.{Sort, Int, roll-Sort}
 use Rattle.ae_core.specs.declared.terms.Sort.TheOpen as layer
 use Rattle.ae_core.specs.declared.terms.Sort.TheVariants as sort
 use Rattle.ae_core.specs.declared.terms.Sort.TheVariants.{rolls-Int, rolls-Real, rolls-Bool, rolls-Unit, rolls-Named, rolls-Rigid}

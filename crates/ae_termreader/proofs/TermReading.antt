@@ -1,15 +1,15 @@
 -- Numerals and terms as the grammar reads them.
-use Rattle.std.proofs.Common.{ℕ, zero, suc, ℤ, pos, ◌⊎◌, Bool, true, false, ◌&&◌, ◌||◌, cond, nat_eq, List, [], ◌∷◌, ◌++◌, ◌≡◌, ◌≢◌, map, length, drop, get_or, Some, ◌≤◌, refl, sym, ap, ◌∙◌, subst, arith}
+use Rattle.std.proofs.Common.{ℕ, suc, ℤ, pos, ◌⊎◌, Bool, true, false, ◌||◌, cond, nat_eq, List, [], ◌∷◌, ◌++◌, ◌≡◌, ◌≢◌, map, length, drop, get_or, Some, ◌≤◌, refl, sym, ap, ◌∙◌, arith}
 use mathlib.Core.Logic.{inl, inr}
 use Rattle.std.specs.List.{find}
 use Rattle.std.specs.Str.{bytes_eq}
 use Rattle.std.proofs.lemmas.Bool.{eqb-true, eq-eqb, ne_eqb}
 use Rattle.ae_base.specs.Options.{or_else}
-use Rattle.ae_codes.specs.Codes.{Read, got, stops, wide, Code, both, one, mapped, words, is_digit, limit, too_wide, is_bracket}
+use Rattle.ae_codes.specs.Codes.{Read, got, Code, both, one, is_digit, limit, too_wide, is_bracket}
 use Rattle.ae_codes.specs.Closers.{Close, closers, close_end, sizes, by_blank, by_bracket, round, square}
 use Rattle.ae_codes.specs.Integers.{negate}
-use Rattle.ae_codes.specs.Machines.{checked, machine}
-use Rattle.ae_codes.specs.Names.{WordEnd, names, closing}
+use Rattle.ae_codes.specs.Machines.{machine}
+use Rattle.ae_codes.specs.Names.{closing}
 use Rattle.ae_codes.specs.Numbers.{Closed, number, number_machine, read_digits, no_digit, zero_small, one_small}
 use Rattle.ae_codes.specs.Fractions.{denominators, passing, passing_by}
 use Rattle.ae_codes.specs.Numerals as numerals
@@ -17,7 +17,7 @@ use Rattle.ae_codes.specs.Numerals.{Below, whole, over, Plain, Signed, closed_of
 use Rattle.ae_codes.specs.Plans.{Inner, Plan, fixed, known, inside, sequence, choice, sends, coded_shaped, coded_reads}
 use Rattle.ae_codes.specs.Nested.{Shaped, agree_same}
 use Rattle.ae_codes.specs.Rows.{Row, rows, row_list, alone, empty, ItemShape, agree_rows}
-use Rattle.ae_codes.specs.Listings.{listing, following, some}
+use Rattle.ae_codes.specs.Listings.{following, some}
 use Rattle.ae_core.specs.declared.problems.Signature.{Signature}
 use Rattle.ae_core.specs.declared.terms.Head.{Head}
 use Rattle.ae_core.specs.declared.terms.Head.TheVariants as head
@@ -32,10 +32,10 @@ use Rattle.ae_prooftext.specs.SortTexts.{above_round, fine, blank, blank_end}
 use Rattle.ae_prooftext.specs.TermTexts as terms
 use Rattle.ae_prooftext.specs.TermTexts.{TermEnd, TermValue, above_square, Arguments, LeafValue, FreshValue, AppliedValue, bracket_table, lone_table, head_fine, first_real, term_to, term_from, is_hash, is_figure, is_mark, plus_first, true_first}
 use Rattle.ae_prooftext.specs.WordLaws.{at_real}
-use Rattle.ae_prooftext.specs.Words.{bracket_heads, lone_heads, head_word, head_of, lone_head_of, named, takes_sorts, type_names}
+use Rattle.ae_prooftext.specs.Words.{bracket_heads, lone_heads, head_word, head_of, lone_head_of, named, takes_sorts}
 use Rattle.ae_readers.specs.Denominators.{below_digits, can_live}
-use Rattle.ae_readers.specs.Readers.{after_read, closing_read, fixed_read, named_read, name_read, place_of, row_read, more_read, list_read, behind_read, end_or, or_stroke, wide_or, before, greatest, sign_of, low_of, FaultIs}
-use Rattle.ae_readers.proofs.Combinators.{after_after, after_same, mapped_is, both_is, one_is, one_none, on_side, checked_is}
+use Rattle.ae_readers.specs.Readers.{after_read, closing_read, fixed_read, named_read, place_of, row_read, more_read, list_read, behind_read, end_or, or_stroke, wide_or, before, FaultIs}
+use Rattle.ae_readers.proofs.Combinators.{after_after, after_same, mapped_is, one_is, one_none, on_side, checked_is}
 use Rattle.ae_readers.proofs.NameReading.{name_is, closing_is}
 use Rattle.ae_readers.proofs.RowReading.{row_turn, goes_on, ends_here, faulty, listing_is, following_is, some_is}
 use Rattle.ae_readers.proofs.WordReading.{alone_is}

@@ -1,5 +1,5 @@
 -- How a sort is read, byte by byte. What stands inside is read by the grammar's own code.
-use Rattle.std.specs.Prelude.{ℕ, zero, suc, Bool, true, false, cond, ◌&&◌, nat_eq, List, [], ◌∷◌}
+use Rattle.std.specs.Prelude.{ℕ, zero, suc, Bool, true, false, ◌&&◌, nat_eq, List, [], ◌∷◌}
 use Rattle.std.specs.List.{list_any}
 use Rattle.ae_codes.specs.Codes.{Read, got, stops, Code}
 use Rattle.ae_codes.specs.Closers.{Close, by_blank, closers, sizes, square}
@@ -11,7 +11,7 @@ use Rattle.ae_core.specs.declared.terms.Sort.TheVariants as sort
 use Rattle.ae_prooftext.specs.SortTexts.{SortEnd, fine, above_round, atoms, inner_sort, inner_is_shaped, some_type}
 use Rattle.ae_prooftext.specs.TermTexts.{above_square, sort_in, sorts_shaped}
 use Rattle.ae_prooftext.specs.Words.{type_names}
-use Rattle.ae_readers.specs.Readers.{after_read, close_of, closing_read, named_read, no_end, row_read, list_read}
+use Rattle.ae_readers.specs.Readers.{after_read, closing_read, named_read, no_end, row_read, list_read}
 use Rattle.ae_readers.specs.declared.closing.Closing.{Closing}
 use Rattle.ae_readers.specs.declared.closing.Closing.TheVariants as closing
 

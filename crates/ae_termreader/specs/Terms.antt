@@ -1,7 +1,7 @@
 -- How a numeral and a term are read, byte by byte. What stands inside is read by the grammar's own code.
-use Rattle.std.specs.Prelude.{ℕ, ℤ, pos, Bool, true, false, cond, ◌||◌, nat_eq, List, [], ◌∷◌, get_or}
+use Rattle.std.specs.Prelude.{ℕ, ℤ, pos, Bool, true, false, ◌||◌, nat_eq, List, [], ◌∷◌, get_or}
 use Rattle.ae_codes.specs.Codes.{Read, got, stops, Code, is_digit, too_wide}
-use Rattle.ae_codes.specs.Closers.{Close, closers, sizes, by_blank, by_bracket, round, square}
+use Rattle.ae_codes.specs.Closers.{Close, closers, sizes, by_blank, by_bracket, round}
 use Rattle.ae_codes.specs.Numbers.{Closed, number, read_digits, no_digit}
 use Rattle.ae_codes.specs.Rows.{Row, rows}
 use Rattle.ae_core.specs.declared.problems.Signature.{Signature}
@@ -10,15 +10,14 @@ use Rattle.ae_core.specs.declared.terms.Head.TheVariants as head
 use Rattle.ae_core.specs.declared.terms.Sort.{Sort}
 use Rattle.ae_core.specs.declared.terms.Term.{Term}
 use Rattle.ae_core.specs.declared.terms.Term.TheVariants as term
-use Rattle.ae_prooftext.specs.Grammar.{is_real, sort_code, term_code}
+use Rattle.ae_prooftext.specs.Grammar.{is_real, sort_code}
 use Rattle.ae_prooftext.specs.SortTexts.{above_round, fine}
 use Rattle.ae_prooftext.specs.TermTexts as terms
 use Rattle.ae_prooftext.specs.TermTexts.{TermEnd, Arguments, above_square, bracket_table, lone_table, head_fine, first_real, terms_shaped, term_is_shaped}
-use Rattle.ae_prooftext.specs.Parts.{closed_in_square}
 use Rattle.ae_prooftext.specs.WordLaws.{at_real}
 use Rattle.ae_prooftext.specs.Words.{bracket_heads, lone_heads, takes_sorts}
 use Rattle.ae_readers.specs.Denominators.{below_digits}
-use Rattle.ae_readers.specs.Readers.{after_read, closing_read, fixed_read, named_read, row_read, list_read, behind_read, greatest, low_of, or_stroke, sign_of, wide_or}
+use Rattle.ae_readers.specs.Readers.{after_read, closing_read, fixed_read, named_read, row_read, behind_read, greatest, low_of, or_stroke, sign_of, wide_or}
 use Rattle.ae_termreader.specs.Sorts.{sorts_read}
 
 -- ---- numerals: the digits behind the sign, a stroke, and the digits below it

@@ -1,13 +1,12 @@
 -- The trimmed proof: all its lines are used, its hints name earlier lines, and it derives what the proof derives.
-use Rattle.std.specs.Prelude.{ℕ, zero, suc, ◌+◌, ◌-◌, ◌<◌, Bool, true, List, [], ◌∷◌, ◌++◌, ◌≡◌, map, length, reverse, take, get_or, slice_get, slice_index, Option, Some, None}
-use Rattle.std.specs.List.{AllByRecursion, Contains, flat_map}
-use Rattle.std.specs.List.Sorted.{IsStrictlyIncreasing}
+use Rattle.std.specs.Prelude.{ℕ, zero, suc, ◌+◌, ◌-◌, ◌<◌, true, List, [], ◌∷◌, ◌++◌, ◌≡◌, map, length, reverse, take, get_or, slice_get, slice_index, Option, Some, None}
+use Rattle.std.specs.List.{Contains, flat_map}
 use Rattle.std.proofs.Common.{refl, sym, ap, ◌∙◌, subst, arith, inl, inr, append_assoc, append-nil}
 use Rattle.std.proofs.lemmas.Bool.{cases_lt}
 use Rattle.std.proofs.lemmas.List.{get_or-reverse, length-reverse}
 use Rattle.std.proofs.lemmas.List.Elements.{Contains-append_cases, Contains-append_left, Contains-append_right}
-use Rattle.std.proofs.lemmas.Option.{none-some, same_Some, slice_get-get_or, slice_get-map, slice_get_within, get_or_from_slice_get}
-use Rattle.ae_base.specs.Options.{or_else, ◌>>=◌, all_known}
+use Rattle.std.proofs.lemmas.Option.{same_Some, slice_get-get_or, slice_get-map, slice_get_within, get_or_from_slice_get}
+use Rattle.ae_base.specs.Options.{◌>>=◌, all_known}
 use Rattle.ae_base.proofs.AllOf.{map_same, all_from_places, all_weaker, all_at}
 use Rattle.ae_base.proofs.ListFacts.{get_front, map_map, value_at}
 use Rattle.ae_base.proofs.Options.{bind_some, each_known, mapped_some, never_some}
@@ -25,7 +24,7 @@ use Rattle.ae_rules.specs.Derivations.{conclusion, stated_by, hinted as hinted_c
 use Rattle.ae_trim.specs.Used.{hints_of, hints_at, HintEarlier, IsUsed, last, hinted, AllUsed, AreUsed}
 use Rattle.ae_trim.specs.Inner.Marks.{AreNumbered}
 use Rattle.ae_trim.specs.Trimmed.{place_in, renumbered, AreKept, IsTrimmed}
-use Rattle.ae_trim.proofs.Rising.{contains_at, at_contains, contains_map, rises, one_place, place_below, place_found}
+use Rattle.ae_trim.proofs.Rising.{contains_at, at_contains, contains_map, rises, place_below, place_found}
 use Rattle.ae_trim.proofs.Keeping.{kept_by_place, hints_there, used_within, hints_of_line, hint_place, hints_renumbered}
 
 -- ---- lists

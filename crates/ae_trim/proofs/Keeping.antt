@@ -1,15 +1,15 @@
 -- The lines that are kept, and their numbers.
-use Rattle.std.specs.Prelude.{ℕ, zero, suc, ◌+◌, ◌<◌, List, [], ◌∷◌, ◌++◌, ◌≡◌, map, length, take, set, get_or, slice_get, slice_index, Option, Some}
+use Rattle.std.specs.Prelude.{ℕ, ◌+◌, ◌<◌, List, [], ◌∷◌, ◌++◌, ◌≡◌, map, length, set, slice_get, slice_index, Option, Some}
 use Rattle.std.specs.List.{Contains}
 use Rattle.std.specs.List.Sorted.{IsStrictlyIncreasing}
 use Rattle.std.proofs.Common.{refl, sym, ap, ◌∙◌, subst, arith, inl, inr, get_or-set_same, get_or-set_other, length-set}
 use Rattle.std.proofs.lemmas.Bool.{cases_eq}
 use Rattle.std.proofs.lemmas.List.{length_push}
-use Rattle.std.proofs.lemmas.Option.{slice_get-get_or, slice_get_past, slice_get_within}
+use Rattle.std.proofs.lemmas.Option.{slice_get_past, slice_get_within}
 use Rattle.std.proofs.lemmas.Bool.{cases_lt}
 use Rattle.ae_base.specs.Options.{or_else, ◌>>=◌}
 use Rattle.ae_base.proofs.AllOf.{map_same, all_from_places}
-use Rattle.ae_base.proofs.ListFacts.{get_append, get_seam, value_at}
+use Rattle.ae_base.proofs.ListFacts.{get_append, get_seam}
 use Rattle.ae_core.specs.declared.proofs.ClauseLine.{ClauseLine}
 use Rattle.ae_core.specs.declared.proofs.ClauseLine.TheVariants.{Hyp, Goal, Def, Inst, Fresh, Exh, Tri, Block, Rup}
 use Rattle.ae_trim.specs.Used.{hints_of, hints_at, HintEarlier, IsUsed, last, hinted, AreUsed}

@@ -1,6 +1,5 @@
 -- How many lines may be noted: nothing, one line, and steps one after another.
-use Rattle.std.specs.Prelude.{ℕ, zero, suc, ◌+◌, ◌<◌, ◌≤◌, List, [], ◌∷◌, ◌++◌, ◌≡◌, ◌≢◌, map, take, drop, length, Result, Ok, Err, OnOk, IsErrAnd, Option, Some, None}
-use Rattle.std.specs.List.{AllByRecursion}
+use Rattle.std.specs.Prelude.{ℕ, zero, suc, ◌+◌, ◌<◌, ◌≤◌, List, [], ◌∷◌, ◌++◌, ◌≡◌, ◌≢◌, map, take, length, Result, Err, OnOk, IsErrAnd, Option, Some, None}
 use Rattle.std.proofs.Common.{refl, sym, ap, ◌∙◌, subst, arith}
 use Rattle.std.proofs.lemmas.Option.{none-some}
 use Rattle.std.proofs.lemmas.Result.{on_ok_weaker, err_from_is_err_and}
@@ -23,7 +22,6 @@ use Rattle.ae_monoid.specs.declared.pending.PendingPair.{PendingPair}
 use Rattle.ae_monoid.specs.declared.rules.Kept.{Kept}
 use Rattle.ae_equations.specs.Held.{Contents as Equations}
 use Rattle.ae_equations.specs.Queued.{waiting, equation_of}
-use Rattle.ae_equations.specs.declared.queue.Waiting.{Waiting}
 use Rattle.ae_rule_passes.specs.Passes.{drop_line}
 use Rattle.ae_value_table.specs.Table.{Contents}
 use Rattle.ae_state.specs.declared.holding.Holding.{Holding}

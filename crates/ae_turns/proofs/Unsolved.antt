@@ -1,5 +1,5 @@
 -- Names that are left to solve, where a value is put for one of them: it is so no longer, and no other name comes to be so.
-use Rattle.std.specs.Prelude.{ℕ, ℤ, pos, ◌<◌, ◌≤◌, ◌⊎◌, Bool, true, false, cond, List, ◌≡◌, ◌≢◌, length, slice_get, Option, Some, None}
+use Rattle.std.specs.Prelude.{ℕ, pos, ◌<◌, ◌≤◌, ◌⊎◌, Bool, true, false, cond, List, ◌≡◌, ◌≢◌, length, slice_get, Option, Some, None}
 use Rattle.std.proofs.Common.{refl, sym, ap, ◌∙◌, subst, arith, inl, inr}
 use Rattle.std.proofs.lemmas.Bool.{cases_lt, eq-eqb, ne_eqb}
 use Rattle.std.proofs.lemmas.List.{length-map, length-take, length-take-le}
@@ -8,7 +8,7 @@ use native.Mathlib.Decide.{ℕ_discrete}
 use Rattle.ae_base.proofs.Decided.{pick_yes}
 use Rattle.ae_base.proofs.ListFacts.{value_at as there}
 use Rattle.ae_math.specs.Fractions.{zero_ℚ, one_ℚ, ◌+ℚ◌}
-use Rattle.ae_math.specs.Forms.{Form, single, factor, substitute}
+use Rattle.ae_math.specs.Forms.{single, factor, substitute}
 use Rattle.ae_math.proofs.FractionLaws.{add_zero_q}
 use Rattle.ae_math.proofs.FormLaws.{substitute_gone}
 use Rattle.ae_math.proofs.Wholes.{one_whole, zero_whole, whole_same}
@@ -23,7 +23,7 @@ use Rattle.ae_journal.specs.Systems.{IsName, record_fields}
 use Rattle.ae_journal.specs.declared.systems.System.{System}
 use Rattle.ae_store.specs.Stores.{Stored}
 use Rattle.ae_settled.specs.Held.{Held}
-use Rattle.ae_settled.specs.Valued.{AreValues, IsOwnNumber, IsOwnLeaf, IsNumberOver, IsLeafOver}
+use Rattle.ae_settled.specs.Valued.{AreValues, IsOwnNumber, IsOwnLeaf}
 use Rattle.ae_settled.proofs.Leaves.{leaf_fields, number_fields}
 use Rattle.ae_name_lines.proofs.Written.{no_leaf, same_leaf, same_number}
 use Rattle.ae_theory.specs.Names.{terms_in}

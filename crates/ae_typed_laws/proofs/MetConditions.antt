@@ -1,8 +1,8 @@
 -- What holds of a part whose conditions are met.
-use Rattle.std.proofs.Common.{arith, ◌≡◌, ◌≤◌, ℕ, inl, inr, true, List, [], ◌∷◌, map, reverse, length, sym, subst}
-use Rattle.std.proofs.lemmas.List.{reverse-append, reverse-reverse}
+use Rattle.std.proofs.Common.{arith, ◌≡◌, ◌≤◌, ℕ, inl, inr, true, List, [], ◌∷◌, map, length, subst}
+use Rattle.std.proofs.lemmas.List.{reverse-reverse}
 use Rattle.std.specs.List.{AllByRecursion}
-use Rattle.ae_base.proofs.AllOf.{all_append, all_front, all_back, all_before_map, all_reversed}
+use Rattle.ae_base.proofs.AllOf.{all_front, all_back, all_before_map, all_reversed}
 use Rattle.ae_core.specs.declared.terms.Sort.{Sort}
 use Rattle.ae_types.specs.Substitutions.{put}
 use Rattle.ae_elab.specs.Conditions.{Demand, Test, Same, Possible, First, IsOneOf, IsFirstOf, sorts_among, Meets, Condition, demands, IsTyping}

@@ -4,7 +4,6 @@ use Rattle.std.proofs.Common.{refl, ap, subst, Some}
 use Rattle.std.specs.Prelude.{int_lt}
 use Rattle.std.proofs.Math.Nat.{le-mul_of_pos_right}
 use Rattle.std.proofs.lemmas.Bool.{and_from, lt-ltb, ltb-false}
-use Rattle.std.proofs.lemmas.Bool.Decides.{nat_tests}
 use Rattle.std.proofs.lemmas.Option.{none-some, same_Some}
 use Rattle.ae_base.proofs.Tests.{by_bool}
 use Rattle.ae_core.specs.Sorts.{within, numeral_ok}

@@ -8,7 +8,7 @@ use Rattle.ae_pmap.specs.Pairs.{found}
 use Rattle.ae_num.specs.declared.forms.Lin.{Lin}
 use Rattle.ae_linear.specs.Rows.{row_at, value_of, Lasts as RowsLast}
 use Rattle.ae_value_table.specs.declared.patterns.Entry.{Entry}
-use Rattle.ae_value_table.specs.Table.{Contents, value_by, values, held, number_at, leaf_at, own}
+use Rattle.ae_value_table.specs.Table.{Contents, value_by, values, number_at, leaf_at, own}
 use Rattle.ae_value_table.specs.Versions.{Lasts, IsAs}
 
 -- ---- each part lasts

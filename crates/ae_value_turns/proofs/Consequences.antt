@@ -1,5 +1,5 @@
 -- What steps that rest on assumed literals state follows from equations that may stand.
-use Rattle.std.specs.Prelude.{ℕ, Bool, true, false, List, [], ◌∷◌, ◌==◌, ◌≡◌, if◌then◌else◌, slice_get, Option, Some}
+use Rattle.std.specs.Prelude.{ℕ, Bool, true, false, List, [], ◌∷◌, ◌==◌, ◌≡◌, if◌then◌else◌, Option, Some}
 use Rattle.std.specs.List.{Contains}
 use Rattle.std.proofs.Common.{sym, subst}
 use Rattle.std.proofs.lemmas.Option.{none-some, same_Some}
@@ -12,7 +12,6 @@ use Rattle.ae_follows.proofs.Following.{step_is_consequence}
 use Rattle.ae_journal.specs.Standing.{Setting, MayEquate, MayFollow, MayStand}
 use Rattle.ae_journal.specs.declared.lines.Line.{Line}
 use Rattle.ae_journal.proofs.Splits.{contains_here, contains_later}
-use Rattle.ae_just.specs.Sides.{side_term}
 use Rattle.ae_just.specs.Steps.{Fits, literal}
 use Rattle.ae_just.specs.declared.steps.Side.TheVariants as side
 use Rattle.ae_just.specs.declared.steps.Step.{Step}

@@ -1,11 +1,11 @@
 -- `solve` lines: one is noted, and the values that it gives are in step with it.
-use Rattle.std.specs.Prelude.{ℕ, ◌<◌, ◌+◌, true, List, [], ◌∷◌, ◌++◌, ◌≡◌}
+use Rattle.std.specs.Prelude.{ℕ, ◌<◌, ◌+◌, List, [], ◌∷◌, ◌++◌, ◌≡◌}
 use Rattle.std.proofs.Common.{refl, sym, ap, ◌∙◌, subst, arith}
 use Rattle.std.proofs.lemmas.List.{append_cancel_left}
 use Rattle.ae_core.specs.declared.terms.Term.{Term}
 use Rattle.ae_core.specs.declared.problems.Signature.{Signature}
 use Rattle.ae_journal.specs.Journals.{live, counted_in}
-use Rattle.ae_journal.specs.Legal.{IsLegalLine, AreLegal}
+use Rattle.ae_journal.specs.Legal.{AreLegal}
 use Rattle.ae_journal.specs.Noted.{Noted}
 use Rattle.ae_journal.specs.SolverLines.{MayOrientName}
 use Rattle.ae_journal.specs.Standing.{Setting}

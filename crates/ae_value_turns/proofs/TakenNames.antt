@@ -1,5 +1,5 @@
 -- What is held of a store of which all names have values, said over the terms of the store.
-use Rattle.std.specs.Prelude.{ℕ, ◌≤◌, List, ◌≡◌, length, take}
+use Rattle.std.specs.Prelude.{ℕ, ◌≤◌, List, ◌≡◌, length}
 use Rattle.std.proofs.Common.{sym, ap, ◌∙◌, subst, arith}
 use Rattle.std.proofs.Math.Nat.{min-le_left}
 use Rattle.std.proofs.lemmas.List.{length-take, take_all}

@@ -4,7 +4,7 @@ use Rattle.std.proofs.Common.{refl, sym, ap, ◌∙◌, subst}
 use Rattle.std.proofs.lemmas.Bool.{ne_eqb}
 use native.Mathlib.Decide.{ℕ_discrete}
 use Rattle.ae_base.proofs.Decided.{pick_yes, pick_no}
-use Rattle.ae_math.specs.Fractions.{ℚ, zero_ℚ, one_ℚ, ◌+ℚ◌, ◌*ℚ◌}
+use Rattle.ae_math.specs.Fractions.{zero_ℚ, one_ℚ, ◌+ℚ◌, ◌*ℚ◌}
 use Rattle.ae_math.specs.Forms.{Form, single, factor, substitute}
 use Rattle.ae_math.proofs.FractionLaws.{zero_add_q, add_zero_q, one_mul_q}
 use Rattle.ae_math.proofs.FormLaws.{same_refl, same_sym, same_trans, substitute-same, substitute_there, substitute_elsewhere}

@@ -1,12 +1,12 @@
 -- A part has one verdict, and what its line tells.
 use Rattle.std.proofs.Common.{ℕ, ◌<◌, ◌≡◌, ◌⊎◌, List, [], ◌∷◌, ◌++◌, take, length, get_or, refl, sym, ap, ◌∙◌, subst, arith, inl, inr, Option, Some, None, codes}
 use Rattle.std.specs.Prelude.{slice_get}
-use Rattle.std.proofs.lemmas.Bool.{cases_lt, cases_eq}
+use Rattle.std.proofs.lemmas.Bool.{cases_lt}
 use Rattle.std.proofs.lemmas.List.{append_cancel_left, append_cancel_right, take-take, length-take, get_or-take}
 use Rattle.std.proofs.lemmas.Option.{none-some, same_Some, slice_get_within, slice_get-get_or, get_or_from_slice_get}
 use Rattle.ae_calc.specs.Reached.{Fit, FirstWide}
 use Rattle.ae_calc.proofs.AllowedLines.{clause_lines_stop}
-use Rattle.ae_check.specs.Verdicts.{Says, StopsAt, IsUnfinished}
+use Rattle.ae_check.specs.Verdicts.{Says, StopsAt}
 use Rattle.ae_check.specs.declared.verdict.Verdict.TheVariants as proof
 use Rattle.ae_core.specs.declared.problems.Problem.{Problem}
 use Rattle.ae_core.specs.declared.proofs.ClauseLine.{ClauseLine}

@@ -1,8 +1,6 @@
 -- Rising lists of the same numbers are the same, so a proof has one list of axioms.
-use Rattle.std.proofs.Common.{ℕ, zero, suc, ◌+◌, ◌<◌, ◌≡◌, ◌⊎◌, ◌↔◌, List, [], ◌∷◌, refl, sym, ap, ◌∙◌, subst, arith, inl, inr, Option, Some, None, Bool, true}
+use Rattle.std.proofs.Common.{ℕ, zero, suc, ◌<◌, ◌≡◌, ◌⊎◌, List, [], ◌∷◌, refl, sym, ◌∙◌, subst, arith, inl, inr, Some, None, Bool, true}
 use Rattle.std.specs.Prelude.{slice_get}
-use Rattle.std.specs.List.{Contains}
-use Rattle.std.specs.List.Sorted.{IsStrictlyIncreasing}
 use Rattle.ae_core.specs.declared.proofs.Proof.{Proof}
 use Rattle.ae_trim.specs.Axioms.{AreAxioms}
 use Rattle.std.specs.Bool.{Decides}

@@ -1,5 +1,5 @@
 -- Whole lines, a line of exactly `%%` and any bytes behind it are parted at that line, where none of the lines is `%%`.
-use Rattle.std.proofs.Common.{ℕ, ◌+◌, ◌≤◌, List, [], ◌∷◌, ◌++◌, ◌≡◌, length, inl, inr, refl, sym, ap, ◌∙◌, subst, arith, append_assoc, length-append, codes}
+use Rattle.std.proofs.Common.{ℕ, ◌≤◌, List, [], ◌∷◌, ◌++◌, ◌≡◌, length, inl, inr, refl, sym, ap, ◌∙◌, arith, append_assoc, length-append, codes}
 use Rattle.std.proofs.lemmas.List.{same_from_push}
 use Rattle.ae_codes.specs.Codes.{cuts, no_cons}
 use Rattle.ae_report.specs.Lines.{AreLines, none, ended}

@@ -1,6 +1,6 @@
 -- A text with a line break behind it has the same problem.
-use Rattle.std.proofs.Common.{◌≡◌, ◌∙◌, ◌-◌, ◌≤◌, arith, ℕ, suc, Bool, true, false, not, ◌||◌, List, [], ◌∷◌, ◌++◌, map, length, drop, take, reverse, refl, sym, ap, subst, Option, Some, None}
-use Rattle.std.specs.List.{AllByRecursion, slice_range}
+use Rattle.std.proofs.Common.{◌≡◌, ◌∙◌, ◌-◌, arith, ℕ, suc, Bool, true, false, not, ◌||◌, List, [], ◌∷◌, ◌++◌, map, length, drop, take, refl, sym, ap, subst, Option, Some, None}
+use Rattle.std.specs.List.{AllByRecursion}
 use Rattle.std.specs.Option.{is_some}
 use Rattle.std.proofs.lemmas.List.{drop-append-le, take-append-le, length-drop}
 use Rattle.ae_base.proofs.AllOf.{all_front, all_back, all_before_map, all_weaker}
@@ -30,15 +30,14 @@ use Rattle.ae_elab.specs.declared.grounds.Ground.TheVariants as ground
 use Rattle.ae_elab.specs.Conditions.{IsPrincipal, shown, test}
 use Rattle.ae_elab.specs.Names.{IsName, joined, names_in, names_in_type, names_in_result, names_in_typed, names_in_all, names_in_kind, names_in_file}
 use Rattle.ae_elab.specs.Problems.{IsTyped, first_large, item_of}
-use Rattle.ae_elab.specs.Trees.{Claim, apply, relation, equal, equivalence, predicate}
+use Rattle.ae_elab.specs.Trees.{apply, relation, equal, equivalence, predicate}
 use Rattle.ae_elab.specs.Scope.{name_in, is_among, type_number, symbol_number}
 use Rattle.ae_elab.specs.Rules.{Stated, Rule, give, ◌>>◌, ◌⇒◌, all_of, each, fresh, count_written}
 use Rattle.ae_elab.specs.WrittenTypes.{type_rule}
-use Rattle.ae_elab.specs.Formulas.{Bound}
 use Rattle.ae_elab.specs.Expressions.{part_of}
 use Rattle.ae_elab.specs.Declarations.{Declared, declared, drafted, has_field, all_different, with_types, with_symbols, type_entry, symbol_entry, scope_of, fields_rule, type_decl, new_symbols}
 use Rattle.ae_elab.specs.Declarations.{count_from, constructors_from, enumeration_decl, result_rule, may_be_ac, nature_of, logic_decl, formals_rule, rigids, sorts_of, formal_args, defining}
-use Rattle.ae_elab.specs.Declarations.{function_decl, predicate_decl, statement_decl, kind_rule, decl_rule, alone, decls_rule, no_declarations, file_states}
+use Rattle.ae_elab.specs.Declarations.{function_decl, predicate_decl, statement_decl, kind_rule, alone, decls_rule, no_declarations, file_states}
 use Rattle.ae_elab.proofs.FileNames.{file_named}
 use Rattle.ae_typed_laws.proofs.ParsedTrees.{AreWritten, IsTypedName, IsResult, IsKind, IsDeclaration}
 use Rattle.ae_typed_laws.proofs.FileTrees.{file_made}

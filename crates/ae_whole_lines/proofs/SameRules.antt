@@ -1,9 +1,9 @@
 -- Two texts in which the names of a tree are the same state the same of it.
-use Rattle.std.proofs.Common.{◌≡◌, ◌∙◌, ℕ, Bool, not, ◌&&◌, nat_eq, pos, List, [], ◌∷◌, ◌++◌, map, reverse, length, refl, sym, ap, subst, Option, Some, None}
+use Rattle.std.proofs.Common.{◌≡◌, ◌∙◌, ℕ, not, ◌&&◌, nat_eq, List, [], ◌∷◌, ◌++◌, map, reverse, length, refl, sym, ap, subst, Option, Some, None}
 use Rattle.std.specs.List.{AllByRecursion, list_any}
 use Rattle.std.specs.Str.{bytes_eq}
 use Rattle.ae_base.proofs.AllOf.{all_front, all_back}
-use Rattle.ae_core.specs.declared.terms.Sort.{Sort, Int, Real, Bool as BoolSort, Unit as UnitSort, Named as NamedSort}
+use Rattle.ae_core.specs.declared.terms.Sort.{Sort, Unit as UnitSort, Named as NamedSort}
 use Rattle.ae_core.specs.declared.terms.Head.TheVariants as head
 use Rattle.ae_core.specs.declared.terms.Op.{Op}
 use Rattle.ae_core.specs.declared.terms.Op.TheVariants as op
@@ -16,7 +16,6 @@ use Rattle.ae_syntax.specs.declared.types.TypeKind as type_kind
 use Rattle.ae_syntax.specs.declared.exprs.BinaryOp.{BinaryOp}
 use Rattle.ae_syntax.specs.declared.exprs.BinaryOp.TheVariants as binary
 use Rattle.ae_syntax.specs.declared.exprs.Quantifier.{Quantifier}
-use Rattle.ae_syntax.specs.declared.exprs.Number.{Number}
 use Rattle.ae_syntax.specs.declared.exprs.Expr.{Expr}
 use Rattle.ae_syntax.specs.declared.exprs.ExprKind.{ExprKind}
 use Rattle.ae_syntax.specs.declared.exprs.ExprKind as kind

@@ -1,11 +1,11 @@
 -- A line break behind a text gives it no other tokens.
-use Rattle.std.proofs.Common.{ℕ, ◌+◌, Bool, true, false, true≢false, not, nat_eq, List, [], ◌∷◌, ◌++◌, ◌≡◌, length, inl, inr, refl, sym, ap, ◌∙◌, subst, arith, append_assoc, Option, Some, None, codes}
+use Rattle.std.proofs.Common.{ℕ, ◌+◌, Bool, true, true≢false, not, nat_eq, List, [], ◌∷◌, ◌++◌, ◌≡◌, length, inl, inr, refl, sym, ap, ◌∙◌, subst, arith, append_assoc, Option, None, codes}
 use Rattle.std.specs.List.{list_all}
 use Rattle.std.proofs.lemmas.Bool.{and_parts}
 use Rattle.ae_base.proofs.Options.{never_some}
 use Rattle.ae_codes.specs.Codes.{no_cons}
 use Rattle.ae_lex.proofs.Parts.{all_back}
-use Rattle.ae_lex.specs.Lexis.{is_letter, is_inner, is_digit, Begins, BeginsWithLetter, IsWord, IsTypeVar, IsNumeral, whole, pointed, IsToken, word, type_var, numeral, sign, IsLongest}
+use Rattle.ae_lex.specs.Lexis.{is_inner, is_digit, Begins, BeginsWithLetter, IsWord, IsTypeVar, IsNumeral, whole, pointed, IsToken, word, type_var, numeral, sign, IsLongest}
 use Rattle.ae_lex.specs.Lexis.{IsOutsideMark, power, mapsto, quote, caret, at_sign, IsOutside, mark, suffix, blank, IsTokenBefore, IsCut, ends, fails, passes, gives, IsTokenized}
 use Rattle.ae_lex.specs.Spellings.{sign_bytes}
 use Rattle.ae_lex.specs.declared.kinds.LexFault.{LexFault}

@@ -4,7 +4,7 @@ use Rattle.std.specs.List.{AllByRecursion}
 use Rattle.std.proofs.Common.{sym, ap, ◌∙◌, subst}
 use lib.IntN.{zero-*ℤ, +ℤ_idl, +ℤ_idr, +ℤ_invr, +ℤ_assoc}
 use Rattle.ae_math.specs.Fractions.{ℚ, zero_ℚ, one_ℚ, neg_ℚ, ◌+ℚ◌, ◌*ℚ◌, whole}
-use Rattle.ae_math.specs.Forms.{number, scale}
+use Rattle.ae_math.specs.Forms.{scale}
 use Rattle.ae_math.specs.Inner.Integers.{ring}
 use Rattle.ae_math.proofs.FormLaws.{factor_in-append, factor_in-scale, minus_factor, minus_one}
 use Rattle.ae_math.proofs.Wholes.{whole_plus, whole_times, whole_neg, whole_same, zero_whole}

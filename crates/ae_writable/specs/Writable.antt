@@ -1,5 +1,5 @@
 -- Proofs, states and journals that have a text wherever they are in memory.
-use Rattle.std.specs.Prelude.{true, List, ◌++◌, ◌≡◌}
+use Rattle.std.specs.Prelude.{true, ◌++◌, ◌≡◌}
 use Rattle.std.specs.List.{AllByRecursion, flat_map, list_all}
 use Rattle.std.specs.List.Sorted.{IsNonDecreasing}
 use Rattle.ae_core.specs.Sorts.{is_closed_sort}

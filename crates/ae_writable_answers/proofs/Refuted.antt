@@ -1,11 +1,11 @@
 -- The lines of a refutation can be written: its first ones, and those that it derives.
-use Rattle.std.specs.Prelude.{ℕ, true, List, [], ◌∷◌, ◌++◌, ◌≡◌}
+use Rattle.std.specs.Prelude.{ℕ, true, List, [], ◌∷◌, ◌≡◌}
 use Rattle.std.specs.List.{AllByRecursion, flat_map, list_all}
 use Rattle.std.proofs.Common.{refl, sym, subst}
 use Rattle.std.proofs.lemmas.Bool.{and_from}
 use Rattle.ae_base.specs.Relations.{Pairwise}
 use Rattle.ae_base.proofs.AllOf.{all_append, all_weaker}
-use Rattle.ae_core.specs.declared.formulas.Formula.{Formula, All}
+use Rattle.ae_core.specs.declared.formulas.Formula.{All}
 use Rattle.ae_core.specs.declared.problems.Problem.{Problem}
 use Rattle.ae_core.specs.declared.proofs.ClauseLine.{ClauseLine}
 use Rattle.ae_core.specs.declared.proofs.Proof.{Proof}

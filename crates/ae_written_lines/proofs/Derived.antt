@@ -23,7 +23,7 @@ use Rattle.ae_core.specs.declared.terms.Term.{Term, Apply}
 use Rattle.ae_rules.specs.Built.{numeral, IsBuilt, of_name, of_number, of_product, of_sum, of_symbol, of_unplain, AreFactorsWithin}
 use Rattle.ae_rules.specs.Clauses.{Clause}
 use Rattle.ae_journal.proofs.Splits.{all_contained}
-use Rattle.ae_legal_texts.specs.Numbers.{Number, count, counts, part_numbers, sum_numbers, sides_numbers, derived_numbers, ending_numbers, block_numbers, line_numbers, literal_numbers, term_numbers}
+use Rattle.ae_legal_texts.specs.Numbers.{Number, count, counts, part_numbers, sum_numbers, sides_numbers, derived_numbers, ending_numbers, line_numbers, literal_numbers, term_numbers}
 use Rattle.ae_legal_texts.specs.Writable.{no_negations_in}
 use Rattle.ae_store.specs.Stores.{Stored}
 use Rattle.ae_theory.specs.Names.{terms_in}

@@ -1,6 +1,6 @@
 -- Formulas of literals that can be written: numerals are in lowest terms, and none is a negation.
-use Rattle.std.specs.Prelude.{Bool, true, false, not, List, [], ◌∷◌, ◌++◌, ◌≡◌}
-use Rattle.std.specs.List.{AllByRecursion, Contains, flat_map}
+use Rattle.std.specs.Prelude.{Bool, true, false, not, [], ◌∷◌, ◌≡◌}
+use Rattle.std.specs.List.{AllByRecursion, flat_map}
 use Rattle.std.proofs.Common.{refl, ap}
 use Rattle.std.proofs.lemmas.Bool.{and_from, and_parts}
 use Rattle.ae_base.proofs.AllOf.{all_append}
@@ -11,7 +11,7 @@ use Rattle.ae_core.specs.declared.formulas.Quant.{Quant}
 use Rattle.ae_core.specs.declared.terms.Term.{Term}
 use Rattle.ae_rules.specs.Clauses.{Clause, literal, yes_of, no_of}
 use Rattle.ae_legal_texts.proofs.Signs.{said_direct}
-use Rattle.ae_legal_texts.specs.Numbers.{Number, literal_numbers}
+use Rattle.ae_legal_texts.specs.Numbers.{literal_numbers}
 use Rattle.ae_legal_texts.specs.Writable.{is_negation, no_negations}
 use Rattle.ae_writable.specs.Numbers.{IsValueWithin, AreValuesWithin}
 use Rattle.ae_numerals_kept.specs.Lowest.{IsLowest}

@@ -5,7 +5,6 @@ use Rattle.ae_core.specs.declared.terms.Term.{Term}
 use Rattle.ae_core.specs.declared.problems.Signature.{Signature}
 use Rattle.ae_core.specs.declared.proofs.EqLine.{EqLine}
 use Rattle.ae_core.specs.declared.proofs.Deriv.{Deriv}
-use Rattle.ae_num.specs.declared.forms.Lin.{Lin}
 use Rattle.ae_num.specs.Forms.{meaning, SameMeaning, IsNormal, first_wide, combine_steps}
 use Rattle.ae_rows.specs.Rows.{combination, IsLower, IsUpper}
 use Rattle.ae_rules.specs.Lines.{Fact, Stated, AllAllowed, fact_ok}

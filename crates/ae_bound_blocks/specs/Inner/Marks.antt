@@ -1,5 +1,5 @@
 -- Rows as lines that name the rows of which they are made, so that what is known of the used lines of a proof holds of them.
-use Rattle.std.specs.Prelude.{Bool, List, [], ◌≡◌, map}
+use Rattle.std.specs.Prelude.{Bool, List, [], map}
 use Rattle.ae_core.specs.declared.proofs.ClauseLine.{ClauseLine}
 use Rattle.ae_core.specs.declared.proofs.ClauseLine.TheVariants.{Rup}
 use Rattle.ae_bounds.specs.declared.rows.Row.{Row}

@@ -1,5 +1,5 @@
 -- Two rows and their roundings, by their places.
-use Rattle.std.specs.Prelude.{ℕ, ◌<◌, ◌≡◌, ◌⊎◌, List, Option, Some, IfSome, IfNone, slice_get}
+use Rattle.std.specs.Prelude.{ℕ, ◌<◌, ◌≡◌, ◌⊎◌, List, Some, IfSome, IfNone, slice_get}
 use Rattle.std.specs.List.{Contains}
 use Rattle.ae_num.specs.Forms.{meaning, IsNormal}
 use Rattle.ae_rows.specs.Rows.{IsLower, IsUpper}

@@ -1,5 +1,5 @@
 -- Sizes as they are counted: each number of them up to one more than the nodes that a formula may have.
-use Rattle.std.specs.Prelude.{ℕ, suc, ◌+◌, min, max, List, map}
+use Rattle.std.specs.Prelude.{ℕ, ◌+◌, min, max, List, map}
 use Rattle.ae_core.specs.declared.formulas.Formula.{Formula}
 use Rattle.ae_core.specs.declared.formulas.Quant.{Quant, fold-Quant}
 use Rattle.ae_core.specs.declared.terms.Sort.{Sort}

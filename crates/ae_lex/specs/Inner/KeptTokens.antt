@@ -1,5 +1,5 @@
 -- How tokens are kept: the values of numerals stand in a list of their own.
-use Rattle.std.specs.Prelude.{ℕ, ◌<◌, List, ◌++◌, ◌≡◌, map, length, get_or}
+use Rattle.std.specs.Prelude.{◌<◌, List, ◌++◌, ◌≡◌, map, length, get_or}
 use Rattle.std.specs.List.{AllByRecursion}
 use Rattle.ae_lex.specs.declared.kinds.Token.{Token}
 use Rattle.ae_lex.specs.declared.kinds.TokenKind.{TokenKind}

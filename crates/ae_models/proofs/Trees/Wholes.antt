@@ -11,7 +11,7 @@ use native.Mathlib.Omega.{arith}
 use std.Quotient.{cls, eq/, effective, /_elim_prop}
 use Rattle.ae_math.specs.Fractions.{ℚ, ℚ_set, Frac, frac, whole}
 use Rattle.ae_math.specs.Inner.Respected.{Same_prop, Same-IsEquivRel}
-use Rattle.ae_math.specs.Inner.Integers.{one_mul_z, mul_one_z}
+use Rattle.ae_math.specs.Inner.Integers.{mul_one_z}
 use lib.IntN.{*ℤ_comm}
 use Rattle.std.proofs.lemmas.Int.{unsigned_abs-mul}
 use Rattle.ae_math.proofs.Wholes.{whole_same}

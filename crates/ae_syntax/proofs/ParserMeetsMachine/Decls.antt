@@ -17,7 +17,7 @@ use Rattle.ae_syntax.specs.declared.decls.Decl.{Decl}
 use Rattle.ae_syntax.specs.declared.decls.TypedName.{TypedName}
 use Rattle.ae_syntax.specs.declared.types.WrittenType.{WrittenType}
 use Rattle.ae_syntax.specs.Grammar.{Items, of_types, of_vars, of_names, of_constructors, of_formals, separator}
-use Rattle.ae_syntax.specs.Inner.Machine.{Want, type_head, type_body, type_definition, type_end, logic_head, logic_sorts, after_sort, a_result, formals_end, predicate_head, record_wants, more_params, be_choice, be_symbols, sort_result, on_type, feed, finish as finish_run, run, all, a_file, decl_wants, a_type, more_type, base_type, bracketed_sorts, bracket_sorts, items_wants, more, begin, add, past, the_sign, element_wants, typed_wants, give_type, named, if_some, keep, pass, make, Rule, apply, Act, skip, take, refuse, then_wants, act, idle, wrong, deep, judge}
+use Rattle.ae_syntax.specs.Inner.Machine.{Want, type_head, type_body, type_definition, type_end, logic_head, logic_sorts, after_sort, a_result, formals_end, predicate_head, record_wants, more_params, be_choice, be_symbols, sort_result, on_type, feed, finish as finish_run, run, all, a_file, decl_wants, a_type, more_type, base_type, bracketed_sorts, bracket_sorts, items_wants, more, begin, add, past, the_sign, element_wants, typed_wants, give_type, named, if_some, keep, pass, make, Rule, apply, skip, take, refuse, then_wants, act, idle, wrong, deep, judge}
 use Rattle.ae_syntax.specs.Inner.Reading.{grip_of, grip, Done, Answered, IsAt, Stands, Lacks}
 use Rattle.ae_syntax.specs.Inner.ReadingDecls.{Leads, Halts, at_wrong, at_deep, for_memory, SortsGoOn, DeclRead, FileRead}
 use Rattle.ae_syntax.proofs.ParserMeetsMachine.Steps.{went, judge_act, went_refuse, went_skip, judge_at, went_take, went_deep, left_at, Refuses, refused, Skips, skipped, judge_make, no_keep, no_pass, relay, Reaches}

@@ -1,5 +1,5 @@
 -- What the functions that read forms, atoms and lists answer, put together.
-use Rattle.std.proofs.Common.{ℕ, suc, ◌+◌, ◌≤◌, ◌<◌, true, cond, List, [], ◌∷◌, ◌++◌, ◌≡◌, Option, Some, None, Err, length, drop, refl, sym, ap, subst, arith}
+use Rattle.std.proofs.Common.{ℕ, suc, ◌+◌, ◌≤◌, ◌<◌, true, cond, List, [], ◌∷◌, ◌++◌, ◌≡◌, Some, Err, length, drop, refl, sym, ap, subst, arith}
 use Rattle.std.proofs.lemmas.Bool.{false≢true}
 use Rattle.ae_lex.specs.declared.kinds.Token.{Token}
 use Rattle.ae_lex.specs.declared.kinds.TokenKind.{TokenKind}

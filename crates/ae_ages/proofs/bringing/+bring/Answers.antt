@@ -11,9 +11,7 @@ use Rattle.ae_goal_names.proofs.Falls.{not_falls, and_falls, or_falls, xor_falls
 use Rattle.ae_goal_names.proofs.Known.{eq_known, lt_known, le_known, pred_known}
 use Rattle.ae_goal_names.proofs.Outer.{outside_true, outside_false, outside_eq, outside_lt, outside_le, outside_pred, outside_not, outside_and, outside_or, outside_xor, outside_iff, outside_all, outside_ex}
 use Rattle.ae_goal_names.proofs.Outer.{not_ok, and_ok, or_ok, xor_ok, iff_ok}
-use Rattle.ae_ages.specs.Ages.{AreAged, quantified}
-use Rattle.ae_ages.specs.Interned.{IsInterned}
-use Rattle.ae_ages.proofs.Aging.{none_aged}
+use Rattle.ae_ages.specs.Ages.{quantified}
 use Rattle.ae_ages.proofs.Having.{brought_terms, brought_formula, brought_part, brought_parts}
 use Rattle.ae_ages.proofs.Entered.{none_interned}
 use Rattle.ae_ages.proofs.Quantified.{quantified_true, quantified_false, quantified_eq, quantified_lt, quantified_le, quantified_pred, quantified_not, quantified_and, quantified_or, quantified_xor, quantified_iff, quantified_all, quantified_ex}

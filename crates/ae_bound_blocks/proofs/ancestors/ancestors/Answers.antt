@@ -1,4 +1,4 @@
-use Rattle.std.proofs.Common.{◌≡◌, ◌+◌, ◌-◌, ◌∙◌, ◌<◌, arith, refl, sym, ap, subst, length, set, replicate, true, false}
+use Rattle.std.proofs.Common.{◌≡◌, ◌+◌, ◌-◌, ◌∙◌, arith, refl, sym, ap, subst, length, set, replicate, true, false}
 use Rattle.std.proofs.lemmas.List.{length-map}
 use Rattle.ae_trim.specs.Inner.Marks.{IsSearched}
 use Rattle.ae_trim.proofs.Marking.{searched_first, searched_next, searched_all}

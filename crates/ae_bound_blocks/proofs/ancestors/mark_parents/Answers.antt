@@ -1,4 +1,4 @@
-use Rattle.std.specs.Prelude.{ℕ, suc, zero, ◌<◌}
+use Rattle.std.specs.Prelude.{suc, zero, ◌<◌}
 use Rattle.std.specs.List.{Contains}
 use Rattle.std.proofs.Common.{arith, refl, sym, subst}
 use Rattle.ae_bounds.specs.declared.rows.Origin.{Origin}

@@ -1,11 +1,10 @@
-use Rattle.std.proofs.Common.{◌∙◌, ◌<◌, ◌≡◌, arith, false, length, sym, ap, subst}
+use Rattle.std.proofs.Common.{◌∙◌, ◌<◌, arith, false, length, sym, subst}
 use Rattle.std.specs.List.{Contains}
 use Rattle.std.proofs.lemmas.List.{get_or_read}
 use Rattle.ae_trim.specs.Inner.Marks.{AreMarked}
 use Rattle.ae_trim.proofs.Marking.{passed_marked}
 use Rattle.ae_bound_blocks.specs.Inner.Marks.{as_lines}
-use Rattle.ae_bound_blocks.specs.Ancestors.{sources}
-use Rattle.ae_bound_blocks.proofs.Marking.{hints_are_parents, parents_here}
+use Rattle.ae_bound_blocks.proofs.Marking.{parents_here}
 use Rattle.ae_bound_blocks.proofs.ancestors.pass_on.Goals as goal
 
 pub mark_sources-requires : goal.mark_sources-requires

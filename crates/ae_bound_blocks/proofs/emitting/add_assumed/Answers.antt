@@ -1,5 +1,5 @@
-use Rattle.std.specs.Prelude.{ℕ, ◌≡◌, ◌++◌, [], Some, Option, List}
-use Rattle.std.proofs.Common.{rules, refl, sym, ap, ◌∙◌, subst}
+use Rattle.std.specs.Prelude.{◌≡◌, ◌++◌, [], Some, Option, List}
+use Rattle.std.proofs.Common.{rules, sym, ap, ◌∙◌, subst}
 use Rattle.std.proofs.lemmas.Option.{get_or_from_slice_get, slice_get_within}
 use Rattle.ae_base.specs.Options.{or_else, ◌>>=◌}
 use Rattle.ae_core.specs.declared.formulas.Lit.{Lit}

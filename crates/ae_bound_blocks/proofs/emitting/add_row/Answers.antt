@@ -1,12 +1,9 @@
-use Rattle.std.specs.Prelude.{ℕ, ◌≡◌, ◌++◌, ◌∷◌, [], ◌<◌, length, Result, Ok, Err, IfOk, List}
+use Rattle.std.specs.Prelude.{ℕ, ◌≡◌, ◌++◌, ◌∷◌, [], List}
 use Rattle.std.specs.List.{flat_map}
-use Rattle.std.proofs.Common.{arith, refl, sym, ap, ◌∙◌, subst, append-nil}
+use Rattle.std.proofs.Common.{arith, sym, ap, ◌∙◌, append-nil}
 use Rattle.ae_base.proofs.Results.{if_ok_both}
-use Rattle.ae_core.specs.declared.formulas.Lit.{Lit}
-use Rattle.ae_core.specs.declared.proofs.Deriv.{Deriv}
 use Rattle.ae_store.specs.Shapes.{shapes}
 use Rattle.ae_store.specs.Terms.{terms}
-use Rattle.ae_bounds.specs.declared.rows.Origin.{Origin}
 use Rattle.ae_bound_blocks.specs.declared.emitting.Emitted.{Emitted}
 use Rattle.ae_bound_blocks.specs.Ancestors.{tag_of, hyps_of}
 use Rattle.ae_bound_blocks.specs.Inner.Emitting.{IsMore, AreEmitted}

@@ -1,4 +1,4 @@
-use Rattle.std.proofs.Common.{◌≡◌, ◌∙◌, rules, refl, sym, subst}
+use Rattle.std.proofs.Common.{rules, refl, sym, subst}
 use Rattle.ae_num.specs.Limits.{FitsLimits}
 use Rattle.ae_num.proofs.ReductionLaws.{read_back}
 use Rattle.ae_store.specs.Shapes.{shapes}

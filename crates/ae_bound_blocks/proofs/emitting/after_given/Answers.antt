@@ -1,5 +1,5 @@
 use Rattle.std.specs.Prelude.{suc}
-use Rattle.std.proofs.Common.{◌≡◌, ◌+◌, ◌∙◌, arith, rules, refl, length}
+use Rattle.std.proofs.Common.{◌≡◌, ◌+◌, arith, rules, refl, length}
 use Rattle.ae_store.specs.Shapes.{shapes}
 use Rattle.ae_store.specs.Terms.{terms}
 use Rattle.ae_bounds.specs.declared.rows.Unrounded.{Unrounded}

@@ -1,4 +1,4 @@
-use Rattle.std.specs.Prelude.{ℕ, true, false, ◌≡◌, ◌+◌, ◌<◌, ◌≤◌, length, take, List, Bool, IfOk}
+use Rattle.std.specs.Prelude.{ℕ, false, ◌+◌, length, take, List, Bool, IfOk}
 use Rattle.std.proofs.Common.{arith, sym, ap, subst, ◌∙◌}
 use Rattle.std.proofs.lemmas.List.{length-take-le}
 use Rattle.std.proofs.lemmas.Option.{slice_get_within}

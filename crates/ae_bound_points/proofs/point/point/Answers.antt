@@ -1,5 +1,3 @@
-use Rattle.std.specs.Prelude.{ℕ}
-use Rattle.std.specs.List.{AllByRecursion}
 use Rattle.std.proofs.lemmas.Result.{IfOk-weaker}
 use Rattle.std.specs.Prelude.{List}
 use Rattle.ae_rows.specs.Rows.{IsPoint}

@@ -1,6 +1,5 @@
 use Rattle.std.proofs.Common.{refl, sym, ◌∙◌}
 use Rattle.std.proofs.lemmas.Result.{on_ok_weaker}
-use Rattle.ae_num.specs.declared.forms.Part.{Part}
 use Rattle.ae_bound_points.specs.Inner.Stages.{IsLowerPart, IsPushed}
 use Rattle.ae_bound_points.specs.Inner.Stages.IsAdded.{added, left}
 use Rattle.ae_bound_points.proofs.Staging.{some_parts, not_other, none_last}

@@ -1,6 +1,5 @@
 use Rattle.std.specs.Prelude.{ℕ, suc, ◌≡◌, ◌<◌, Option, Some, None}
-use Rattle.std.proofs.Common.{arith, sym, ap, ◌∙◌, subst}
-use Rattle.ae_ineq.specs.declared.elimination.Stage.{Stage}
+use Rattle.std.proofs.Common.{arith, ap, subst}
 use Rattle.ae_ineq.specs.Inner.Sets.{name_reach}
 use Rattle.ae_bound_points.specs.Inner.Stages.{AreStaged}
 use Rattle.ae_bound_points.proofs.Staging.{reach_below, staged_none, staged_more, most_of}

@@ -1,4 +1,4 @@
-use Rattle.std.specs.Prelude.{◌≡◌, ◌&&◌, ◌||◌, true, Err}
+use Rattle.std.specs.Prelude.{◌≡◌, true, Err}
 use Rattle.std.proofs.Common.{ap, ◌∙◌, refl, inl}
 use Rattle.std.proofs.lemmas.Result.{err_from_is_err_and}
 use Rattle.ae_theory.specs.declared.theory.Fail.TheVariants.{Number}

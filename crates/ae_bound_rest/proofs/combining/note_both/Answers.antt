@@ -1,4 +1,4 @@
-use Rattle.std.specs.Prelude.{Option, IfSome, ◌≡◌, Some}
+use Rattle.std.specs.Prelude.{Option, IfSome}
 use Rattle.std.proofs.Common.{ap, ◌∙◌, subst}
 use Rattle.std.proofs.lemmas.Result.{on_ok_weaker}
 use Rattle.ae_num.specs.Forms.{meaning}

@@ -1,4 +1,3 @@
-use Rattle.std.specs.Prelude.{◌≡◌}
 use Rattle.std.proofs.Common.{sym, ◌∙◌}
 use Rattle.ae_bounds.proofs.Indexing.{seen_there, unseen_there}
 use Rattle.ae_bound_rest.specs.Rest.IsGrown.{as_it_was}

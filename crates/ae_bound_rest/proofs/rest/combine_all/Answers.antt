@@ -1,6 +1,5 @@
 use Rattle.std.specs.Prelude.{length}
-use Rattle.std.specs.List.{Contains}
-use Rattle.std.proofs.Common.{arith, refl, ◌≡◌, ◌∙◌, ◌+◌, ◌<◌, ◌≤◌}
+use Rattle.std.proofs.Common.{arith, refl, ◌∙◌}
 use Rattle.ae_num.specs.Forms.{IsNormal}
 use Rattle.ae_journal.proofs.Splits.{all_contained}
 use Rattle.ae_bounds.specs.declared.rows.Row.{Row}

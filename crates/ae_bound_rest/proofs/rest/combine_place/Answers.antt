@@ -1,5 +1,4 @@
-use Rattle.std.proofs.Common.{arith, refl, ◌≡◌, ◌∙◌, ◌<◌}
-use Rattle.std.specs.Prelude.{length}
+use Rattle.std.proofs.Common.{arith, refl, ◌∙◌}
 use Rattle.ae_bound_rest.specs.Rest.IsGrown.{as_it_was}
 use Rattle.ae_bound_rest.proofs.Counting.{grown_on}
 use Rattle.ae_bound_rest.proofs.Pairing.{longer, none_paired, paired_more, pair_more, pair_down}

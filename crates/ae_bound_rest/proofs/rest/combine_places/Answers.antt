@@ -1,6 +1,6 @@
-use Rattle.std.specs.Prelude.{ℕ, ◌≡◌, ◌<◌, Option, Some, IfNone, List, length, slice_get}
+use Rattle.std.specs.Prelude.{◌≡◌, Option, Some, IfNone, List, slice_get}
 use Rattle.std.specs.List.{Contains}
-use Rattle.std.proofs.Common.{refl, sym, subst}
+use Rattle.std.proofs.Common.{sym, subst}
 use Rattle.ae_num.specs.Forms.{IsNormal}
 use Rattle.ae_journal.proofs.Splits.{all_contained, contains_at}
 use Rattle.ae_bounds.specs.declared.rows.Row.{Row}

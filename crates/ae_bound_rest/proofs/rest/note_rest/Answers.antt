@@ -1,5 +1,4 @@
-use Rattle.std.specs.Prelude.{List, map, length, ◌≡◌}
-use Rattle.std.specs.List.{Contains}
+use Rattle.std.specs.Prelude.{List, length}
 use Rattle.std.proofs.Common.{subst}
 use Rattle.std.proofs.lemmas.Result.{on_ok_weaker}
 use Rattle.ae_journal.proofs.Splits.{all_contained}

@@ -1,4 +1,4 @@
-use Rattle.std.specs.Prelude.{ℕ, suc, ◌≡◌, ◌+◌, map, take, List}
+use Rattle.std.specs.Prelude.{ℕ, suc, ◌≡◌, ◌+◌, map, take}
 use Rattle.std.proofs.Common.{arith, sym, ap, subst, ◌∙◌}
 use Rattle.std.proofs.lemmas.List.{take_all}
 use Rattle.ae_bounds.specs.declared.rows.Row.{Row}

@@ -1,4 +1,4 @@
-use Rattle.std.specs.Prelude.{◌≡◌, map, take, length}
+use Rattle.std.specs.Prelude.{◌≡◌, map, take}
 use Rattle.ae_bound_rest.specs.Rest.{counted}
 use Rattle.ae_bound_rest.specs.Inner.Pairs.{AreCounted}
 use Rattle.ae_bound_rest.proofs.starting.start.Given as goal

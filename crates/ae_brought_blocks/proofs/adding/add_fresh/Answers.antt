@@ -1,4 +1,4 @@
-use Rattle.std.proofs.Common.{◌≡◌, ◌++◌, ◌∷◌, [], sym, ap, subst, ◌∙◌}
+use Rattle.std.proofs.Common.{◌++◌, ◌∷◌, [], sym, ap, subst, ◌∙◌}
 use Rattle.ae_brought_blocks.proofs.adding.add_fresh.Goals as goal
 use Rattle.ae_opening.specs.declared.opening.FreshLine.{FreshLine}
 use Rattle.ae_searching.specs.Steps.{MayCome}

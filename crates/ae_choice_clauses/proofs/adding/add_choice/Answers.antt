@@ -1,7 +1,6 @@
 use Rattle.std.proofs.Common.{◌≡◌, slice_get, Some, None, sym, ap, subst, ◌∙◌, inl}
 use Rattle.std.proofs.lemmas.Option.{same_Some}
 use Rattle.std.proofs.lemmas.Result.{on_ok_weaker}
-use Rattle.ae_core.specs.declared.terms.Head.{Head}
 use Rattle.ae_core.specs.declared.terms.Term.{Term}
 use Rattle.ae_theory.specs.Names.{terms_in}
 use Rattle.ae_choice_clauses.specs.Inner.Added.{choices_at, NamesChoices, IsKept, left_out}

@@ -1,7 +1,7 @@
 use Rattle.std.proofs.Common.{◌≡◌, ◌∙◌, ap₂, codes, rules}
 use Rattle.std.proofs.lemmas.Result.{IfOk-weaker}
 use Rattle.clap.specs.Words.{app_of, new_app, with_rule}
-use Rattle.ae_cli.specs.Program.{flag, named, nameless, numbered}
+use Rattle.ae_cli.specs.Program.{flag, named, nameless}
 use Rattle.ae_cli.proofs.command.command.Goals as goal
 
 pub returns : goal.returns

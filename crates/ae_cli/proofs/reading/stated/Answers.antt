@@ -1,8 +1,6 @@
-use Rattle.std.proofs.Common.{◌≡◌, ◌∙◌, ap, sym, codes, rules, ℕ, Option, None, Some}
+use Rattle.std.proofs.Common.{◌≡◌, ◌∙◌, ap, sym, codes, rules, None, Some}
 use Rattle.clap.proofs.WalkLemmas.{first_value-rows}
 use Rattle.clap.specs.Words.{first_of, first_value, found_of, one_of, rows_of}
-use Rattle.ae_cli.specs.declared.options.Mode.{Mode}
-use Rattle.ae_cli.specs.declared.options.Options.{Options}
 use Rattle.ae_cli.specs.Program.{is_yes, mode_of, number_or, pick_or_first}
 use Rattle.ae_cli.proofs.Clap.{all_said, no_mode, no_which}
 use Rattle.ae_cli.proofs.reading.stated.Goals as goal

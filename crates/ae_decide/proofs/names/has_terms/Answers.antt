@@ -1,4 +1,4 @@
-use Rattle.std.proofs.Common.{rules, ◌≡◌, false, true, sym, ap, ◌∙◌}
+use Rattle.std.proofs.Common.{rules, ◌≡◌, false, sym, ap, ◌∙◌}
 use Rattle.ae_base.proofs.Tests.{false_true}
 use Rattle.ae_decide.specs.Names.{are_apart}
 use Rattle.ae_decide.proofs.NameTests.{terms_apart}

@@ -48,7 +48,8 @@ returns-in-Ok-clause-complete g c =
     let input = c.in-Ok.input.items in
     let a = g.K.Sink.written c.args.sink.now in
     let e = g.K.Sink.written c.check_input.new.sink in
-    λ offered _ calm. complete_checking_is left input a e c.check_input.result _ offered c.in-Ok.ensures.whole (subst (λ t. InputEnds t a e c.check_input.result) c.as_slice.ensures.value c.check_input.ensures.ends) c.check_input.ensures.write_fault calm
+    λ offered _ calm. complete_checking_is left input a e c.check_input.result _ offered c.in-Ok.ensures.whole
+    (subst (λ t. InputEnds t a e c.check_input.result) c.as_slice.ensures.value c.check_input.ensures.ends) c.check_input.ensures.write_fault calm
 
 pub returns-in-Err-TooLong-clause-complete : goal.returns-in-Err-TooLong-clause-complete
 returns-in-Err-TooLong-clause-complete g c =

@@ -29,7 +29,8 @@ returns-in-Ok-clause-complete g c =
     let text = c.in-Ok.text.items in
     let a = g.K.Sink.written c.args.sink.now in
     let e = g.K.Sink.written c.answer.new.sink in
-    λ offered _ calm. complete_is c.args.asked.limits left text a e c.answer.result _ offered c.in-Ok.ensures.whole (subst (λ t. TextEnds c.args.asked.limits t a e c.answer.result) c.as_slice.ensures.value c.answer.ensures.ends) c.answer.ensures.write_fault calm
+    λ offered _ calm. complete_is c.args.asked.limits left text a e c.answer.result _ offered c.in-Ok.ensures.whole
+    (subst (λ t. TextEnds c.args.asked.limits t a e c.answer.result) c.as_slice.ensures.value c.answer.ensures.ends) c.answer.ensures.write_fault calm
 
 pub returns-in-Err-TooLong-clause-complete : goal.returns-in-Err-TooLong-clause-complete
 returns-in-Err-TooLong-clause-complete g c =

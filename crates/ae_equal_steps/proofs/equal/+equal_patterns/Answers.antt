@@ -11,7 +11,7 @@ use Rattle.ae_just.specs.declared.steps.Side.TheVariants as side
 use Rattle.ae_value_table.specs.declared.patterns.Pattern.{Pattern, size-Pattern}
 use Rattle.ae_equal_steps.specs.Inner.Parts.{name_of, parts_of}
 use Rattle.ae_equal_steps.specs.Inner.Pairs.{AreSameNumbers, AreSameLeaves, IsPair, ArePairs, IsEqualBy, AreEqualBy}
-use Rattle.ae_equal_steps.proofs.Adding.{equal_added, rests_on, front_added, rests_sooner, held_kept, states_for}
+use Rattle.ae_equal_steps.proofs.Adding.{equal_added, rests_on, rests_sooner, held_kept, states_for}
 use Rattle.ae_equal_steps.proofs.FieldSteps.{pairs_length, pair_at, equal_push, equal_longer, equal_rests, fields_step}
 use Rattle.ae_equal_steps.proofs.PairLaws.{numbers_pair, leaves_pair, records_pair}
 use Rattle.ae_equal_steps.proofs.PatternLaws.{name-Number, name-Leaf, name-Fields, fields_fall, part_falls}

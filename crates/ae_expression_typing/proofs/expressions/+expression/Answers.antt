@@ -1,7 +1,7 @@
 use Rattle.std.proofs.Common.{arith, suc, slice_get, ◌≡◌, ◌∙◌, ℕ, ◌+◌, ◌*◌, ◌<◌, List, [], ◌∷◌, ◌++◌, length, map, max, reverse, get_or, Some, Ok, Err, refl, sym, ap, subst}
 use Rattle.std.specs.List.{AllByRecursion}
 use Rattle.std.proofs.lemmas.List.{length-map, nil_from_length}
-use denote.Param.Weighed.{most, at_most}
+use denote.Param.Weighed.{most}
 use Rattle.ae_base.proofs.AllOf.{all_at, all_front, all_back}
 use Rattle.ae_syntax.specs.declared.types.WrittenType.{WrittenType}
 use Rattle.std.proofs.lemmas.Result.{err_from_is_err_and}
@@ -16,10 +16,10 @@ use Rattle.ae_elab.specs.Formulas.{local_of, triggers_rule, distinct_rule, equat
 use Rattle.ae_expressions.specs.NamedParts.{AreNamed, AreSetNamed, AreTriggerNamed, AreGroupNamed}
 use Rattle.ae_elab.specs.Names.{IsName, joined, names_in, names_in_type, names_in_set, names_in_group, names_in_trigger}
 use Rattle.ae_elab.specs.Nodes.{Entry, IsTree, IsClaim, AreTrees, tree_at, trees_at, relation_of, join_of}
-use Rattle.ae_elab.specs.Rules.{Rule, Part, Typed, typed, give, refuse, no_term, unknowns, all_wanted, as_term, as_formula}
+use Rattle.ae_elab.specs.Rules.{typed, refuse, no_term, unknowns, all_wanted}
 use Rattle.std.specs.Prelude.{None}
 use Rattle.ae_elab.specs.Typings.{scope_at, TermAnswer, ClaimAnswer, Walks, Stops, TypesTerm, TypesTrees, TypesClaim, around_in, bound_in, nodes_of, locals_of}
-use Rattle.ae_elab.specs.Terms.{operands, numeral_rule, negative_rule, ascribed_rule, application_rule, function_rule, field_rule, field_sort, arity_at, values_rule, record_rule, update_rule}
+use Rattle.ae_elab.specs.Terms.{operands, numeral_rule, ascribed_rule, application_rule, function_rule, field_sort, arity_at, values_rule, record_rule, update_rule}
 use Rattle.ae_elab.proofs.NodeLaws.{later_tree, tree_is, claim_is, trees_are}
 use Rattle.ae_expressions.proofs.ExprParts.{all_parts, all_joined, most_at, named_setting, named_trigger, value_smaller, terms_smaller, named_quantified, named_record, named_update, smaller_quantified, smaller_record, smaller_update, named_binary, named_not, named_negative, named_let, named_if, named_field, named_apply, named_bracketed, named_ascribed, named_distinct, smaller_binary, smaller_not, smaller_negative, smaller_let, smaller_if, smaller_field, smaller_apply, smaller_bracketed, smaller_ascribed, smaller_distinct}
 use Rattle.ae_expressions.proofs.PartForms.{place_is, term_by, formula_by, term_by_shape, formula_by_shape}
@@ -37,10 +37,10 @@ use Rattle.ae_syntax.specs.declared.exprs.Trigger.{Trigger, out-Trigger, size-Tr
 use Rattle.ae_elab.specs.declared.shapes.Shape.TheVariants as shape
 use Rattle.ae_elab.specs.declared.typings.Typing.{Typing}
 use Rattle.ae_elab.specs.Environments.{class_in, meaning_in, locals}
-use Rattle.ae_elab.specs.Scope.{Class, formula, a_term, a_formula, meaning_of, name_in, scope_with, bound as bound_named}
+use Rattle.ae_elab.specs.Scope.{formula, a_term, a_formula, meaning_of, name_in, scope_with, bound as bound_named}
 use Rattle.ae_elab.specs.Steps.{AreHeld, AreFailed, IsMet, IsNotMet, IsTaken}
 use Rattle.ae_elab.specs.Trees.{Tree, Trees, constant, truth, falsity}
-use Rattle.ae_elab.proofs.PartRules.{setting, trigger}
+use Rattle.ae_elab.proofs.PartRules.{trigger}
 use Rattle.ae_expressions.specs.FieldParts.{new_field}
 use Rattle.ae_expressions.specs.Inner.Bindings.{Enters}
 use Rattle.ae_expressions.specs.Named.{IsNamed}
@@ -52,7 +52,7 @@ use Rattle.ae_expression_typing.proofs.ValueLaws.{Gets, gets_start, gets_missing
 use Rattle.ae_core.specs.Putting.{put_sort}
 use Rattle.ae_core.specs.declared.problems.SymbolEntry.{SymbolEntry}
 use Rattle.ae_core.specs.declared.terms.Head.TheVariants as head
-use Rattle.ae_core.specs.declared.terms.Sort.{Sort, Named, Unit as UnitSort}
+use Rattle.ae_core.specs.declared.terms.Sort.{Sort, Named}
 use Rattle.ae_types.specs.Bound.{bound}
 use Rattle.ae_syntax.specs.declared.exprs.Group.{Group}
 use Rattle.ae_syntax.specs.declared.exprs.Number.{Number}

@@ -1,5 +1,5 @@
 use Rattle.std.proofs.Common.{subst}
-use Rattle.ae_goal_parts.specs.Inner.Shown.{IsOpen, MayBeShown}
+use Rattle.ae_goal_parts.specs.Inner.Shown.{MayBeShown}
 use Rattle.ae_goal_parts.proofs.items.answer_part.Goals as goal
 
 pub valid_part-requires-clause-derives : goal.valid_part-requires-clause-derives

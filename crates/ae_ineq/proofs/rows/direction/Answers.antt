@@ -1,8 +1,6 @@
-use Rattle.std.proofs.Common.{refl, sym, subst}
-use Rattle.std.specs.List.{AllByRecursion}
+use Rattle.std.proofs.Common.{refl}
 use Rattle.ae_base.proofs.Integers.{size_positive}
 use Rattle.ae_base.proofs.Results.{if_ok_both}
-use Rattle.ae_num.specs.declared.forms.Part.{Part}
 use Rattle.ae_num.specs.declared.forms.Lin.{Lin}
 use Rattle.ae_num.specs.Forms.{IsNormal, meaning, Reduced}
 use Rattle.ae_ineq.specs.Inner.Primitive.{IsPrimitive}

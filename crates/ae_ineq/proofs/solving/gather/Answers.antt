@@ -1,5 +1,4 @@
 use Rattle.std.proofs.Common.{ℕ, ◌≡◌, ◌+◌, suc, take, arith, sym, ◌∙◌, subst}
-use Rattle.std.specs.Prelude.{List}
 use Rattle.ae_num.specs.Forms.{IsNormal}
 use Rattle.ae_ineq.specs.declared.solving.Inequality.{Inequality}
 use Rattle.ae_ineq.specs.Inner.Derived.{AreRowsOf}

@@ -1,9 +1,8 @@
 use Rattle.std.proofs.Common.{◌≡◌, sym, ap, ◌∙◌, subst}
-use Rattle.std.specs.Prelude.{ℕ, true, List}
+use Rattle.std.specs.Prelude.{ℕ, true}
 use Rattle.ae_math.specs.Fractions.{ℚ, one_ℚ, is_positive}
 use Rattle.ae_math.specs.Forms.{value}
 use Rattle.ae_rows.proofs.Elimination.{elimination}
-use Rattle.ae_ineq.specs.declared.elimination.Verdict.{Verdict}
 use Rattle.ae_ineq.specs.declared.elimination.Verdict.TheVariants.{Open}
 use Rattle.ae_ineq.specs.Inner.Sets.{HasAny}
 use Rattle.ae_ineq.specs.Inner.Points.{value_in}

@@ -35,7 +35,8 @@ returns-in-Ok-clause-added c =
 
 pub returns-in-Ok-clause-of_tags : goal.returns-in-Ok-clause-of_tags
 returns-in-Ok-clause-of_tags c = λ assumed all one.
-    tags_added assumed c.args.given.now c.push_source.new.given c.args.tags.now c.push_source.new.tags (given_by c.args.row) c.args.row.from.tags (given_back c.args.row _ c.args.given.now c.push_source.new.given (to_z-of_z w128 c.args.row.multiple (search rules)) c.in_ok-push_source.ensures.given) c.in_ok-push_source.ensures.tags
+    tags_added assumed c.args.given.now c.push_source.new.given c.args.tags.now c.push_source.new.tags (given_by c.args.row) c.args.row.from.tags
+    (given_back c.args.row _ c.args.given.now c.push_source.new.given (to_z-of_z w128 c.args.row.multiple (search rules)) c.in_ok-push_source.ensures.given) c.in_ok-push_source.ensures.tags
     c.requires.same all one
 
 pub returns-in-Ok-clause-fits : goal.returns-in-Ok-clause-fits
@@ -47,7 +48,8 @@ returns-in-Ok-clause-fits c =
 
 pub returns-in-Ok-clause-same : goal.returns-in-Ok-clause-same
 returns-in-Ok-clause-same c =
-    same_length c.args.given.now c.push_source.new.given c.args.tags.now c.push_source.new.tags (given_by c.args.row) c.args.row.from.tags (given_back c.args.row _ c.args.given.now c.push_source.new.given (to_z-of_z w128 c.args.row.multiple (search rules)) c.in_ok-push_source.ensures.given) c.in_ok-push_source.ensures.tags c.requires.same
+    same_length c.args.given.now c.push_source.new.given c.args.tags.now c.push_source.new.tags (given_by c.args.row) c.args.row.from.tags
+    (given_back c.args.row _ c.args.given.now c.push_source.new.given (to_z-of_z w128 c.args.row.multiple (search rules)) c.in_ok-push_source.ensures.given) c.in_ok-push_source.ensures.tags c.requires.same
 
 pub returns-in-Err-clause-kept : goal.returns-in-Err-clause-kept
 returns-in-Err-clause-kept c = (
@@ -59,12 +61,14 @@ returns-in-Err-clause-kept c = (
 pub returns-in-Err-clause-of_tags : goal.returns-in-Err-clause-of_tags
 returns-in-Err-clause-of_tags c = λ assumed all one.
     state_same (AreOfTags assumed) c.args.rows.now c.assume.new.self c.args.given.now c.take_given.new.given c.args.tags.now c.take_tags.new.tags c.in-Err.ensures.kept
-    (c.take_given.ensures c.args.given.now (given_by c.args.row) (given_back c.args.row _ c.args.given.now c.push_source.new.given (to_z-of_z w128 c.args.row.multiple (search rules)) c.in_ok-push_source.ensures.given)) (c.take_tags.ensures c.args.tags.now c.args.row.from.tags c.in_ok-push_source.ensures.tags) all
+    (c.take_given.ensures c.args.given.now (given_by c.args.row) (given_back c.args.row _ c.args.given.now c.push_source.new.given (to_z-of_z w128 c.args.row.multiple (search rules)) c.in_ok-push_source.ensures.given))
+    (c.take_tags.ensures c.args.tags.now c.args.row.from.tags c.in_ok-push_source.ensures.tags) all
 
 pub returns-in-Err-clause-fits : goal.returns-in-Err-clause-fits
 returns-in-Err-clause-fits c =
     state_same (Fits c.args.store.now) c.args.rows.now c.assume.new.self c.args.given.now c.take_given.new.given c.args.tags.now c.take_tags.new.tags c.in-Err.ensures.kept
-    (c.take_given.ensures c.args.given.now (given_by c.args.row) (given_back c.args.row _ c.args.given.now c.push_source.new.given (to_z-of_z w128 c.args.row.multiple (search rules)) c.in_ok-push_source.ensures.given)) (c.take_tags.ensures c.args.tags.now c.args.row.from.tags c.in_ok-push_source.ensures.tags) c.requires.fits
+    (c.take_given.ensures c.args.given.now (given_by c.args.row) (given_back c.args.row _ c.args.given.now c.push_source.new.given (to_z-of_z w128 c.args.row.multiple (search rules)) c.in_ok-push_source.ensures.given))
+    (c.take_tags.ensures c.args.tags.now c.args.row.from.tags c.in_ok-push_source.ensures.tags) c.requires.fits
 
 pub returns-in-Err-clause-same : goal.returns-in-Err-clause-same
 returns-in-Err-clause-same c =

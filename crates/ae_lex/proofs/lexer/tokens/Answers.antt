@@ -1,4 +1,4 @@
-use Rattle.std.proofs.Common.{◌≡◌, [], ◌∷◌, ◌++◌, ap, ◌∙◌}
+use Rattle.std.proofs.Common.{[], ◌∷◌, ◌++◌, ap, ◌∙◌}
 use Rattle.ae_lex.proofs.Cuts.{gap_step, token_step, fault_found, end_found}
 use Rattle.ae_lex.proofs.lexer.tokens.Goals as goal
 

@@ -1,4 +1,4 @@
-use Rattle.std.specs.Prelude.{◌≡◌, Bool, true, false}
+use Rattle.std.specs.Prelude.{true, false}
 use Rattle.std.proofs.Common.{ap, ◌∙◌, sym}
 use Rattle.ae_core.specs.Sorts.{sort_of, same_numeric}
 use Rattle.ae_rules.specs.Lines.{Fact, states}

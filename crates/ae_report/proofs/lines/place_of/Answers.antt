@@ -1,4 +1,4 @@
-use Rattle.std.proofs.Common.{rules, ◌<◌, length, take, get_or}
+use Rattle.std.proofs.Common.{rules, take}
 use Rattle.ae_report.proofs.Places.{nothing_before, line_ended_at, line_goes_on_at, place_bounds_at}
 use Rattle.ae_report.proofs.lines.place_of.Goals as goal
 use Rattle.ae_report.proofs.lines.place_of.Goals.{then-ends_line, else-ends_line}

@@ -1,5 +1,4 @@
-use Rattle.std.proofs.Common.{◌≡◌, true, false, take, drop, map, length}
-use Rattle.std.specs.List.{list_all, list_any}
+use Rattle.std.proofs.Common.{◌≡◌, drop, length}
 use Rattle.ae_saturated.specs.Literals.{all_same}
 use Rattle.ae_saturated.proofs.literals.all_same.Given as goal
 

@@ -1,5 +1,4 @@
-use Rattle.std.proofs.Common.{◌≡◌, true, false, take, drop, map}
-use Rattle.std.specs.List.{list_all, list_any}
+use Rattle.std.proofs.Common.{◌≡◌, false, take}
 use Rattle.ae_decide.specs.Names.{stands_in}
 use Rattle.ae_saturated.proofs.literals.is_name.Given as goal
 

@@ -1,5 +1,5 @@
-use Rattle.std.proofs.Common.{◌≡◌, true, false, take, drop, map}
-use Rattle.std.specs.List.{list_all, list_any}
+use Rattle.std.proofs.Common.{◌≡◌, true, take}
+use Rattle.std.specs.List.{list_all}
 use Rattle.ae_saturated.specs.Literals.{literal_fits}
 use Rattle.ae_saturated.proofs.literals.literals_fit.Given as goal
 

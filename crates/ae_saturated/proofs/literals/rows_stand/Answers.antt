@@ -1,4 +1,4 @@
-use Rattle.std.proofs.Common.{rules, arith, ℕ, suc, ◌+◌, ◌≡◌, true, sym, ap, ◌∙◌}
+use Rattle.std.proofs.Common.{rules, arith, suc, ◌+◌, ◌≡◌, true, sym, ap, ◌∙◌}
 use Rattle.std.proofs.lemmas.Bool.{and_from}
 use Rattle.ae_rules.specs.Clauses.{row}
 use Rattle.ae_saturated.specs.Literals.{some_stands, rows_stand}

@@ -1,5 +1,4 @@
-use Rattle.std.proofs.Common.{◌≡◌, true, false, take, drop, map}
-use Rattle.std.specs.List.{list_all, list_any}
+use Rattle.std.proofs.Common.{◌≡◌, true}
 use Rattle.ae_saturated.specs.Literals.{rows_stand}
 use Rattle.ae_saturated.proofs.literals.rows_stand.Given as goal
 

@@ -1,5 +1,5 @@
-use Rattle.std.proofs.Common.{◌≡◌, true, false, take, drop, map}
-use Rattle.std.specs.List.{list_all, list_any}
+use Rattle.std.proofs.Common.{◌≡◌, false, take}
+use Rattle.std.specs.List.{list_any}
 use Rattle.ae_saturated.specs.Literals.{denies}
 use Rattle.ae_saturated.proofs.literals.some_denies.Given as goal
 

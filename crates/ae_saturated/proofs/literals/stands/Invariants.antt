@@ -1,5 +1,4 @@
-use Rattle.std.proofs.Common.{◌≡◌, true, false, take, drop, map}
-use Rattle.std.specs.List.{list_all, list_any}
+use Rattle.std.proofs.Common.{◌≡◌, false, take}
 use Rattle.ae_rules.specs.Clauses.{stands}
 use Rattle.ae_saturated.proofs.literals.stands.Given as goal
 

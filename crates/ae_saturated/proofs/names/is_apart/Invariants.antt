@@ -1,5 +1,5 @@
-use Rattle.std.proofs.Common.{◌≡◌, true, false, take, drop, map}
-use Rattle.std.specs.List.{list_all, list_any}
+use Rattle.std.proofs.Common.{◌≡◌, true, take}
+use Rattle.std.specs.List.{list_all}
 use Rattle.ae_saturated.specs.Names.{are_apart}
 use Rattle.ae_saturated.proofs.names.is_apart.Given as goal
 

@@ -1,5 +1,5 @@
-use Rattle.std.proofs.Common.{◌≡◌, true, false, take, drop, map}
-use Rattle.std.specs.List.{list_all, list_any}
+use Rattle.std.proofs.Common.{◌≡◌, false, take}
+use Rattle.std.specs.List.{list_any}
 use Rattle.std.specs.Prelude.{[]}
 use Rattle.ae_core.specs.declared.terms.Term.{Apply}
 use Rattle.ae_decide.specs.Values.{are_alike}

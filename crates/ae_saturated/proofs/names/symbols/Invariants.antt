@@ -1,5 +1,4 @@
-use Rattle.std.proofs.Common.{◌≡◌, true, false, take, drop, map}
-use Rattle.std.specs.List.{list_all, list_any}
+use Rattle.std.proofs.Common.{◌≡◌, take, map}
 use Rattle.ae_core.specs.declared.terms.Head.TheVariants.{Symbol}
 use Rattle.ae_saturated.proofs.names.symbols.Given as goal
 

@@ -1,4 +1,4 @@
-use Rattle.std.proofs.Common.{◌≡◌, ◌∙◌, ap, drop, ◌+◌, pos}
+use Rattle.std.proofs.Common.{◌∙◌, ap, drop, ◌+◌, pos}
 use Rattle.ae_math.specs.Fractions.{◌+ℚ◌}
 use Rattle.ae_math.specs.Forms.{sum_of}
 use Rattle.ae_math.proofs.FractionLaws.{zero_add_q}

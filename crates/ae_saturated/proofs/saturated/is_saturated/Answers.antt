@@ -1,9 +1,7 @@
 use Rattle.std.proofs.Common.{rules, ◌≡◌, true, false, sym, ◌∙◌, length}
 use Rattle.std.specs.List.{list_all}
-use Rattle.ae_journal.specs.Systems.{IsCompleted}
 use Rattle.ae_saturated.specs.Firsts.{none_generic}
 use Rattle.ae_saturated.specs.Literals.{is_closed}
-use Rattle.ae_saturated.specs.State.{state_fits}
 use Rattle.ae_base.proofs.Tests.{false_true}
 use Rattle.ae_saturated.proofs.FirstTests.{open_literal, open_axiom}
 use Rattle.ae_saturated.proofs.StateTests.{told_yes, told_no, not_completed}

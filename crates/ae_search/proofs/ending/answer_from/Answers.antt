@@ -82,7 +82,8 @@ returns-in-Ok-Some g c =
 pub returns-in-Err-Steps : goal.returns-in-Err-Steps
 returns-in-Err-Steps g c =
     let js = c.search-end.new.journal.lines in
-    let right = steps_right c.args.problem.now c.args.goal c.args.first.lines.items c.args.first.clauses c.args.store.now c.requires.started c.args.limits.now js c.search-end.new.lines.items c.search-end.ensures.left c.in_ok-told-in-Err-Steps.told c.in_ok-told-in-Err-Steps.ensures
+    let right = steps_right c.args.problem.now c.args.goal c.args.first.lines.items c.args.first.clauses c.args.store.now c.requires.started c.args.limits.now
+    js c.search-end.new.lines.items c.search-end.ensures.left c.in_ok-told-in-Err-Steps.told c.in_ok-told-in-Err-Steps.ensures
     (c.search-end.ensures.steps (c.in-Err-Steps.is ∙ ap Err c.in-Err-Steps.field-0-is) ∙ ap (λ (j : Noted). j.limit) c.in_ok-journal.ensures)
     (of_terms c.args.problem.now c.args.goal c.args.first.lines.items c.args.first.clauses c.args.store.now c.requires.started c.in_ok-theory.theory (c.in_ok-theory.ensures.budget c.args.store.now) (λ n. counted_in js < n)
     (λ n cj may. c.search-end.ensures.fewer (c.in-Err-Steps.is ∙ ap Err c.in-Err-Steps.field-0-is) n (subst AreConjunctive (sym c.as_slice.ensures) cj) may)) in
@@ -94,7 +95,8 @@ returns-in-Err-Steps g c =
 pub returns-in-Err-Number : goal.returns-in-Err-Number
 returns-in-Err-Number g c =
     let js = c.search-end.new.journal.lines in
-    let right = number_right c.args.problem.now c.args.goal c.args.first.lines.items c.args.first.clauses c.args.store.now c.requires.started c.args.limits.now js c.search-end.new.lines.items c.search-end.ensures.left c.in_ok-told-in-Err-Number.told c.in_ok-told-in-Err-Number.ensures c.in-Err-Number.at
+    let right = number_right c.args.problem.now c.args.goal c.args.first.lines.items c.args.first.clauses c.args.store.now c.requires.started c.args.limits.now
+    js c.search-end.new.lines.items c.search-end.ensures.left c.in_ok-told-in-Err-Number.told c.in_ok-told-in-Err-Number.ensures c.in-Err-Number.at
     (omega (arith, c.counted-counted.ensures.within, c.counted-counted.ensures.count, c.search-end.ensures.limit, ap (λ (j : Noted). j.limit) c.in_ok-journal.ensures))
     (of_terms c.args.problem.now c.args.goal c.args.first.lines.items c.args.first.clauses c.args.store.now c.requires.started c.in_ok-theory.theory (c.in_ok-theory.ensures.budget c.args.store.now) (λ n. counted_in js ≤ n)
     (λ n cj may. c.search-end.ensures.few n (subst AreConjunctive (sym c.as_slice.ensures) cj) may))

@@ -1,9 +1,8 @@
-use Rattle.std.specs.Prelude.{ℕ, ◌≡◌, ◌<◌, List, length, get_or}
+use Rattle.std.specs.Prelude.{ℕ, ◌≡◌, List, length, get_or}
 use Rattle.std.proofs.Common.{sym, ap, ◌∙◌, subst, arith}
 use Rattle.std.proofs.lemmas.Option.{slice_get-get_or}
 use Rattle.ae_store.specs.Shapes.{shapes}
 use Rattle.ae_store.specs.Terms.{terms}
-use Rattle.ae_just.specs.declared.steps.Step.{Step}
 use Rattle.ae_just.specs.Inner.Pending.{RestOnEarlier}
 use Rattle.ae_just.proofs.EmitLaws.{rest_on_earlier}
 use Rattle.ae_short_derivations.specs.Inner.Keeping.{place_of, IsKeepable, AreKept}

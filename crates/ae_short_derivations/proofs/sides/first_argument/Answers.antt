@@ -1,4 +1,3 @@
-use Rattle.std.specs.Prelude.{◌≡◌, ◌<◌, length, get_or}
 use Rattle.std.proofs.Common.{ap, ◌∙◌, arith}
 use Rattle.ae_store.specs.declared.nodes.NodeHead.TheVariants.{Of}
 use Rattle.ae_store.specs.Shapes.{shapes}

@@ -46,7 +46,8 @@ solve_rows-requires-clause-marks v c =
     let o = c.args.search.now in
     let b = c.requires.between in
     ap length c.as_slice-2.ensures ∙ marks_long k.problem.now k.goal k.generations o b c.requires.is_open _
-    (λ x told. c.in_ok-marks.ensures k.generations (last_level o.solver.propagation.trail) o.store o.blocks.opened o.lines.items c.requires.between.searching c.requires.is_open.all_true x told) ∙ sym (ap length (c.as_slice.ensures.value ∙ c.trail.ensures))
+    (λ x told. c.in_ok-marks.ensures k.generations (last_level o.solver.propagation.trail) o.store o.blocks.opened o.lines.items c.requires.between.searching c.requires.is_open.all_true x told)
+    ∙ sym (ap length (c.as_slice.ensures.value ∙ c.trail.ensures))
 
 pub solve_rows-requires-clause-kept : goal.solve_rows-requires-clause-kept
 solve_rows-requires-clause-kept v c =

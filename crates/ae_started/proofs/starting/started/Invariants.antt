@@ -1,4 +1,4 @@
-use Rattle.std.proofs.Common.{◌≡◌, [], List, take, length}
+use Rattle.std.proofs.Common.{◌≡◌, [], List, take}
 use Rattle.ae_journal.specs.Journals.{live, decisions}
 use Rattle.ae_journal.specs.declared.lines.Line.{Line}
 use Rattle.ae_sat.specs.Search.{AllNamed, IsAlive}

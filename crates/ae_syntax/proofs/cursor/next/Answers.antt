@@ -1,4 +1,4 @@
-use Rattle.std.proofs.Common.{◌<◌, ◌≡◌, ◌^◌, length, arith}
+use Rattle.std.proofs.Common.{◌<◌, ◌^◌, length, arith}
 use Rattle.ae_syntax.proofs.TokenAt.{found_at, some_there}
 use Rattle.ae_syntax.proofs.cursor.next.Goals as goal
 

@@ -1,4 +1,4 @@
-use Rattle.std.proofs.Common.{◌≡◌, ◌≤◌, ◌-◌, length, drop}
+use Rattle.std.proofs.Common.{◌≡◌, ◌-◌, length, drop}
 use Rattle.ae_codes.specs.Codes.{wide_after}
 use Rattle.ae_termreader.proofs.numerals.wide_after.Given as goal
 

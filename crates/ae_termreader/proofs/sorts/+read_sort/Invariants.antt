@@ -1,6 +1,6 @@
 use Rattle.std.proofs.Common.{◌≡◌, ◌≤◌, ◌+◌, ◌*◌, ◌-◌, length, drop}
 use Rattle.ae_readers.specs.Readers.{row_read, before}
-use Rattle.ae_termreader.specs.Sorts.{sort_rows, side}
+use Rattle.ae_termreader.specs.Sorts.{sort_rows}
 use Rattle.ae_termreader.proofs.sorts.+read_sort.Given as goal
 
 abbrev pub decreases-read_sort : goal.decreases-read_sort

@@ -1,5 +1,4 @@
-use Rattle.std.specs.Prelude.{◌≡◌, Bool, List, Option, Some, slice_get}
-use Rattle.std.specs.List.{Contains}
+use Rattle.std.specs.Prelude.{List, slice_get}
 use Rattle.std.proofs.Common.{sym, ap, ◌∙◌}
 use Rattle.std.proofs.lemmas.Result.{IfOk-weaker}
 use Rattle.ae_core.specs.declared.formulas.Lit.{Lit}

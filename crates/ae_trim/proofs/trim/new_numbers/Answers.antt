@@ -1,4 +1,4 @@
-use Rattle.std.proofs.Common.{◌≡◌, ◌<◌, arith, subst, length, get_or}
+use Rattle.std.proofs.Common.{◌≡◌, arith, subst, length, get_or}
 use Rattle.std.proofs.lemmas.List.Elements.{Contains-get_or}
 use Rattle.std.proofs.lemmas.Option.{slice_get-get_or}
 use Rattle.ae_trim.proofs.Keeping.{AreNumberedTo, numbered_next, numbered_all}

@@ -1,6 +1,5 @@
 use Rattle.std.proofs.Common.{◌∙◌, sym, subst}
 use Rattle.ae_trim.specs.Used.{HintEarlier, AreUsed}
-use Rattle.ae_trim.specs.Trimmed.{IsTrimmed}
 use Rattle.ae_trim.specs.Inner.Marks.{AreNumbered}
 use Rattle.ae_trim.proofs.Keeping.{used_within, hint_numbered}
 use Rattle.ae_trim.proofs.Deriving.{trimmed_of, trimmed_used, trimmed_earlier, trimmed_derives}

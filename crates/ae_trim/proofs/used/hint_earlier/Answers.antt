@@ -1,4 +1,4 @@
-use Rattle.std.proofs.Common.{arith, refl, sym, subst, ◌∙◌, inl, inr, ◌<◌, ℕ}
+use Rattle.std.proofs.Common.{arith, refl, sym, subst, ◌∙◌, inl, inr, ◌<◌}
 use Rattle.std.specs.List.{Contains}
 use Rattle.std.proofs.lemmas.Bool.{cases_eq}
 use Rattle.ae_base.proofs.Tests.{false_true}

@@ -1,4 +1,4 @@
-use Rattle.std.proofs.Common.{◌≡◌, ◌+◌, ◌-◌, arith, refl, sym, subst, length}
+use Rattle.std.proofs.Common.{◌≡◌, ◌+◌, ◌-◌, arith, refl, subst, length}
 use Rattle.ae_trim.specs.Inner.Marks.{IsSearched}
 use Rattle.ae_trim.proofs.Marking.{searched_first, searched_next, searched_all}
 use Rattle.ae_trim.proofs.used.used_marks.Goals as goal

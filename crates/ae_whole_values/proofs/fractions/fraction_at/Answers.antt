@@ -1,4 +1,4 @@
-use Rattle.std.specs.Prelude.{◌≡◌, Some, None, option_copied}
+use Rattle.std.specs.Prelude.{◌≡◌, Some, option_copied}
 use Rattle.std.proofs.Common.{sym, ap, ◌∙◌, subst}
 use Rattle.ae_base.proofs.Tests.{false_true}
 use Rattle.ae_linear.specs.Rows.{row_at}
